@@ -1,0 +1,5 @@
+pub mod Features
+pub mod Label
+pub mod Kebab
+pub mod Kinds
+pub mod Refusal
