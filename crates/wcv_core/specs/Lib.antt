@@ -1,3 +1,4 @@
+pub mod Dashes
 pub mod Features
 pub mod Label
 pub mod Kebab

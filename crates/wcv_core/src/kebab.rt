@@ -1,23 +1,59 @@
 // Labels.
-ghost use Rattle.std.specs.Prelude.{◌≡◌, ◌↔◌, IfOk, IfSome, IsSome, true};
+ghost use Rattle.std.specs.Prelude.{◌≡◌, ◌↔◌, IfOk, IfSome, IsSome, IsNone, length, true};
 ghost use Rattle.std.specs.List.{list_all};
+ghost use Rattle.wcv_core.specs.Dashes.{IsPlain, IsFirstDash};
 ghost use Rattle.wcv_core.specs.Label.{is_label as is_label_text, words, is_word as is_word_text, is_lower_or_digit, is_upper_or_digit, begins_with_letter};
 
 use crate::memory::OutOfMemory;
 use crate::text::Text;
 use std::alloc::Global;
 
+/// Whether the byte is a lower-case letter or a digit.
+fn is_lower_byte(b: u8) -> bool
+    ensures { result ≡ is_lower_or_digit b }
+{
+    b.is_ascii_lowercase() || b.is_ascii_digit()
+}
+
+/// Whether the byte is an upper-case letter or a digit.
+fn is_upper_byte(b: u8) -> bool
+    ensures { result ≡ is_upper_or_digit b }
+{
+    b.is_ascii_uppercase() || b.is_ascii_digit()
+}
+
+/// Whether all are lower-case letters or digits.
+fn are_lower(bytes: &[u8]) -> bool
+    ensures { result ≡ list_all is_lower_or_digit bytes.now }
+{
+    bytes.iter().all(|b| is_lower_byte(*b))
+}
+
+/// Whether all are upper-case letters or digits.
+fn are_upper(bytes: &[u8]) -> bool
+    ensures { result ≡ list_all is_upper_or_digit bytes.now }
+{
+    bytes.iter().all(|b| is_upper_byte(*b))
+}
+
 /// Whether the bytes are one word of a label: letters of one case, and digits.
 fn is_word(bytes: &[u8]) -> bool
     ensures { result ≡ is_word_text bytes.now }
 {
-    !bytes.is_empty()
-        && (bytes
-            .iter()
-            .all(|b| b.is_ascii_lowercase() || b.is_ascii_digit())
-            || bytes
-                .iter()
-                .all(|b| b.is_ascii_uppercase() || b.is_ascii_digit()))
+    !bytes.is_empty() && (are_lower(bytes) || are_upper(bytes))
+}
+
+/// The place of the first dash.
+fn dash_at(bytes: &[u8]) -> Option<usize>
+    ensures found { IfSome result (λ i. IsFirstDash bytes.now i) }
+    ensures none { IsNone result → IsPlain bytes.now (length bytes.now) }
+{
+    for (i, b) in bytes.iter().enumerate() {
+        if *b == b'-' {
+            return Some(i);
+        }
+    }
+    None
 }
 
 /// Whether each part between dashes is a word.
@@ -25,13 +61,11 @@ fn are_words(bytes: &[u8]) -> bool
     ensures { result ≡ list_all is_word_text (words bytes.now) }
 {
     let mut start = 0;
-    for i in 0..bytes.len() {
-        if bytes[i] == b'-' {
-            if !is_word(&bytes[start..i]) {
-                return false;
-            }
-            start = i + 1;
+    while let Some(width) = dash_at(&bytes[start..]) {
+        if !is_word(&bytes[start..start + width]) {
+            return false;
         }
+        start += width + 1;
     }
     is_word(&bytes[start..])
 }
