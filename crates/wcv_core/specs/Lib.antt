@@ -4,3 +4,4 @@ pub mod Label
 pub mod Kebab
 pub mod Kinds
 pub mod Refusal
+pub mod Names

@@ -1,0 +1,169 @@
+-- Type trees of components. R is the type of resources, I that of identities and stamps.
+use Rattle.std.specs.Prelude.{ℕ, List, [], ◌∷◌, Bool}
+use Rattle.wcv_core.specs.declared.primitive.PrimitiveValType.{PrimitiveValType}
+
+abbrev pub Text : Type 0
+Text = List ℕ
+
+-- how a defined value type is formed from its parts
+pub data Former : Type 0 where
+  -- a primitive under a name
+  named : PrimitiveValType → Former
+  record_of variant_of list_of map_of tuple_of option_of result_of own_of borrow_of future_of stream_of : Former
+  -- its length
+  fixed_list_of : ℕ → Former
+  -- their names
+  flags_of enum_of : List Text → Former
+
+-- what a node is, without its parts
+pub data Head (R I : Type 0) : Type 0 where
+  -- stands where a payload, a result, or the type of a case is left out
+  nothing : Head R I
+  primitive : PrimitiveValType → Head R I
+  -- a resource reference: a resource and a stamp
+  resource : R → I → Head R I
+  defined : I → Former → Head R I
+  -- whether it is async
+  func : I → Bool → Head R I
+  -- its own resources
+  instance : I → List R → Head R I
+  -- its imported and its defined resources, each with its path
+  component : I → List (R × List ℕ) → List (R × List ℕ) → Head R I
+  -- a type entity: its parts are the created and the referenced node
+  type_entity : Head R I
+
+-- what a part is to its node
+pub data Role : Type 0 where
+  -- known by its place among the parts
+  here : Role
+  -- a field, a case or a parameter
+  label : Text → Role
+  import export : Text → Role
+
+mutual
+  pub data Tree (R I : Type 0) : Type 0 where
+    node : Head R I → Parts R I → Tree R I
+
+  pub data Parts (R I : Type 0) : Type 0 where
+    none : Parts R I
+    part : Role → Tree R I → Parts R I → Parts R I
+
+-- ## Trees by sort
+
+abbrev pub primitive_type : {R I : Type 0} → PrimitiveValType → Tree R I
+primitive_type p = node (primitive p) none
+
+abbrev pub resource_type : {R I : Type 0} → R → I → Tree R I
+resource_type r s = node (resource r s) none
+
+-- a handle that owns what the reference stands for
+abbrev pub own_type : {R I : Type 0} → I → Tree R I → Tree R I
+own_type i reference = node (defined i own_of) (part here reference none)
+
+abbrev pub type_of : {R I : Type 0} → Tree R I → Tree R I → Tree R I
+type_of created referenced = node type_entity (part here created (part here referenced none))
+
+-- parts under labels, before others
+abbrev pub fields : {R I : Type 0} → List (Text × Tree R I) → Parts R I → Parts R I
+fields [] rest = rest
+fields (f ∷ fs) rest = part (label f.0) f.1 (fields fs rest)
+
+abbrev pub func_type : {R I : Type 0} → I → Bool → List (Text × Tree R I) → Tree R I → Tree R I
+func_type i async params result = node (func i async) (fields params (part here result none))
+
+-- imports or exports, before other parts
+abbrev pub entries : {R I : Type 0} → (Text → Role) → List (Text × Tree R I) → Parts R I → Parts R I
+entries role [] rest = rest
+entries role (e ∷ es) rest = part (role e.0) e.1 (entries role es rest)
+
+abbrev pub instance_type : {R I : Type 0} → I → List R → List (Text × Tree R I) → Tree R I
+instance_type i owned es = node (instance i owned) (entries export es none)
+
+abbrev pub component_type : {R I : Type 0} → I → List (R × List ℕ) → List (R × List ℕ) → List (Text × Tree R I) → List (Text × Tree R I) → Tree R I
+component_type i imported made ins outs = node (component i imported made) (entries import ins (entries export outs none))
+
+-- ## Views
+
+pub data Sort : Type 0 where
+  is_nothing is_value is_resource is_func is_instance is_component is_type : Sort
+
+abbrev pub head : {R I : Type 0} → Tree R I → Head R I
+head (node h ps) = h
+
+abbrev pub parts : {R I : Type 0} → Tree R I → Parts R I
+parts (node h ps) = ps
+
+abbrev pub sort_at : {R I : Type 0} → Head R I → Sort
+sort_at nothing = is_nothing
+sort_at (primitive p) = is_value
+sort_at (resource r s) = is_resource
+sort_at (defined i k) = is_value
+sort_at (func i b) = is_func
+sort_at (instance i owned) = is_instance
+sort_at (component i ins outs) = is_component
+sort_at type_entity = is_type
+
+abbrev pub sort : {R I : Type 0} → Tree R I → Sort
+sort t = sort_at (head t)
+
+abbrev pub exports_in : {R I : Type 0} → Parts R I → List (Text × Tree R I)
+exports_in none = []
+exports_in (part (export n) t ps) = (n, t) ∷ exports_in ps
+exports_in (part _ t ps) = exports_in ps
+
+abbrev pub imports_in : {R I : Type 0} → Parts R I → List (Text × Tree R I)
+imports_in none = []
+imports_in (part (import n) t ps) = (n, t) ∷ imports_in ps
+imports_in (part _ t ps) = imports_in ps
+
+-- the exports by name, in order
+abbrev pub exports : {R I : Type 0} → Tree R I → List (Text × Tree R I)
+exports t = exports_in (parts t)
+
+-- the imports by name, in order
+abbrev pub imports : {R I : Type 0} → Tree R I → List (Text × Tree R I)
+imports t = imports_in (parts t)
+
+abbrev pub first_part : {R I : Type 0} → Parts R I → Tree R I
+first_part none = node nothing none
+first_part (part r t ps) = t
+
+abbrev pub rest_parts : {R I : Type 0} → Parts R I → Parts R I
+rest_parts none = none
+rest_parts (part r t ps) = ps
+
+-- the node that a type entity creates
+abbrev pub created : {R I : Type 0} → Tree R I → Tree R I
+created t = first_part (parts t)
+
+-- the node that a type entity refers to
+abbrev pub referenced : {R I : Type 0} → Tree R I → Tree R I
+referenced t = first_part (rest_parts (parts t))
+
+abbrev pub owned_at : {R I : Type 0} → Head R I → List R
+owned_at (instance i rs) = rs
+owned_at _ = []
+
+-- the own resources of an instance type
+abbrev pub owned : {R I : Type 0} → Tree R I → List R
+owned t = owned_at (head t)
+
+abbrev pub firsts : {R : Type 0} → List (R × List ℕ) → List R
+firsts [] = []
+firsts (p ∷ ps) = p.0 ∷ firsts ps
+
+abbrev pub imported_at : {R I : Type 0} → Head R I → List R
+imported_at (component i ins outs) = firsts ins
+imported_at _ = []
+
+-- the resources that a component type imports
+abbrev pub imported : {R I : Type 0} → Tree R I → List R
+imported t = imported_at (head t)
+
+abbrev pub made_at : {R I : Type 0} → Head R I → List R
+made_at (component i ins outs) = firsts outs
+made_at _ = []
+
+-- the resources that a component type defines
+abbrev pub defined_by : {R I : Type 0} → Tree R I → List R
+defined_by t = made_at (head t)
