@@ -4,4 +4,6 @@ pub mod Growth
 pub mod Causes
 pub mod Keys
 pub mod Promises
+pub mod Reading
+pub mod State
 pub mod Valid
