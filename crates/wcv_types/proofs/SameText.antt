@@ -5,31 +5,14 @@ use Rattle.std.specs.Option.{option_map}
 use Rattle.std.specs.Fmt.{decimal}
 use Rattle.std.proofs.lemmas.List.Elements.{All-head, All-tail}
 use Rattle.wcv_core.specs.Names.{Name, same}
-use Rattle.wcv_core.proofs.Names.{same-true, same-refl}
 use Rattle.wcv_types.specs.Tree.{Text, Head, nothing, primitive, resource, defined, func, instance, component, type_entity, Former, named, record_of, variant_of, list_of, map_of, tuple_of, option_of, result_of, own_of, borrow_of, future_of, stream_of, fixed_list_of, flags_of, enum_of, here, label, import, export, Tree, node, Parts, none, part, head, rest_parts, created, referenced}
 use Rattle.wcv_types.specs.Rename.{rename, rename_head, rename_parts, rename_paths, HeadNames, EachName, EachNameIn, UpToRenaming}
-use Rattle.wcv_types.specs.Identity.{Identity, of_node, of_reference, identity_at, same_identity}
+use Rattle.wcv_types.specs.Identity.{Identity, of_node, of_reference, identity_at, same_identity, rename_identity}
 use Rattle.wcv_types.specs.Positions.{is_there}
 use Rattle.wcv_types.specs.Quoting.{quoted}
 use Rattle.wcv_types.specs.Text.{Written, nothing_written, node_number, resource_number, mention_head, mention, entity_text, entry_text, positions_text, path_text, listed, param_text, params_text, payload_text, case_texts, mentions, own_texts, entry_texts, path_texts, first_text, second_text, func_text, defined_text, instance_text, component_text, form_text, with_resource, with_each, with_paths, with_resources, with_line, line_if, has_line, write, write_parts, entry_line, write_entries, path_line, write_paths, write_component, type_text}
+use Rattle.wcv_types.proofs.Identity.{same_under, IdentityKept, KnownKept, same_kept, kept_identity, identity-same}
 use Rattle.wcv_types.proofs.Each.{Each, push_each, map-push, length-mapped, position_under, there_under}
-
-pub same_under : (h back : Name → Name) (a b : Name) → back (h a) ≡ a → back (h b) ≡ b → same (h a) (h b) ≡ same a b
-same_under h back a b p q = go (same a b) refl
-  where
-    apart : (c : Bool) → same a b ≡ false → same (h a) (h b) ≡ c → c ≡ false
-    apart false e e' = refl
-    apart true e e' =
-        let x : h a ≡ h b = same-true (h a) (h b) e' in
-        let y : a ≡ b = sym p ∙ ap back x ∙ q in
-        let z : same a b ≡ true = ap (λ (c : Name). same a c) (sym y) ∙ same-refl a in
-        cc
-
-    go : (c : Bool) → same a b ≡ c → same (h a) (h b) ≡ same a b
-    go true e =
-        let y : a ≡ b = same-true a b e in
-        ap (λ (c : Name). same (h a) (h c)) (sym y) ∙ same-refl (h a) ∙ sym e
-    go false e = apart (same (h a) (h b)) e refl ∙ sym e
 
 -- f renames resources, g identities; both have a way back on the names that occur
 module _ (f back : Name → Name) (g g_back : Name → Name) where
@@ -49,12 +32,10 @@ module _ (f back : Name → Name) (g g_back : Name → Name) where
   HasHead h = HeadNames R I h
 
   abbrev Kept : Identity → Type 0
-  Kept (of_node i) = I i
-  Kept (of_reference r s) = R r × I s
+  Kept i = IdentityKept f back g g_back i
 
   abbrev to : Identity → Identity
-  to (of_node i) = of_node (g i)
-  to (of_reference r s) = of_reference (f r) (g s)
+  to i = rename_identity f g i
 
   abbrev W : Written → Written
   W w = record { nodes = map to w.nodes; resources = map f w.resources; text = w.text }
@@ -63,17 +44,10 @@ module _ (f back : Name → Name) (g g_back : Name → Name) where
     pub nodes : Each Kept w.nodes
     pub resources : Each R w.resources
 
-  same_kept : (a b : Identity) → Kept a → Kept b → same_identity (to a) (to b) ≡ same_identity a b
-  same_kept (of_node i) (of_node j) p q = same_under g g_back i j p q
-  same_kept (of_reference r s) (of_reference r' s') p q =
-      ap (λ (b : Bool). b && same (g s) (g s')) (same_under f back r r' p.0 q.0) ∙ ap (λ (b : Bool). same r r' && b) (same_under g g_back s s' p.1 q.1)
-  same_kept (of_node i) (of_reference r s) p q = refl
-  same_kept (of_reference r s) (of_node i) p q = refl
-
   -- ## Mentions and entities
 
   node_number-same : (w : Written) (i : Identity) → Whole w → Kept i → node_number (W w) (to i) ≡ node_number w i
-  node_number-same w i k e = ap decimal (position_under same_identity Kept to same_kept i e w.nodes k.nodes)
+  node_number-same w i k e = ap decimal (position_under same_identity Kept to (same_kept f back g g_back) i e w.nodes k.nodes)
 
   resource_number-same : (w : Written) (r : Name) → Whole w → R r → resource_number (W w) (f r) ≡ resource_number w r
   resource_number-same w r k e = ap (λ (n : ℕ). codes "r" ++ decimal n) (position_under same R f (same_under f back) r e w.resources k.resources)
@@ -321,32 +295,11 @@ module _ (f back : Name → Name) (g g_back : Name → Name) where
   -- ## Lines
 
   abbrev KeptIf : Option Identity → Type 0
-  KeptIf None = Unit {0}
-  KeptIf (Some i) = Kept i
-
-  kept_identity : (h : Head Name Name) → HasHead h → KeptIf (identity_at h)
-  kept_identity nothing e = tt
-  kept_identity (primitive p) e = tt
-  kept_identity (resource r s) e = e
-  kept_identity (defined i x) e = e
-  kept_identity (func i b) e = e
-  kept_identity (instance i own) e = e.0
-  kept_identity (component i ins outs) e = e.0
-  kept_identity type_entity e = tt
-
-  identity-same : (h : Head Name Name) → identity_at (rename_head f g h) ≡ option_map to (identity_at h)
-  identity-same nothing = refl
-  identity-same (primitive p) = refl
-  identity-same (resource r s) = refl
-  identity-same (defined i x) = refl
-  identity-same (func i b) = refl
-  identity-same (instance i own) = refl
-  identity-same (component i ins outs) = refl
-  identity-same type_entity = refl
+  KeptIf o = KnownKept f back g g_back o
 
   has_line-same : (w : Written) (o : Option Identity) → Whole w → KeptIf o → has_line (W w) (option_map to o) ≡ has_line w o
   has_line-same w None k e = refl
-  has_line-same w (Some i) k e = there_under same_identity Kept to same_kept i e w.nodes k.nodes
+  has_line-same w (Some i) k e = there_under same_identity Kept to (same_kept f back g g_back) i e w.nodes k.nodes
 
   line-same : (w : Written) (o : Option Identity) (h : Head Name Name) (ps : Parts Name Name) → Whole w → HasHead h → HasIn ps →
       line_if (W w) (option_map to o) (rename_head f g h) (rename_parts f g ps) ≡ W (line_if w o h ps)
@@ -380,10 +333,10 @@ module _ (f back : Name → Name) (g g_back : Name → Name) where
       Whole (cond (has_line w (identity_at h)) w (line_if v (identity_at h) h ps))
   node-same w u v h ps k eh e eu kv =
       let o : Option Identity = identity_at h in
-      let ko : KeptIf o = kept_identity h eh in
-      let known : has_line (W w) (identity_at (rename_head f g h)) ≡ has_line w o = ap (has_line (W w)) (identity-same h) ∙ has_line-same w o k ko in
+      let ko : KeptIf o = kept_identity f back g g_back h eh in
+      let known : has_line (W w) (identity_at (rename_head f g h)) ≡ has_line w o = ap (has_line (W w)) (identity-same f g h) ∙ has_line-same w o k ko in
       let line : line_if u (identity_at (rename_head f g h)) (rename_head f g h) (rename_parts f g ps) ≡ W (line_if v o h ps) =
-      (λ j. line_if (eu j) (identity-same h j) (rename_head f g h) (rename_parts f g ps)) ∙ line-same v o h ps kv eh e in (
+      (λ j. line_if (eu j) (identity-same f g h j) (rename_head f g h) (rename_parts f g ps)) ∙ line-same v o h ps kv eh e in (
         (λ j. cond (known j) (W w) (line j)) ∙ pull (has_line w o) w (line_if v o h ps),
         whole_either (has_line w o) w (line_if v o h ps) k (line-whole v o h ps kv eh ko),
       )

@@ -27,3 +27,8 @@ same_identity _ _ = false
 abbrev pub same_known : Option Identity → Option Identity → Bool
 same_known (Some i) (Some j) = same_identity i j
 same_known _ _ = false
+
+-- f renames resources, g identities and stamps
+abbrev pub rename_identity : (Name → Name) → (Name → Name) → Identity → Identity
+rename_identity f g (of_node i) = of_node (g i)
+rename_identity f g (of_reference r s) = of_reference (f r) (g s)

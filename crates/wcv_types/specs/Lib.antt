@@ -1,6 +1,12 @@
 pub mod Tree
 pub mod Identity
 pub mod Positions
+pub mod Measure
 pub mod Rename
+pub mod Resources
+pub mod Seen
+pub mod Replacing
+pub mod Paths
+pub mod Named
 pub mod Quoting
 pub mod Text

@@ -1,0 +1,50 @@
+-- The free resources of a tree, and replacing them.
+use Rattle.std.specs.Prelude.{Bool, false, ◌||◌, cond, ◌≡◌, ◌⊎◌}
+use Rattle.wcv_core.specs.Names.{Name, member}
+use Rattle.wcv_types.specs.Tree.{Head, resource, instance, component, Tree, node, Parts, none, part, firsts}
+
+-- whether a node owns the resource
+abbrev pub owns : {I : Type 0} → Head Name I → Name → Bool
+owns (instance i own) r = member r own
+owns (component i ins outs) r = member r (firsts ins) || member r (firsts outs)
+owns _ r = false
+
+-- the node itself is a reference to the resource
+abbrev pub RefersTo : {I : Type 0} → Name → Head Name I → Type 0
+RefersTo r (resource q s) = r ≡ q
+RefersTo r _ = ⊥
+
+-- the tree mentions the resource, and no node around that mention owns it
+abbrev mutual
+  pub Free : {I : Type 0} → Name → Tree Name I → Type 0
+  Free r (node h ps) = RefersTo r h ⊎ ((owns h r ≡ false) × FreeIn r ps)
+
+  pub FreeIn : {I : Type 0} → Name → Parts Name I → Type 0
+  FreeIn r none = ⊥
+  FreeIn r (part k t ps) = Free r t ⊎ FreeIn r ps
+
+-- u, but for the resources that the node owns
+abbrev pub spare : {I : Type 0} → Head Name I → (Name → Name) → Name → Name
+spare h u r = cond (owns h r) r (u r)
+
+abbrev pub substitute_head : {I : Type 0} → (Name → Name) → Head Name I → Head Name I
+substitute_head u (resource r s) = resource (u r) s
+substitute_head u h = h
+
+-- each free resource r becomes u r; identities and stamps stay
+abbrev mutual
+  pub substitute : {I : Type 0} → (Name → Name) → Tree Name I → Tree Name I
+  substitute u (node h ps) = node (substitute_head u h) (substitute_parts (spare h u) ps)
+
+  pub substitute_parts : {I : Type 0} → (Name → Name) → Parts Name I → Parts Name I
+  substitute_parts u none = none
+  substitute_parts u (part k t ps) = part k (substitute u t) (substitute_parts u ps)
+
+-- no resource that comes in is owned inside the tree where it is put
+abbrev mutual
+  pub Admits : {I : Type 0} → (Name → Name) → Tree Name I → Type 0
+  Admits u (node h ps) = ((r : Name) → FreeIn r ps → owns h r ≡ false → owns h (u r) ≡ false) × AdmitsIn (spare h u) ps
+
+  pub AdmitsIn : {I : Type 0} → (Name → Name) → Parts Name I → Type 0
+  AdmitsIn u none = Unit {0}
+  AdmitsIn u (part k t ps) = Admits u t × AdmitsIn u ps
