@@ -1,7 +1,14 @@
 pub mod Each
+pub mod All
 pub mod Lists
 pub mod Parts
 pub mod Replace
 pub mod Renaming
+pub mod UpToRenaming
 pub mod Identity
+pub mod Occurring
+pub mod Commute
+pub mod Measure
+pub mod Replacing
+pub mod Seen
 pub mod SameText

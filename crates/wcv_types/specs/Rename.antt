@@ -24,9 +24,12 @@ abbrev mutual
   rename_parts f g none = none
   rename_parts f g (part r t ps) = part r (rename f g t) (rename_parts f g ps)
 
+abbrev pub no_identity : {I : Type 0} → I → Unit {0}
+no_identity i = tt
+
 -- identities and stamps put aside
 abbrev pub without_identities : {R I : Type 0} → Tree R I → Tree R (Unit {0})
-without_identities t = rename (λ r. r) (λ i. tt) t
+without_identities t = rename (λ r. r) no_identity t
 
 -- P holds of each resource that the node names, and Q of its identity or stamp
 abbrev pub HeadNames : {R I : Type 0} → (R → Type 0) → (I → Type 0) → Head R I → Type 0

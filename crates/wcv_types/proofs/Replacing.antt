@@ -1,0 +1,138 @@
+-- With identities aside, a rebuilding that replaces resources alone is a replacing of free resources; and what does not change stays.
+use Rattle.std.proofs.Common.{◌≡◌, ℕ, Bool, true, false, cond, not, ◌||◌, refl, ap, sym, ◌∙◌, arith}
+use Rattle.std.proofs.Math.Path.{fun_ext}
+use Rattle.std.specs.Prelude.{Option, Some, None}
+use Rattle.wcv_core.specs.Names.{Name, same}
+use Rattle.wcv_core.proofs.Names.{same-true}
+use Rattle.wcv_types.specs.Tree.{Head, nothing, primitive, resource, defined, func, instance, component, type_entity, Tree, node, Parts, none, part, head}
+use Rattle.wcv_types.specs.Identity.{Identity, identity_at, same_known}
+use Rattle.wcv_types.specs.Rename.{rename_head, rename, rename_parts, no_identity, without_identities}
+use Rattle.wcv_types.specs.Resources.{owns, spare, substitute_head, substitute, substitute_parts}
+use Rattle.wcv_types.specs.Replacing.{Replacement, given_at, given_or, or_same, new_resource, moved, moves, given_elsewhere, changed, changed_in, again_head, new_head, replaced, replaced_in, SparesOwn, SparesOwnIn}
+use Rattle.wcv_types.specs.Measure.{size, depth, height}
+use Rattle.wcv_types.proofs.Measure.{size-rename, size-substitute, depth-rename, depth-substitute, height-rename, height-substitute}
+
+abbrev pub aside : {I : Type 0} → Parts Name I → Parts Name (Unit {0})
+aside ps = rename_parts (λ r. r) no_identity ps
+
+abbrev pub aside_head : {I : Type 0} → Head Name I → Head Name (Unit {0})
+aside_head h = rename_head (λ r. r) no_identity h
+
+head-new : (m : Replacement) (b : Bool) (h : Head Name Name) → aside_head (new_head m b h) ≡ aside_head (substitute_head (new_resource m) h)
+head-new m b (resource r s) = refl
+head-new m b nothing = refl
+head-new m b (primitive q) = refl
+head-new m b type_entity = refl
+head-new m true (defined i k) = refl
+head-new m true (func i k) = refl
+head-new m true (instance i own) = refl
+head-new m true (component i ins outs) = refl
+head-new m false (defined i k) = refl
+head-new m false (func i k) = refl
+head-new m false (instance i own) = refl
+head-new m false (component i ins outs) = refl
+
+pub none-given : (m : Replacement) → ((i : Identity) → m.nodes i ≡ None) → (h : Head Name Name) → given_at m h ≡ None
+none-given m n h = go (identity_at h)
+  where
+    go : (o : Option Identity) → (elim o as (λ x. Option (Tree Name Name)) [ None ↦ None | Some i ↦ m.nodes i ]) ≡ None
+    go None = refl
+    go (Some i) = n i
+
+-- where no owned resource is replaced, to spare them changes nothing
+spare-same : (m : Replacement) (h : Head Name Name) → ((r : Name) → owns h r ≡ true → m.resources r ≡ None) → spare h (new_resource m) ≡ new_resource m
+spare-same m h s = fun_ext (λ r. go r (owns h r) refl)
+  where
+    go : (r : Name) (b : Bool) → owns h r ≡ b → cond (owns h r) r (new_resource m r) ≡ new_resource m r
+    go r true e = let f : new_resource m r ≡ r = ap (or_same r) (s r e) in rw e (sym f)
+    go r false e = rw e refl
+
+module _ (m : Replacement) (n : (i : Identity) → m.nodes i ≡ None) where
+  mutual
+    pub replaced-aside : (t : Tree Name Name) → SparesOwn m t → without_identities (replaced m t) ≡ without_identities (substitute (new_resource m) t)
+    replaced-aside (node h ps) s =
+        let b : Bool = moves m h || changed_in m ps in
+        let whole : replaced m (node h ps) ≡ node (new_head m b h) (replaced_in m ps) =
+        ap (λ (o : Option (Tree Name Name)). given_or o (node (new_head m b h) (replaced_in m ps))) (none-given m n h) in
+        let e : aside_head (new_head m b h) ≡ aside_head (substitute_head (new_resource m) h) = head-new m b h in
+        let e' : aside (replaced_in m ps) ≡ aside (substitute_parts (spare h (new_resource m)) ps) =
+        replaced_in-aside ps s.1 ∙ ap (λ (v : Name → Name). aside (substitute_parts v ps)) (sym (spare-same m h s.0)) in
+        ap without_identities whole ∙ (λ j. node (e j) (e' j))
+
+    pub replaced_in-aside : (ps : Parts Name Name) → SparesOwnIn m ps → aside (replaced_in m ps) ≡ aside (substitute_parts (new_resource m) ps)
+    replaced_in-aside none s = refl
+    replaced_in-aside (part k t ps) s =
+        let e : without_identities (replaced m t) ≡ without_identities (substitute (new_resource m) t) = replaced-aside t s.0 in
+        let e' : aside (replaced_in m ps) ≡ aside (substitute_parts (new_resource m) ps) = replaced_in-aside ps s.1 in
+        λ j. part k (e j) (e' j)
+
+  -- sizes, depths and heights stay
+  pub size-replaced : (t : Tree Name Name) → SparesOwn m t → size (replaced m t) ≡ size t
+  size-replaced t s = sym (size-rename (λ r. r) no_identity (replaced m t)) ∙ ap size (replaced-aside t s) ∙ size-rename (λ r. r) no_identity (substitute (new_resource m) t) ∙ size-substitute (new_resource m) t
+
+  pub depth-replaced : (t : Tree Name Name) → SparesOwn m t → depth (replaced m t) ≡ depth t
+  depth-replaced t s = sym (depth-rename (λ r. r) no_identity (replaced m t)) ∙ ap depth (replaced-aside t s) ∙ depth-rename (λ r. r) no_identity (substitute (new_resource m) t) ∙ depth-substitute (new_resource m) t
+
+  pub height-replaced : (t : Tree Name Name) → SparesOwn m t → height (replaced m t) ≡ height t
+  height-replaced t s =
+      sym (height-rename (λ r. r) no_identity (replaced m t)) ∙ ap height (replaced-aside t s) ∙ height-rename (λ r. r) no_identity (substitute (new_resource m) t) ∙ height-substitute (new_resource m) t
+
+-- ## What does not change stays
+
+-- a given node of the same identity as the node in whose place it stands is that node
+abbrev mutual
+  pub GivesSame : Replacement → Tree Name Name → Type 0
+  GivesSame m (node h ps) = ((u : Tree Name Name) → given_at m h ≡ Some u → same_known (identity_at h) (identity_at (head u)) ≡ true → u ≡ node h ps) × GivesSameIn m ps
+
+  pub GivesSameIn : Replacement → Parts Name Name → Type 0
+  GivesSameIn m none = Unit {0}
+  GivesSameIn m (part k t ps) = GivesSame m t × GivesSameIn m ps
+
+or_left : (a b : Bool) → (a || b) ≡ false → a ≡ false
+or_left a b h = grind arith
+
+or_right : (a b : Bool) → (a || b) ≡ false → b ≡ false
+or_right a b h = grind arith
+
+not_false : (a : Bool) → not a ≡ false → a ≡ true
+not_false a h = grind arith
+
+unmoved : (r : Name) (o : Option Name) → moved r o ≡ false → or_same r o ≡ r
+unmoved r None e = refl
+unmoved r (Some q) e = sym (same-true r q (not_false (same r q) e))
+
+head-stays : (m : Replacement) (h : Head Name Name) → moves m h ≡ false → new_head m false h ≡ h
+head-stays m (resource r s) e = ap (λ (q : Name). resource q s) (unmoved r (m.resources r) e)
+head-stays m nothing e = refl
+head-stays m (primitive q) e = refl
+head-stays m type_entity e = refl
+head-stays m (defined i k) e = refl
+head-stays m (func i k) e = refl
+head-stays m (instance i own) e = refl
+head-stays m (component i ins outs) e = refl
+
+node-stays : (m : Replacement) (h : Head Name Name) (ps : Parts Name Name) → ((u : Tree Name Name) → given_at m h ≡ Some u → same_known (identity_at h) (identity_at (head u)) ≡ true → u ≡ node h ps) →
+    (changed_in m ps ≡ false → replaced_in m ps ≡ ps) → changed m (node h ps) ≡ false → replaced m (node h ps) ≡ node h ps
+node-stays m h ps self below e = go (given_at m h) refl e
+  where
+    go : (o : Option (Tree Name Name)) → given_at m h ≡ o → given_elsewhere (given_at m h) h (moves m h || changed_in m ps) ≡ false → given_or (given_at m h) (node (new_head m (moves m h || changed_in m ps) h) (replaced_in m ps)) ≡ node h ps
+    go (Some u) g k =
+        let k' : given_elsewhere (Some u) h (moves m h || changed_in m ps) ≡ false = ap (λ (o : Option (Tree Name Name)). given_elsewhere o h (moves m h || changed_in m ps)) (sym g) ∙ k in
+        ap (λ (x : Option (Tree Name Name)). given_or x (node (new_head m (moves m h || changed_in m ps) h) (replaced_in m ps))) g ∙ self u g (not_false (same_known (identity_at h) (identity_at (head u))) k')
+    go None g k =
+        let k' : (moves m h || changed_in m ps) ≡ false = ap (λ (o : Option (Tree Name Name)). given_elsewhere o h (moves m h || changed_in m ps)) (sym g) ∙ k in
+        let e₁ : new_head m (moves m h || changed_in m ps) h ≡ h = ap (λ (c : Bool). new_head m c h) k' ∙ head-stays m h (or_left (moves m h) (changed_in m ps) k') in
+        let e₂ : replaced_in m ps ≡ ps = below (or_right (moves m h) (changed_in m ps) k') in
+        ap (λ (x : Option (Tree Name Name)). given_or x (node (new_head m (moves m h || changed_in m ps) h) (replaced_in m ps))) g ∙ (λ j. node (e₁ j) (e₂ j))
+
+module _ (m : Replacement) where
+  mutual
+    pub unchanged-stays : (t : Tree Name Name) → GivesSame m t → changed m t ≡ false → replaced m t ≡ t
+    unchanged-stays (node h ps) s e = node-stays m h ps s.0 (λ k. unchanged_in-stays ps s.1 k) e
+
+    pub unchanged_in-stays : (ps : Parts Name Name) → GivesSameIn m ps → changed_in m ps ≡ false → replaced_in m ps ≡ ps
+    unchanged_in-stays none s e = refl
+    unchanged_in-stays (part k t ps) s e =
+        let e₁ : replaced m t ≡ t = unchanged-stays t s.0 (or_left (changed m t) (changed_in m ps) e) in
+        let e₂ : replaced_in m ps ≡ ps = unchanged_in-stays ps s.1 (or_right (changed m t) (changed_in m ps) e) in
+        λ j. part k (e₁ j) (e₂ j)
