@@ -12,3 +12,5 @@ pub mod Measure
 pub mod Replacing
 pub mod Seen
 pub mod SameText
+pub mod Named
+pub mod Examples

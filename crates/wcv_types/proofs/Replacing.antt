@@ -8,7 +8,7 @@ use Rattle.wcv_types.specs.Tree.{Head, nothing, primitive, resource, defined, fu
 use Rattle.wcv_types.specs.Identity.{Identity, identity_at, same_known}
 use Rattle.wcv_types.specs.Rename.{rename_head, rename, rename_parts, no_identity, without_identities}
 use Rattle.wcv_types.specs.Resources.{owns, spare, substitute_head, substitute, substitute_parts}
-use Rattle.wcv_types.specs.Replacing.{Replacement, given_at, given_or, or_same, new_resource, moved, moves, given_elsewhere, changed, changed_in, again_head, new_head, replaced, replaced_in, SparesOwn, SparesOwnIn}
+use Rattle.wcv_types.specs.Replacing.{Replacement, given_at, given_or, or_same, new_resource, moved, moves, given_elsewhere, changed, changed_in, again_head, new_head, replaced, replaced_in, SparesOwn, SparesOwnIn, GivesSame, GivesSameIn}
 use Rattle.wcv_types.specs.Measure.{size, depth, height}
 use Rattle.wcv_types.proofs.Measure.{size-rename, size-substitute, depth-rename, depth-substitute, height-rename, height-substitute}
 
@@ -78,15 +78,6 @@ module _ (m : Replacement) (n : (i : Identity) → m.nodes i ≡ None) where
       sym (height-rename (λ r. r) no_identity (replaced m t)) ∙ ap height (replaced-aside t s) ∙ height-rename (λ r. r) no_identity (substitute (new_resource m) t) ∙ height-substitute (new_resource m) t
 
 -- ## What does not change stays
-
--- a given node of the same identity as the node in whose place it stands is that node
-abbrev mutual
-  pub GivesSame : Replacement → Tree Name Name → Type 0
-  GivesSame m (node h ps) = ((u : Tree Name Name) → given_at m h ≡ Some u → same_known (identity_at h) (identity_at (head u)) ≡ true → u ≡ node h ps) × GivesSameIn m ps
-
-  pub GivesSameIn : Replacement → Parts Name Name → Type 0
-  GivesSameIn m none = Unit {0}
-  GivesSameIn m (part k t ps) = GivesSame m t × GivesSameIn m ps
 
 or_left : (a b : Bool) → (a || b) ≡ false → a ≡ false
 or_left a b h = grind arith

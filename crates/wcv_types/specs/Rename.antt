@@ -49,6 +49,10 @@ abbrev mutual
   EachNameIn P Q none = Unit {0}
   EachNameIn P Q (part r t ps) = EachName P Q t × EachNameIn P Q ps
 
+-- f has a way back on the resources that occur
+abbrev pub HasWayBack : {R S I : Type 0} → (R → S) → (S → R) → Tree R I → Type 0
+HasWayBack f back t = EachName (λ r. back (f r) ≡ r) (λ i. Unit {0}) t
+
 -- s and t are equal up to renaming
 pub record UpToRenaming {R S I J : Type 0} (s : Tree R I) (t : Tree S J) : Type 0 where
   pub resource_to : R → S

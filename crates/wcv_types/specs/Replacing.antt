@@ -88,3 +88,12 @@ abbrev mutual
   pub SparesOwnIn : Replacement → Parts Name Name → Type 0
   SparesOwnIn m none = Unit {0}
   SparesOwnIn m (part k t ps) = SparesOwn m t × SparesOwnIn m ps
+
+-- a given node of the same identity as the node in whose place it stands is that node
+abbrev mutual
+  pub GivesSame : Replacement → Tree Name Name → Type 0
+  GivesSame m (node h ps) = ((u : Tree Name Name) → given_at m h ≡ Some u → same_known (identity_at h) (identity_at (head u)) ≡ true → u ≡ node h ps) × GivesSameIn m ps
+
+  pub GivesSameIn : Replacement → Parts Name Name → Type 0
+  GivesSameIn m none = Unit {0}
+  GivesSameIn m (part k t ps) = GivesSame m t × GivesSameIn m ps

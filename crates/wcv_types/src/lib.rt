@@ -1,14 +1,96 @@
-//! Type trees of components, and the text of a type.
+//! Type trees of components, their laws, and the text of a type.
 #![tactic(auto)]
 
-ghost use Rattle.std.specs.Prelude.{◌≡◌};
+ghost use Rattle.std.specs.Prelude.{◌≡◌, true, false, None};
 ghost use Rattle.wcv_core.specs.Names.{Name};
-ghost use Rattle.wcv_types.specs.Rename.{UpToRenaming};
+ghost use Rattle.wcv_types.specs.Identity.{Identity};
+ghost use Rattle.wcv_types.specs.Measure.{size, depth};
+ghost use Rattle.wcv_types.specs.Rename.{rename, without_identities, HasWayBack, UpToRenaming};
+ghost use Rattle.wcv_types.specs.Replacing.{Replacement, new_resource, changed, replaced, SparesOwn, GivesSame};
+ghost use Rattle.wcv_types.specs.Resources.{Free, substitute, Admits};
+ghost use Rattle.wcv_types.specs.Seen.{Within, seen};
 ghost use Rattle.wcv_types.specs.Text.{type_text};
 ghost use Rattle.wcv_types.specs.Tree.{Tree};
 
-/// Component types that are equal up to renaming of resources and of identities have one text.
+/// Types that are equal up to renaming of resources and of identities have one text.
 #[tactic(auto, using(crate::proofs::SameText::same_text))]
 pub fn equal_types_have_one_text()
     ensures { (s t : Tree Name Name) → UpToRenaming s t → type_text s ≡ type_text t }
+{}
+
+/// Each type is equal to itself up to renaming.
+pub fn a_type_is_equal_to_itself()
+    ensures { (t : Tree Name Name) → UpToRenaming t t }
+{}
+
+/// Equality up to renaming goes both ways.
+pub fn equal_types_are_equal_both_ways()
+    ensures { (s t : Tree Name Name) → UpToRenaming s t → UpToRenaming t s }
+{}
+
+/// Types that are equal up to renaming to one type are so to each other.
+pub fn equality_goes_on()
+    ensures { (s t u : Tree Name Name) → UpToRenaming s t → UpToRenaming t u → UpToRenaming s u }
+{}
+
+/// To rename all names, and then to replace the renamed free resources, is to replace and then to rename, where the renaming has a way back.
+pub fn renaming_commutes_with_replacing()
+    ensures { (f back g u v : Name → Name) (t : Tree Name Name) → HasWayBack f back t → ((r : Name) → Free r t → v (f r) ≡ f (u r)) →
+        rename f g (substitute u t) ≡ substitute v (rename f g t) }
+{}
+
+/// The size of a type does not depend on its names.
+pub fn renaming_keeps_the_size()
+    ensures { (f g : Name → Name) (t : Tree Name Name) → size (rename f g t) ≡ size t }
+{}
+
+/// Nor does the depth.
+pub fn renaming_keeps_the_depth()
+    ensures { (f g : Name → Name) (t : Tree Name Name) → depth (rename f g t) ≡ depth t }
+{}
+
+/// Replacing of free resources keeps the size.
+pub fn replacing_keeps_the_size()
+    ensures { (u : Name → Name) (t : Tree Name Name) → size (substitute u t) ≡ size t }
+{}
+
+/// Replacing of free resources keeps the depth.
+pub fn replacing_keeps_the_depth()
+    ensures { (u : Name → Name) (t : Tree Name Name) → depth (substitute u t) ≡ depth t }
+{}
+
+/// To replace each free resource by itself changes nothing.
+pub fn replacing_by_itself_changes_nothing()
+    ensures { (u : Name → Name) (t : Tree Name Name) → ((r : Name) → Free r t → u r ≡ r) → substitute u t ≡ t }
+{}
+
+/// Of two replacings that agree on the free resources the results are the same.
+pub fn replacing_looks_at_free_resources()
+    ensures { (u v : Name → Name) (t : Tree Name Name) → ((r : Name) → Free r t → u r ≡ v r) → substitute u t ≡ substitute v t }
+{}
+
+/// Two replacings one after another are one, where the first brings in nothing that is owned inside.
+pub fn replacing_twice_is_replacing_once()
+    ensures { (u v w : Name → Name) (t : Tree Name Name) → Admits u t → ((r : Name) → Free r t → v (u r) ≡ w r) → substitute v (substitute u t) ≡ substitute w t }
+{}
+
+/// What is free after replacing is what a free resource became.
+pub fn what_is_free_after_replacing_was_free()
+    ensures { (u : Name → Name) (t : Tree Name Name) (q : Name) → Free q (substitute u t) → (r : Name) × Free r t × (u r ≡ q) }
+{}
+
+/// A rebuilding that replaces resources alone, none of them owned inside, is a replacing of free resources, identities aside.
+pub fn rebuilding_is_replacing()
+    ensures { (m : Replacement) (t : Tree Name Name) → ((i : Identity) → m.nodes i ≡ None) → SparesOwn m t →
+        without_identities (replaced m t) ≡ without_identities (substitute (new_resource m) t) }
+{}
+
+/// A rebuilding leaves a type as it is where nothing in it goes to another.
+pub fn unchanged_types_stay()
+    ensures { (m : Replacement) (t : Tree Name Name) → GivesSame m t → changed m t ≡ false → replaced m t ≡ t }
+{}
+
+/// What is seen of a type looks at no identity.
+pub fn what_is_seen_has_no_identities()
+    ensures { (f : Name → Within Name) (t : Tree Name Name) → seen f (without_identities t) ≡ seen f t }
 {}
