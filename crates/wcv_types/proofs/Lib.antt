@@ -13,4 +13,5 @@ pub mod Replacing
 pub mod Seen
 pub mod SameText
 pub mod Named
+pub mod FirstPath
 pub mod Examples

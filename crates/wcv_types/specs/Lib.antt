@@ -7,6 +7,7 @@ pub mod Resources
 pub mod Seen
 pub mod Replacing
 pub mod Paths
+pub mod FirstPath
 pub mod Named
 pub mod Quoting
 pub mod Text
