@@ -1,11 +1,11 @@
 -- Texts and measures of some types.
-use Rattle.std.proofs.Common.{◌≡◌, ℕ, List, [], ◌∷◌, ◌++◌, refl, Bool, true, false}
+use Rattle.std.proofs.Common.{◌≡◌, ℕ, [], ◌∷◌, ◌++◌, refl, true, false}
 use Rattle.std.specs.Prelude.{codes}
 use Rattle.std.specs.Fmt.{digits}
 use Rattle.wcv_core.specs.Names.{Name, number, stamp}
 use Rattle.wcv_core.specs.declared.primitive.PrimitiveValType.TheVariants as prim
-use Rattle.wcv_types.specs.Tree.{Text, Tree, node, none, part, here, label, nothing, resource, defined, named, record_of, variant_of, result_of, flags_of, fixed_list_of, borrow_of, fields, primitive_type, resource_type, own_type, type_of, func_type, instance_type, component_type}
-use Rattle.wcv_types.specs.Identity.{Identity, of_reference}
+use Rattle.wcv_types.specs.Tree.{Tree, node, none, part, here, nothing, defined, named, record_of, variant_of, result_of, flags_of, fixed_list_of, borrow_of, fields, primitive_type, resource_type, own_type, type_of, func_type, instance_type, component_type}
+use Rattle.wcv_types.specs.Identity.{of_reference}
 use Rattle.wcv_types.specs.Measure.{size, depth}
 use Rattle.wcv_types.specs.Named.{passes}
 use Rattle.wcv_types.specs.Quoting.{quoted}

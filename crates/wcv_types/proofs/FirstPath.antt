@@ -1,11 +1,11 @@
 -- The first path leads to its resource, and there is one where any path leads there.
-use Rattle.std.proofs.Common.{◌≡◌, ℕ, zero, suc, ◌+◌, List, [], ◌∷◌, map, refl, sym, ◌∙◌, ap, subst, Bool, true, false, cond, ◌||◌, Some, None, arith}
+use Rattle.std.proofs.Common.{◌≡◌, ℕ, zero, suc, ◌+◌, List, [], ◌∷◌, map, refl, sym, ◌∙◌, ap, subst, Bool, true, false, cond, Some, None, arith}
 use Rattle.std.specs.Prelude.{Option, slice_get}
 use Rattle.std.specs.Option.{option_map}
 use Rattle.std.proofs.lemmas.Bool.{false≢true}
-use Rattle.wcv_core.specs.Names.{Name, same, member}
+use Rattle.wcv_core.specs.Names.{Name, member}
 use Rattle.wcv_core.proofs.Names.{same-true, same-equal}
-use Rattle.wcv_types.specs.Tree.{Text, Head, nothing, primitive, resource, defined, func, instance, component, type_entity, here, label, import, export, Tree, node, Parts, none, part, head, parts, first_part, rest_parts, exports, exports_in}
+use Rattle.wcv_types.specs.Tree.{Text, Head, nothing, primitive, resource, defined, func, instance, component, type_entity, here, label, import, export, Tree, node, Parts, none, part, head, first_part, rest_parts, exports, exports_in}
 use Rattle.wcv_types.specs.Resources.{RefersTo}
 use Rattle.wcv_types.specs.Paths.{IsTypeOf, IsWayTo, Leads}
 use Rattle.wcv_types.specs.FirstPath.{or_else, refers, path_at, path_in, path_from, first_path}

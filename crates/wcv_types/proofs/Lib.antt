@@ -8,6 +8,7 @@ pub mod UpToRenaming
 pub mod Identity
 pub mod Occurring
 pub mod Commute
+pub mod FreeRenamed
 pub mod Measure
 pub mod Replacing
 pub mod Seen

@@ -1,6 +1,5 @@
 -- Size, depth and height are the same for trees of one shape, as renaming and replacing of resources leave it.
-use Rattle.std.proofs.Common.{◌≡◌, ℕ, suc, max, ◌+◌, Bool, true, false, refl, ap, ◌∙◌}
-use Rattle.std.specs.Prelude.{Option, None}
+use Rattle.std.proofs.Common.{◌≡◌, suc, max, ◌+◌, refl, ap}
 use Rattle.wcv_core.specs.Names.{Name}
 use Rattle.wcv_types.specs.Tree.{Head, nothing, primitive, resource, defined, func, instance, component, type_entity, Tree, node, Parts, none, part}
 use Rattle.wcv_types.specs.Measure.{weight, weigh, size, sizes, first_size, depth, depths, first_depth, height, heights}

@@ -1,9 +1,9 @@
 -- Whether types are named is the same under a renaming that has a way back.
-use Rattle.std.proofs.Common.{◌≡◌, List, map, refl, ap, ◌∙◌, Bool, ◌&&◌, Some, None}
+use Rattle.std.proofs.Common.{◌≡◌, List, map, refl, ap, ◌∙◌, ◌&&◌, Some, None}
 use Rattle.std.specs.Prelude.{Option}
 use Rattle.std.specs.Option.{option_map}
 use Rattle.wcv_core.specs.Names.{Name}
-use Rattle.wcv_types.specs.Tree.{Head, nothing, primitive, resource, defined, func, instance, component, type_entity, Tree, node, Parts, none, part}
+use Rattle.wcv_types.specs.Tree.{nothing, primitive, resource, defined, func, instance, component, type_entity, Tree, node, Parts, none, part}
 use Rattle.wcv_types.specs.Identity.{Identity, of_node, of_reference, identity_at, same_identity, rename_identity}
 use Rattle.wcv_types.specs.Rename.{rename, rename_parts, EachName, EachNameIn}
 use Rattle.wcv_types.specs.Named.{is_in, named_by_itself, is_named, are_named, with_identity, with_created, passes, all_pass, created_passes}

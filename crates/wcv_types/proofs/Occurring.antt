@@ -1,5 +1,5 @@
 -- What holds of the names that occur holds of a free resource.
-use Rattle.std.proofs.Common.{◌≡◌, sym, subst, inl, inr}
+use Rattle.std.proofs.Common.{sym, subst, inl, inr}
 use Rattle.wcv_core.specs.Names.{Name}
 use Rattle.wcv_types.specs.Tree.{Head, nothing, primitive, resource, defined, func, instance, component, type_entity, Tree, node, Parts, none, part}
 use Rattle.wcv_types.specs.Rename.{HeadNames, EachName, EachNameIn}

@@ -1,5 +1,5 @@
 -- Imports and exports are parts of a tree.
-use Rattle.std.proofs.Common.{◌≡◌, ℕ, List, Bool, true, false, cond, refl, subst, inl, inr, ⊎_elim}
+use Rattle.std.proofs.Common.{◌≡◌, List, Bool, true, false, cond, refl, inl, inr, ⊎_elim}
 use Rattle.std.specs.Prelude.{Contains, All}
 use Rattle.std.proofs.lemmas.List.Elements.{All-cons, All-nil, All-contains}
 use Rattle.wcv_core.specs.Names.{Name}

@@ -1,14 +1,14 @@
 -- With identities aside, a rebuilding that replaces resources alone is a replacing of free resources; and what does not change stays.
-use Rattle.std.proofs.Common.{◌≡◌, ℕ, Bool, true, false, cond, not, ◌||◌, refl, ap, sym, ◌∙◌, arith}
+use Rattle.std.proofs.Common.{◌≡◌, Bool, true, false, cond, not, ◌||◌, refl, ap, sym, ◌∙◌, arith}
 use Rattle.std.proofs.Math.Path.{fun_ext}
 use Rattle.std.specs.Prelude.{Option, Some, None}
 use Rattle.wcv_core.specs.Names.{Name, same}
 use Rattle.wcv_core.proofs.Names.{same-true}
 use Rattle.wcv_types.specs.Tree.{Head, nothing, primitive, resource, defined, func, instance, component, type_entity, Tree, node, Parts, none, part, head}
 use Rattle.wcv_types.specs.Identity.{Identity, identity_at, same_known}
-use Rattle.wcv_types.specs.Rename.{rename_head, rename, rename_parts, no_identity, without_identities}
+use Rattle.wcv_types.specs.Rename.{rename_head, rename_parts, no_identity, without_identities}
 use Rattle.wcv_types.specs.Resources.{owns, spare, substitute_head, substitute, substitute_parts}
-use Rattle.wcv_types.specs.Replacing.{Replacement, given_at, given_or, or_same, new_resource, moved, moves, given_elsewhere, changed, changed_in, again_head, new_head, replaced, replaced_in, SparesOwn, SparesOwnIn, GivesSame, GivesSameIn}
+use Rattle.wcv_types.specs.Replacing.{Replacement, given_at, given_or, or_same, new_resource, moved, moves, given_elsewhere, changed, changed_in, new_head, replaced, replaced_in, SparesOwn, SparesOwnIn, GivesSame, GivesSameIn}
 use Rattle.wcv_types.specs.Measure.{size, depth, height}
 use Rattle.wcv_types.proofs.Measure.{size-rename, size-substitute, depth-rename, depth-substitute, height-rename, height-substitute}
 

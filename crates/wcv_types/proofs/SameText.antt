@@ -1,16 +1,16 @@
 -- The text is the same for types that are equal up to renaming.
-use Rattle.std.proofs.Common.{◌≡◌, ℕ, List, [], ◌∷◌, ◌++◌, length, map, refl, sym, ◌∙◌, ap, Bool, true, false, cond, Some, None, ◌&&◌}
+use Rattle.std.proofs.Common.{◌≡◌, ℕ, List, [], ◌∷◌, ◌++◌, length, map, refl, sym, ◌∙◌, ap, Bool, true, false, cond, Some, None}
 use Rattle.std.specs.Prelude.{Option, codes, All}
 use Rattle.std.specs.Option.{option_map}
 use Rattle.std.specs.Fmt.{decimal}
 use Rattle.std.proofs.lemmas.List.Elements.{All-head, All-tail}
 use Rattle.wcv_core.specs.Names.{Name, same}
-use Rattle.wcv_types.specs.Tree.{Text, Head, nothing, primitive, resource, defined, func, instance, component, type_entity, Former, named, record_of, variant_of, list_of, map_of, tuple_of, option_of, result_of, own_of, borrow_of, future_of, stream_of, fixed_list_of, flags_of, enum_of, here, label, import, export, Tree, node, Parts, none, part, head, rest_parts, created, referenced}
+use Rattle.wcv_types.specs.Tree.{Text, Head, nothing, primitive, resource, defined, func, instance, component, type_entity, Former, named, record_of, variant_of, list_of, map_of, tuple_of, option_of, result_of, own_of, borrow_of, future_of, stream_of, fixed_list_of, flags_of, enum_of, here, label, import, export, Tree, node, Parts, none, part, head, created, referenced}
 use Rattle.wcv_types.specs.Rename.{rename, rename_head, rename_parts, rename_paths, HeadNames, EachName, EachNameIn, UpToRenaming}
 use Rattle.wcv_types.specs.Identity.{Identity, of_node, of_reference, identity_at, same_identity, rename_identity}
 use Rattle.wcv_types.specs.Positions.{is_there}
 use Rattle.wcv_types.specs.Quoting.{quoted}
-use Rattle.wcv_types.specs.Text.{Written, nothing_written, node_number, resource_number, mention_head, mention, entity_text, entry_text, positions_text, path_text, listed, param_text, params_text, payload_text, case_texts, mentions, own_texts, entry_texts, path_texts, first_text, second_text, func_text, defined_text, instance_text, component_text, form_text, with_resource, with_each, with_paths, with_resources, with_line, line_if, has_line, write, write_parts, entry_line, write_entries, path_line, write_paths, write_component, type_text}
+use Rattle.wcv_types.specs.Text.{Written, nothing_written, node_number, resource_number, mention_head, mention, entity_text, entry_text, positions_text, path_text, listed, param_text, params_text, payload_text, case_texts, mentions, own_texts, entry_texts, path_texts, first_text, second_text, defined_text, instance_text, component_text, form_text, with_resource, with_each, with_paths, with_resources, with_line, line_if, has_line, write, write_parts, entry_line, write_entries, path_line, write_paths, write_component, type_text}
 use Rattle.wcv_types.proofs.Identity.{same_under, IdentityKept, KnownKept, same_kept, kept_identity, identity-same}
 use Rattle.wcv_types.proofs.Each.{Each, push_each, map-push, length-mapped, position_under, there_under}
 

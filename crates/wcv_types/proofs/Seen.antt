@@ -2,7 +2,7 @@
 use Rattle.std.proofs.Common.{◌≡◌, ℕ, List, map, Bool, cond, ◌||◌, refl, ap, sym, ◌∙◌}
 use Rattle.std.specs.Prelude.{None}
 use Rattle.wcv_core.specs.Names.{Name, member}
-use Rattle.wcv_types.specs.Tree.{Head, nothing, primitive, resource, defined, func, instance, component, type_entity, Former, Tree, node, Parts, none, part, firsts}
+use Rattle.wcv_types.specs.Tree.{Head, nothing, primitive, resource, defined, func, instance, component, type_entity, Tree, node, Parts, none, part, firsts}
 use Rattle.wcv_types.specs.Identity.{Identity}
 use Rattle.wcv_types.specs.Rename.{rename_paths, without_identities}
 use Rattle.wcv_types.specs.Resources.{owns, substitute}

@@ -1,16 +1,18 @@
 //! Type trees of components, their laws, and the text of a type.
 #![tactic(auto)]
 
-ghost use Rattle.std.specs.Prelude.{◌≡◌, true, false, None};
+ghost use Rattle.std.specs.Prelude.{◌≡◌, ℕ, List, false, Some, None};
 ghost use Rattle.wcv_core.specs.Names.{Name};
 ghost use Rattle.wcv_types.specs.Identity.{Identity};
 ghost use Rattle.wcv_types.specs.Measure.{size, depth};
+ghost use Rattle.wcv_types.specs.FirstPath.{first_path};
+ghost use Rattle.wcv_types.specs.Paths.{Leads};
 ghost use Rattle.wcv_types.specs.Rename.{rename, without_identities, HasWayBack, UpToRenaming};
 ghost use Rattle.wcv_types.specs.Replacing.{Replacement, new_resource, changed, replaced, SparesOwn, GivesSame};
 ghost use Rattle.wcv_types.specs.Resources.{Free, substitute, Admits};
 ghost use Rattle.wcv_types.specs.Seen.{Within, seen};
 ghost use Rattle.wcv_types.specs.Text.{type_text};
-ghost use Rattle.wcv_types.specs.Tree.{Tree};
+ghost use Rattle.wcv_types.specs.Tree.{Text, Tree};
 
 /// Types that are equal up to renaming of resources and of identities have one text.
 #[tactic(auto, using(crate::proofs::SameText::same_text))]
@@ -93,4 +95,20 @@ pub fn unchanged_types_stay()
 /// What is seen of a type looks at no identity.
 pub fn what_is_seen_has_no_identities()
     ensures { (f : Name → Within Name) (t : Tree Name Name) → seen f (without_identities t) ≡ seen f t }
+{}
+
+/// A resource is free in a renamed type where one that became it was free, and the renaming has a way back.
+pub fn renaming_keeps_what_is_free()
+    ensures to { (f back g : Name → Name) (r : Name) (t : Tree Name Name) → HasWayBack f back t → Free r t → Free (f r) (rename f g t) }
+    ensures back { (f back g : Name → Name) (q : Name) (t : Tree Name Name) → HasWayBack f back t → Free q (rename f g t) → (r : Name) × Free r t × (f r ≡ q) }
+{}
+
+/// The first path to a resource leads to it.
+pub fn the_first_path_leads_to_its_resource()
+    ensures { (r : Name) (entries : List (Text × Tree Name Name)) (p : List ℕ) → first_path r entries ≡ Some p → Leads p r entries }
+{}
+
+/// Where there is no first path, no path leads to the resource.
+pub fn there_is_a_first_path()
+    ensures { (r : Name) (entries : List (Text × Tree Name Name)) → first_path r entries ≡ None → (p : List ℕ) → Leads p r entries → ⊥ }
 {}
