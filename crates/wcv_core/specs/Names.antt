@@ -5,6 +5,7 @@ use Rattle.std.specs.Prelude.{ℕ, List, [], ◌∷◌, Bool, true, false, ◌&&
 abbrev pub Place : Type 0
 Place = List ℕ
 
+-- a name of a resource, an identity or a stamp
 pub data Name : Type 0 where
   -- the n-th number that an arena gave
   number : ℕ → Name
@@ -15,11 +16,13 @@ pub data Name : Type 0 where
   -- made at that place from an older name
   at : Place → Name → Name
 
+-- two places are one
 abbrev pub same_place : Place → Place → Bool
 same_place [] [] = true
 same_place (m ∷ p) (n ∷ q) = eqb m n && same_place p q
 same_place _ _ = false
 
+-- two names are one
 abbrev pub same : Name → Name → Bool
 same (number m) (number n) = eqb m n
 same (stamp m) (stamp n) = eqb m n

@@ -10,7 +10,7 @@ use Rattle.wcv_types.specs.Rename.{rename, rename_head, rename_parts, rename_pat
 use Rattle.wcv_types.specs.Identity.{Identity, of_node, of_reference, identity_at, same_identity, rename_identity}
 use Rattle.wcv_types.specs.Positions.{is_there}
 use Rattle.wcv_types.specs.Quoting.{quoted}
-use Rattle.wcv_types.specs.Text.{Written, nothing_written, node_number, resource_number, mention_head, mention, entity_text, entry_text, positions_text, path_text, listed, param_text, params_text, payload_text, case_texts, mentions, own_texts, entry_texts, path_texts, first_text, second_text, defined_text, instance_text, component_text, form_text, with_resource, with_each, with_paths, with_resources, with_line, line_if, has_line, write, write_parts, entry_line, write_entries, path_line, write_paths, write_component, type_text}
+use Rattle.wcv_types.specs.Text.{Written, nothing_written, node_number, resource_number, mention_head, mention, entity_text, entry_text, positions_text, path_text, listed, param_text, params_text, payload_text, case_texts, mentions, own_texts, entry_texts, path_texts, first_text, second_text, defined_text, instance_text, component_text, form_text, with_resource, with_each, with_paths, with_resources, line_text, with_line, line_if, has_line, write, write_parts, entry_line, write_entries, path_line, write_paths, write_component, type_text}
 use Rattle.wcv_types.proofs.Identity.{same_under, IdentityKept, KnownKept, same_kept, kept_identity, identity-same}
 use Rattle.wcv_types.proofs.Each.{Each, push_each, map-push, length-mapped, position_under, there_under}
 
@@ -311,7 +311,7 @@ module _ (f back : Name → Name) (g g_back : Name → Name) where
       let count : length (map to u.nodes) ≡ length u.nodes = length-mapped to u.nodes in
       let nodes : map to u.nodes ++ to i ∷ [] ≡ map to (u.nodes ++ i ∷ []) = sym (map-push to u.nodes i) in
       ap (λ (v : Written). with_line v (to i) (rename_head f g h) (rename_parts f g ps)) p.0 ∙
-      (λ j. record { nodes = nodes j; resources = map f u.resources; text = u.text ++ decimal (count j) ++ codes ": " ++ form j ++ codes "\n" })
+      (λ j. record { nodes = nodes j; resources = map f u.resources; text = u.text ++ line_text (count j) (form j) })
 
   line-whole : (w : Written) (o : Option Identity) (h : Head Name Name) (ps : Parts Name Name) → Whole w → HasHead h → KeptIf o → Whole (line_if w o h ps)
   line-whole w None h ps k eh e = k

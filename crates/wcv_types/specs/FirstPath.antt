@@ -4,6 +4,7 @@ use Rattle.std.specs.Option.{option_map}
 use Rattle.wcv_core.specs.Names.{Name, same, member}
 use Rattle.wcv_types.specs.Tree.{Text, Head, resource, instance, type_entity, export, Tree, node, Parts, none, part, head, first_part, rest_parts}
 
+-- the first that is there
 abbrev pub or_else : {X : Type 0} → Option X → Option X → Option X
 or_else None o = o
 or_else (Some x) o = Some x
@@ -30,5 +31,6 @@ abbrev pub path_from : Name → ℕ → List (Text × Tree Name Name) → Option
 path_from r k [] = None
 path_from r k (e ∷ es) = or_else (option_map (λ p. k ∷ p) (path_at r e.1)) (path_from r (suc k) es)
 
+-- the first path to the resource among the entries
 abbrev pub first_path : Name → List (Text × Tree Name Name) → Option (List ℕ)
 first_path r es = path_from r 0 es

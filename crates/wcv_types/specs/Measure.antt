@@ -22,12 +22,14 @@ former_weight (flags_of ls) = one
 former_weight (enum_of ls) = one
 former_weight _ = whole
 
+-- how a head counts
 abbrev pub weight : {R I : Type 0} → Head R I → Weight
 weight nothing = nil
 weight (defined i k) = former_weight k
 weight type_entity = first
 weight _ = whole
 
+-- the number of a node, from that of its first part and that of all
 abbrev pub weigh : Weight → ℕ → ℕ → ℕ
 weigh nil f n = 0
 weigh one f n = 1

@@ -5,6 +5,7 @@ use Rattle.wcv_types.specs.Tree.{resource, defined, func, instance, type_entity,
 use Rattle.wcv_types.specs.Identity.{Identity, of_node, of_reference, identity_at, same_identity}
 use Rattle.wcv_types.specs.Positions.{is_there}
 
+-- the identity stands in the list
 abbrev pub is_in : List Identity → Identity → Bool
 is_in ids i = is_there same_identity i ids
 
@@ -28,6 +29,7 @@ abbrev mutual
   are_named ids none = true
   are_named ids (part k t ps) = is_named ids t && are_named ids ps
 
+-- the list with that identity, where there is one
 abbrev pub with_identity : Option Identity → List Identity → List Identity
 with_identity None ids = ids
 with_identity (Some i) ids = i ∷ ids

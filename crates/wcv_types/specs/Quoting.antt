@@ -16,6 +16,7 @@ quoted_byte b =
     else if is_control b then codes "\\x" ++ hex_digit (b / 16) ∷ hex_digit (b % 16) ∷ []
     else b ∷ []
 
+-- each byte as it stands between quotes
 abbrev pub quoted_bytes : List ℕ → List ℕ
 quoted_bytes [] = []
 quoted_bytes (b ∷ bs) = quoted_byte b ++ quoted_bytes bs

@@ -2,9 +2,11 @@
 use Rattle.std.specs.Prelude.{ℕ, List, map, All, ◌≡◌}
 use Rattle.wcv_types.specs.Tree.{Head, nothing, primitive, resource, defined, func, instance, component, type_entity, Tree, node, Parts, none, part}
 
+-- the resources of a list renamed, their paths kept
 abbrev pub rename_paths : {R S : Type 0} → (R → S) → List (R × List ℕ) → List (S × List ℕ)
 rename_paths f = map (λ p. (f p.0, p.1))
 
+-- the names of one node renamed
 abbrev pub rename_head : {R S I J : Type 0} → (R → S) → (I → J) → Head R I → Head S J
 rename_head f g nothing = nothing
 rename_head f g (primitive p) = primitive p
@@ -24,6 +26,7 @@ abbrev mutual
   rename_parts f g none = none
   rename_parts f g (part r t ps) = part r (rename f g t) (rename_parts f g ps)
 
+-- one identity for all
 abbrev pub no_identity : {I : Type 0} → I → Unit {0}
 no_identity i = tt
 

@@ -5,6 +5,7 @@ use Rattle.wcv_types.specs.Tree.{Head, nothing, primitive, resource, defined, fu
 use Rattle.wcv_types.specs.Identity.{Identity, identity_at, same_known}
 use Rattle.wcv_types.specs.Resources.{owns}
 
+-- what is replaced, and by what
 pub record Replacement : Type 0 where
   -- the resources that are replaced, and by what
   pub resources : Name → Option Name
@@ -17,10 +18,12 @@ pub record Replacement : Type 0 where
 abbrev pub given_at : Replacement → Head Name Name → Option (Tree Name Name)
 given_at m h = elim (identity_at h) [ None ↦ None | Some i ↦ m.nodes i ]
 
+-- the given tree, where there is one
 abbrev pub given_or : Option (Tree Name Name) → Tree Name Name → Tree Name Name
 given_or None t = t
 given_or (Some u) t = u
 
+-- the new name, where there is one
 abbrev pub or_same : Name → Option Name → Name
 or_same r None = r
 or_same r (Some q) = q
@@ -31,6 +34,7 @@ new_resource m r = or_same r (m.resources r)
 
 -- ## What changes
 
+-- the new name is another
 abbrev pub moved : Name → Option Name → Bool
 moved r None = false
 moved r (Some q) = not (same r q)
@@ -72,6 +76,7 @@ new_head m b (primitive p) = primitive p
 new_head m b type_entity = type_entity
 new_head m b h = cond b (again_head m h) h
 
+-- a given node stands as it is; any other is made of its replaced parts
 abbrev mutual
   pub replaced : Replacement → Tree Name Name → Tree Name Name
   replaced m (node h ps) = given_or (given_at m h) (node (new_head m (moves m h || changed_in m ps) h) (replaced_in m ps))

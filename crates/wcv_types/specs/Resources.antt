@@ -27,6 +27,7 @@ abbrev mutual
 abbrev pub spare : {I : Type 0} → Head Name I → (Name → Name) → Name → Name
 spare h u r = cond (owns h r) r (u r)
 
+-- the resource of a reference replaced
 abbrev pub substitute_head : {I : Type 0} → (Name → Name) → Head Name I → Head Name I
 substitute_head u (resource r s) = resource (u r) s
 substitute_head u h = h

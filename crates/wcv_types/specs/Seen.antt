@@ -19,6 +19,7 @@ abbrev pub seen_defined : {A : Type 0} → Former → Head A (Unit {0})
 seen_defined (named p) = primitive p
 seen_defined k = defined tt k
 
+-- one node as it is seen
 abbrev pub seen_head : {I A : Type 0} → (Name → Within A) → Head Name I → Head (Within A) (Unit {0})
 seen_head f nothing = nothing
 seen_head f (primitive p) = primitive p
@@ -29,6 +30,7 @@ seen_head f (instance i own) = instance tt (map inner own)
 seen_head f (component i ins outs) = component tt (rename_paths inner ins) (rename_paths inner outs)
 seen_head f type_entity = type_entity
 
+-- f reads the free resources
 abbrev mutual
   pub seen : {I A : Type 0} → (Name → Within A) → Tree Name I → Tree (Within A) (Unit {0})
   seen f (node h ps) = node (seen_head f h) (seen_parts (under h f) ps)

@@ -15,9 +15,11 @@ pub record Written : Type 0 where
   pub resources : List Name
   pub text : Text
 
+-- the beginning
 abbrev pub nothing_written : Written
 nothing_written = record { nodes = []; resources = []; text = [] }
 
+-- the name of a primitive type
 abbrev pub primitive_name : PrimitiveValType → Text
 primitive_name prim.Bool = codes "bool"
 primitive_name prim.S8 = codes "s8"
@@ -34,9 +36,11 @@ primitive_name prim.Char = codes "char"
 primitive_name prim.String = codes "string"
 primitive_name prim.ErrorContext = codes "error-context"
 
+-- the number of a line
 abbrev pub node_number : Written → Identity → Text
 node_number w i = decimal (position_of same_identity i w.nodes)
 
+-- the number of a resource
 abbrev pub resource_number : Written → Name → Text
 resource_number w r = codes "r" ++ decimal (position_of same r w.resources)
 
@@ -53,6 +57,7 @@ mention_head w (instance i own) = node_number w (of_node i)
 mention_head w (component i ins outs) = node_number w (of_node i)
 mention_head w type_entity = []
 
+-- a tree as a line mentions it
 abbrev pub mention : Written → Tree Name Name → Text
 mention w t = mention_head w (head t)
 
@@ -68,6 +73,7 @@ entity_text w h t = codes "value " ++ mention w t
 abbrev pub entry_text : Written → Text → Text → Tree Name Name → Text
 entry_text w word n t = word ++ quoted n ++ codes " " ++ entity_text w (head t) t
 
+-- the positions of a path, joined by commas
 abbrev pub positions_text : Text → List ℕ → Text
 positions_text before [] = []
 positions_text before (k ∷ ks) = before ++ decimal k ++ positions_text (codes ",") ks
@@ -83,6 +89,7 @@ abbrev pub listed : Text → List Text → Text
 listed before [] = []
 listed before (x ∷ xs) = before ++ x ++ listed (codes ", ") xs
 
+-- a parameter or a field, behind what separates it
 abbrev pub param_text : Text → Text → Text → Text
 param_text before n v = before ++ quoted n ++ codes " " ++ v
 
@@ -99,23 +106,28 @@ abbrev pub payload_text : Written → Head Name Name → Text
 payload_text w nothing = []
 payload_text w h = codes " " ++ mention_head w h
 
+-- the cases of a variant
 abbrev pub case_texts : Written → Parts Name Name → List Text
 case_texts w none = []
 case_texts w (part (label n) t ps) = (quoted n ++ payload_text w (head t)) ∷ case_texts w ps
 case_texts w (part _ t ps) = case_texts w ps
 
+-- each part as a line mentions it
 abbrev pub mentions : Written → Parts Name Name → List Text
 mentions w none = []
 mentions w (part r t ps) = mention w t ∷ mentions w ps
 
+-- names between quotes
 abbrev pub all_quoted : List Text → List Text
 all_quoted [] = []
 all_quoted (n ∷ ns) = quoted n ∷ all_quoted ns
 
+-- own resources
 abbrev pub own_texts : Written → List Name → List Text
 own_texts w [] = []
 own_texts w (r ∷ rs) = (codes "own " ++ resource_number w r) ∷ own_texts w rs
 
+-- imports and exports, in order
 abbrev pub entry_texts : Written → Parts Name Name → List Text
 entry_texts w none = []
 entry_texts w (part (import n) t ps) = entry_text w (codes "import ") n t ∷ entry_texts w ps
@@ -123,16 +135,19 @@ entry_texts w (part (export n) t ps) = entry_text w (codes "export ") n t ∷ en
 entry_texts w (part (label n) t ps) = entry_texts w ps
 entry_texts w (part here t ps) = entry_texts w ps
 
+-- resources and their paths
 abbrev pub path_texts : Written → Text → List (Name × List ℕ) → List Text
 path_texts w word [] = []
 path_texts w word (p ∷ ps) = path_text w word p.0 p.1 ∷ path_texts w word ps
 
 -- ## Forms of nodes
 
+-- the first part, as a line mentions it
 abbrev pub first_text : Written → Parts Name Name → Text
 first_text w none = []
 first_text w (part r t ps) = mention w t
 
+-- the second part, as a line mentions it
 abbrev pub second_text : Written → Parts Name Name → Text
 second_text w ps = first_text w (rest_parts ps)
 
@@ -182,10 +197,12 @@ form_text w h ps = []
 abbrev pub with_resource : Written → Name → Written
 with_resource w r = cond (is_there same r w.resources) w (record w { resources = w.resources ++ r ∷ [] })
 
+-- so for each of the list
 abbrev pub with_each : Written → List Name → Written
 with_each w [] = w
 with_each w (r ∷ rs) = with_each (with_resource w r) rs
 
+-- so for each that has a path
 abbrev pub with_paths : Written → List (Name × List ℕ) → Written
 with_paths w [] = w
 with_paths w (p ∷ ps) = with_paths (with_resource w p.0) ps
@@ -197,14 +214,24 @@ with_resources w (instance i own) = with_each w own
 with_resources w (component i ins outs) = with_paths (with_paths w ins) outs
 with_resources w h = w
 
+-- a line with its number
+abbrev pub line_text : ℕ → Text → Text
+line_text number form = decimal number ++ codes ": " ++ form ++ codes "\n"
+
+-- the line of a function
+abbrev pub func_line : Written → Bool → Parts Name Name → Text
+func_line w async ps = line_text (length w.nodes) (func_text w async ps)
+
 -- the node's own line
 abbrev pub with_line : Written → Identity → Head Name Name → Parts Name Name → Written
-with_line w i h ps = record w { nodes = w.nodes ++ i ∷ []; text = w.text ++ decimal (length w.nodes) ++ codes ": " ++ form_text w h ps ++ codes "\n" }
+with_line w i h ps = record w { nodes = w.nodes ++ i ∷ []; text = w.text ++ line_text (length w.nodes) (form_text w h ps) }
 
+-- a line where there is an identity
 abbrev pub line_if : Written → Option Identity → Head Name Name → Parts Name Name → Written
 line_if w None h ps = w
 line_if w (Some i) h ps = with_line (with_resources w h) i h ps
 
+-- the identity has a line
 abbrev pub has_line : Written → Option Identity → Bool
 has_line w None = false
 has_line w (Some i) = is_there same_identity i w.nodes
@@ -220,6 +247,7 @@ abbrev mutual
 
 -- ## The whole text
 
+-- a line of the whole text for an entry
 abbrev pub entry_line : Written → Text → Text → Tree Name Name → Written
 entry_line w word n t = record w { text = w.text ++ entry_text w word n t ++ codes "\n" }
 
@@ -231,13 +259,16 @@ write_entries w (part (export n) t ps) = write_entries (entry_line (write w t) (
 write_entries w (part (label n) t ps) = write_entries w ps
 write_entries w (part here t ps) = write_entries w ps
 
+-- a line of the whole text for a resource and its path
 abbrev pub path_line : Written → Text → Name → List ℕ → Written
 path_line w word r path = record w { text = w.text ++ path_text w word r path ++ codes "\n" }
 
+-- such lines in order
 abbrev pub write_paths : Text → Written → List (Name × List ℕ) → Written
 write_paths word w [] = w
 write_paths word w (p ∷ ps) = write_paths word (path_line (with_resource w p.0) word p.0 p.1) ps
 
+-- entries, then imported resources, then defined ones
 abbrev pub write_component : Head Name Name → Parts Name Name → Written
 write_component (component i ins outs) ps = write_paths (codes "defined ") (write_paths (codes "imported ") (write_entries nothing_written ps) ins) outs
 write_component h ps = nothing_written

@@ -2,6 +2,7 @@
 use Rattle.std.specs.Prelude.{ℕ, List, [], ◌∷◌, Bool}
 use Rattle.wcv_core.specs.declared.primitive.PrimitiveValType.{PrimitiveValType}
 
+-- the bytes of a text
 abbrev pub Text : Type 0
 Text = List ℕ
 
@@ -40,6 +41,7 @@ pub data Role : Type 0 where
   label : Text → Role
   import export : Text → Role
 
+-- a node and its parts, each in its role
 mutual
   pub data Tree (R I : Type 0) : Type 0 where
     node : Head R I → Parts R I → Tree R I
@@ -50,9 +52,11 @@ mutual
 
 -- ## Trees by sort
 
+-- a primitive value type
 abbrev pub primitive_type : {R I : Type 0} → PrimitiveValType → Tree R I
 primitive_type p = node (primitive p) none
 
+-- a reference to a resource, with its stamp
 abbrev pub resource_type : {R I : Type 0} → R → I → Tree R I
 resource_type r s = node (resource r s) none
 
@@ -60,6 +64,7 @@ resource_type r s = node (resource r s) none
 abbrev pub own_type : {R I : Type 0} → I → Tree R I → Tree R I
 own_type i reference = node (defined i own_of) (part here reference none)
 
+-- a type entity, from its created and its referenced node
 abbrev pub type_of : {R I : Type 0} → Tree R I → Tree R I → Tree R I
 type_of created referenced = node type_entity (part here created (part here referenced none))
 
@@ -68,6 +73,7 @@ abbrev pub fields : {R I : Type 0} → List (Text × Tree R I) → Parts R I →
 fields [] rest = rest
 fields (f ∷ fs) rest = part (label f.0) f.1 (fields fs rest)
 
+-- a function, from its parameters and its result
 abbrev pub func_type : {R I : Type 0} → I → Bool → List (Text × Tree R I) → Tree R I → Tree R I
 func_type i async params result = node (func i async) (fields params (part here result none))
 
@@ -76,23 +82,29 @@ abbrev pub entries : {R I : Type 0} → (Text → Role) → List (Text × Tree R
 entries role [] rest = rest
 entries role (e ∷ es) rest = part (role e.0) e.1 (entries role es rest)
 
+-- an instance, from its own resources and its exports
 abbrev pub instance_type : {R I : Type 0} → I → List R → List (Text × Tree R I) → Tree R I
 instance_type i owned es = node (instance i owned) (entries export es none)
 
+-- a component, from its imported and its defined resources, its imports and its exports
 abbrev pub component_type : {R I : Type 0} → I → List (R × List ℕ) → List (R × List ℕ) → List (Text × Tree R I) → List (Text × Tree R I) → Tree R I
 component_type i imported made ins outs = node (component i imported made) (entries import ins (entries export outs none))
 
 -- ## Views
 
+-- what a tree can be
 pub data Sort : Type 0 where
   is_nothing is_value is_resource is_func is_instance is_component is_type : Sort
 
+-- the root of the tree, without its parts
 abbrev pub head : {R I : Type 0} → Tree R I → Head R I
 head (node h ps) = h
 
+-- the parts of the root
 abbrev pub parts : {R I : Type 0} → Tree R I → Parts R I
 parts (node h ps) = ps
 
+-- the sort by the root
 abbrev pub sort_at : {R I : Type 0} → Head R I → Sort
 sort_at nothing = is_nothing
 sort_at (primitive p) = is_value
@@ -103,14 +115,17 @@ sort_at (instance i owned) = is_instance
 sort_at (component i ins outs) = is_component
 sort_at type_entity = is_type
 
+-- the sort of the tree
 abbrev pub sort : {R I : Type 0} → Tree R I → Sort
 sort t = sort_at (head t)
 
+-- the parts that are exports
 abbrev pub exports_in : {R I : Type 0} → Parts R I → List (Text × Tree R I)
 exports_in none = []
 exports_in (part (export n) t ps) = (n, t) ∷ exports_in ps
 exports_in (part _ t ps) = exports_in ps
 
+-- the parts that are imports
 abbrev pub imports_in : {R I : Type 0} → Parts R I → List (Text × Tree R I)
 imports_in none = []
 imports_in (part (import n) t ps) = (n, t) ∷ imports_in ps
@@ -124,10 +139,12 @@ exports t = exports_in (parts t)
 abbrev pub imports : {R I : Type 0} → Tree R I → List (Text × Tree R I)
 imports t = imports_in (parts t)
 
+-- the first part, or nothing
 abbrev pub first_part : {R I : Type 0} → Parts R I → Tree R I
 first_part none = node nothing none
 first_part (part r t ps) = t
 
+-- the parts after the first
 abbrev pub rest_parts : {R I : Type 0} → Parts R I → Parts R I
 rest_parts none = none
 rest_parts (part r t ps) = ps
@@ -140,6 +157,7 @@ created t = first_part (parts t)
 abbrev pub referenced : {R I : Type 0} → Tree R I → Tree R I
 referenced t = first_part (rest_parts (parts t))
 
+-- the own resources of an instance node
 abbrev pub owned_at : {R I : Type 0} → Head R I → List R
 owned_at (instance i rs) = rs
 owned_at _ = []
@@ -148,10 +166,12 @@ owned_at _ = []
 abbrev pub owned : {R I : Type 0} → Tree R I → List R
 owned t = owned_at (head t)
 
+-- resources without their paths
 abbrev pub firsts : {R : Type 0} → List (R × List ℕ) → List R
 firsts [] = []
 firsts (p ∷ ps) = p.0 ∷ firsts ps
 
+-- the imported resources of a component node
 abbrev pub imported_at : {R I : Type 0} → Head R I → List R
 imported_at (component i ins outs) = firsts ins
 imported_at _ = []
@@ -160,6 +180,7 @@ imported_at _ = []
 abbrev pub imported : {R I : Type 0} → Tree R I → List R
 imported t = imported_at (head t)
 
+-- the defined resources of a component node
 abbrev pub made_at : {R I : Type 0} → Head R I → List R
 made_at (component i ins outs) = firsts outs
 made_at _ = []
