@@ -1,5 +1,6 @@
 pub mod FormLemmas
 pub mod Items
+pub mod Known
 pub mod Repeats
 pub mod Steps
 pub mod Telling

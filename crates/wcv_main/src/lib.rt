@@ -1,14 +1,25 @@
-//! The program's top call.
+//! The program: what it reads from and writes to, how a root is validated, and the top call.
 #![tactic(auto)]
 
+mod adapter;
 mod built;
 mod driver;
+mod ends;
 mod forms;
+mod memory;
 mod names;
+mod pump;
+mod report;
 mod state;
+mod status;
+mod steady;
+#[cfg(test)]
+mod tests;
+mod words;
 
-pub use built::{is_built_func, is_built_name};
-pub use driver::validate_sections;
-pub use forms::{export_of, func_of, import_of};
-pub use names::{check_name, check_params};
-pub use state::State;
+pub use adapter::{ReadAdapter, WriteAdapter};
+pub use ends::{Failed, Sink, Source};
+pub use memory::{MemorySink, MemorySource};
+pub use status::Status;
+pub use steady::{SteadySink, SteadySource};
+pub use words::Words;

@@ -1,0 +1,28 @@
+-- The first lines of the report on a valid root.
+use Rattle.std.specs.Prelude.{ℕ, List, [], ◌∷◌, ◌++◌, codes}
+use Rattle.std.specs.Fmt.{decimal}
+
+-- a text and the end of its line
+abbrev pub line : List ℕ → List ℕ
+line text = text ++ 10 ∷ []
+
+-- a name, a space and a number in decimal
+abbrev pub length_line : List ℕ → ℕ → List ℕ
+length_line name count = line (name ++ (32 ∷ decimal count))
+
+-- a line for each name and its number
+abbrev pub length_lines : List (List ℕ) → List ℕ → List ℕ
+length_lines [] counts = []
+length_lines (name ∷ names) [] = []
+length_lines (name ∷ names) (count ∷ counts) = length_line name count ++ length_lines names counts
+
+-- the index spaces of a component, in the order of the report
+abbrev pub space_names : List (List ℕ)
+space_names =
+    codes "core-types" ∷ codes "core-funcs" ∷ codes "core-tags" ∷ codes "core-modules" ∷ codes "core-instances"
+    ∷ codes "core-memories" ∷ codes "core-tables" ∷ codes "core-globals" ∷ codes "types" ∷ codes "funcs"
+    ∷ codes "values" ∷ codes "instances" ∷ codes "components" ∷ []
+
+-- that the root is accepted, and how many items each of its index spaces has
+abbrev pub report : List ℕ → List ℕ
+report counts = line (codes "accepted") ++ length_lines space_names counts

@@ -1,0 +1,100 @@
+// From a source into memory, and from memory into a sink.
+ghost use Rattle.std.specs.Prelude.{◌≡◌, ◌≤◌, ◌+◌, ◌<◌, ℕ, List, ◌++◌, take, drop, length, vec_len, IfOk, OnOk, OnErr, IsErrOf};
+ghost use Rattle.std.specs.Io.KnownBytes.{Appends, Consumes, IsAtEnd, Keeps};
+ghost use Rattle.wcv_main.specs.Faults.{Rose, HasCause};
+ghost use Rattle.wcv_main.specs.Pump.{AppendsFront, GivesAtMost};
+ghost use Rattle.wcv_main.specs.declared.pump.ReadError.TheVariants.{Memory};
+
+use crate::ends::{Failed, Sink, Source};
+use std::alloc::{AllocError, Global};
+
+/// How many bytes a listing has at most.
+pub const LIMIT: usize = 67_108_864;
+
+// How many bytes are asked for at once.
+const CHUNK: usize = 65_536;
+
+/// Why not all was read.
+#[derive(Clone, Copy, Debug, PartialEq, Eq)]
+pub enum ReadError {
+    /// A read failed.
+    Failed,
+    /// Memory was wanting.
+    Memory,
+}
+
+impl From<AllocError> for ReadError {
+    ghost from_gives = { λ _ e. e ≡ Memory };
+
+    fn from(_: AllocError) -> ReadError {
+        ReadError::Memory
+    }
+}
+
+// Reads once, and appends what was read.
+fn read_some<S: Source>(
+    source: &mut S,
+    bytes: &mut Vec<u8>,
+    chunk: &mut [u8],
+) -> Result<usize, ReadError>
+    requires { 0 < length chunk.old }
+    ensures later { S.faults source.old ≤ S.faults source.new }
+    ensures failed { IsErrOf result ReadError.Failed → Rose (S.faults source.old) (S.faults source.new) }
+    ensures steady { OnOk result (S.faults source.new ≡ S.faults source.old) }
+    ensures memory { IsErrOf result ReadError.Memory → S.faults source.new ≡ S.faults source.old }
+    ensures bounded { GivesAtMost (S.left source.old) (S.left source.new) (length chunk.old) }
+    ensures count { IfOk result (λ n. (n ≤ length chunk.old) × (vec_len bytes.new ≡ vec_len bytes.old + n)) }
+    ensures bytes { IfOk result (λ n. (got : List ℕ) × (bytes.new.items ≡ bytes.old.items ++ got) × (length got ≡ n)
+        × Consumes (S.left source.old) (S.left source.new) got × (n ≡ 0 → IsAtEnd (S.left source.new))) }
+{
+    let count = source.read(chunk).map_err(|_| ReadError::Failed)?;
+    bytes.extend_from_slice(&chunk[..count])?;
+    Ok(count)
+}
+
+/// Reads to the end, or until one byte more than the limit was given: more is never asked for. It
+/// fails only where a read failed or memory was wanting.
+pub fn read_all<S: Source>(alloc: Global, source: &mut S) -> Result<Vec<u8>, ReadError>
+    ensures later { S.faults source.old ≤ S.faults source.new }
+    ensures failed { IsErrOf result ReadError.Failed → Rose (S.faults source.old) (S.faults source.new) }
+    ensures steady { OnOk result (S.faults source.new ≡ S.faults source.old) }
+    ensures memory { IsErrOf result ReadError.Memory → S.faults source.new ≡ S.faults source.old }
+    ensures bounded { GivesAtMost (S.left source.old) (S.left source.new) (LIMIT + 1) }
+    ensures limit { IfOk result (λ v. length v.items ≤ LIMIT + 1) }
+    ensures bytes { IfOk result (λ v. Consumes (S.left source.old) (S.left source.new) v.items) }
+    ensures end { IfOk result (λ v. length v.items ≤ LIMIT → IsAtEnd (S.left source.new)) }
+{
+    let mut bytes = Vec::new(alloc);
+    let mut chunk = [0u8; CHUNK];
+    while bytes.len() <= LIMIT {
+        let room = CHUNK.min(LIMIT + 1 - bytes.len());
+        if read_some(source, &mut bytes, &mut chunk[..room])? == 0 {
+            return Ok(bytes);
+        }
+    }
+    Ok(bytes)
+}
+
+// Writes once, from a place in the text on.
+fn write_some<K: Sink>(sink: &mut K, text: &[u8], done: usize) -> Result<usize, Failed>
+    requires { done < length text.now }
+    ensures count { IfOk result (λ n. (0 < n) × (done + n ≤ length text.now)) }
+    ensures taken { IfOk result (λ n. Appends (K.taken sink.old) (K.taken sink.new) (take n (drop done text.now))) }
+    ensures kept { OnErr result (Keeps (K.taken sink.old) (K.taken sink.new)) }
+    ensures cause { HasCause (K.faults sink.old) (K.faults sink.new) result }
+{
+    sink.write(&text[done..])
+}
+
+/// Writes the whole text. Where a write fails, a front of the text was written.
+pub fn write_all<K: Sink>(sink: &mut K, text: &[u8]) -> Result<(), Failed>
+    ensures whole { OnOk result (Appends (K.taken sink.old) (K.taken sink.new) text.now) }
+    ensures front { OnErr result (AppendsFront (K.taken sink.old) (K.taken sink.new) text.now) }
+    ensures cause { HasCause (K.faults sink.old) (K.faults sink.new) result }
+{
+    let mut done = 0;
+    while done < text.len() {
+        done += write_some(sink, text, done)?;
+    }
+    Ok(())
+}
