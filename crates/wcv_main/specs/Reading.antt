@@ -16,6 +16,11 @@ use Rattle.wcv_main.specs.Promises.{NameCause}
 use Rattle.wcv_main.specs.State.{JoinsImports, JoinsExports}
 use Rattle.wcv_main.specs.Valid.{Reads, RefusedFrom, Refused, grow_at}
 
+-- so it is with each element
+abbrev pub Each : {X : Type 0} → (X → Type 0) → List X → Type 0
+Each P [] = Unit {0}
+Each P (x ∷ xs) = P x × Each P xs
+
 -- ## The items by their positions
 
 abbrev pub entry_or_unbuilt : Option Entry → Entry
@@ -56,8 +61,20 @@ context_of es s = record {
   exports = map (entry_at es) s.exports.items;
 }
 
--- the sets of keys are those of the entries
+-- a function type stands at that position
+abbrev pub IsFuncAt : List Entry → ℕ → Type 0
+IsFuncAt es k = (f : Func_form) × ((item_at es k).form ≡ func_type f)
+
+-- each of the positions in the state is one of a function type
+pub record AreFuncs (es : List Entry) (s : State) : Type 0 where
+  pub types : Each (IsFuncAt es) s.types.items
+  pub funcs : Each (IsFuncAt es) s.funcs.items
+  pub imports : Each (λ e. IsFuncAt es e.ty) s.imports.items
+  pub exports : Each (λ e. IsFuncAt es e.ty) s.exports.items
+
+-- the positions are those of function types, and the sets of keys those of the entries
 pub record IsReady (es : List Entry) (s : State) : Type 0 where
+  pub funcs : AreFuncs es s
   pub import_keys : AreKeys s.import_keys (keys_of (context_of es s).imports)
   pub export_keys : AreKeys s.export_keys (keys_of (context_of es s).exports)
 
