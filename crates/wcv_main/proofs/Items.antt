@@ -49,3 +49,9 @@ no_form (func_type f) a b d = cc
 no_form (import n (func_ref k)) a b d = cc
 no_form (export_func n k) a b d = cc
 no_form unbuilt a b d = refl
+
+pub item_form : (items : List Item) (k : ℕ) (x : Item) → k < length items → x ≡ get_or items k x → (item_at (entries items) k).form ≡ section_view x.section
+item_form items k x h e = ap (λ (z : Entry). z.form) (item_found items k x h e ∙ item_view-made x.offset x.section)
+
+pub item_offset : (items : List Item) (k : ℕ) (x : Item) → k < length items → x ≡ get_or items k x → (item_at (entries items) k).offset ≡ x.offset
+item_offset items k x h e = ap (λ (z : Entry). z.offset) (item_found items k x h e ∙ item_view-made x.offset x.section)

@@ -5,7 +5,7 @@ ghost use Rattle.wcv_syntax.specs.Built as built;
 ghost use Rattle.wcv_syntax.specs.View.{func_view, entries};
 ghost use Rattle.wcv_main.specs.Causes.{Cause, FuncCause};
 ghost use Rattle.wcv_main.specs.Promises.{Tells};
-ghost use Rattle.wcv_main.specs.Reading.{item_at, context_of, IsReady, Step, Unless, AddsType, AddsImport, AddsExport, ImportCause, ExportCause};
+ghost use Rattle.wcv_main.specs.Reading.{item_at, context_of, AreFuncs, IsReady, Step, Unless, AddsType, AddsImport, AddsExport, ImportCause, ExportCause};
 ghost use Rattle.wcv_main.specs.Valid.{ValidTo, Refused};
 
 use crate::built::{is_built_func, is_built_name};
@@ -115,6 +115,7 @@ fn read_item(alloc: Global, items: &[Item], position: usize, state: &mut State) 
 /// no built form is refused.
 pub fn validate_sections(alloc: Global, items: &[Item], end: u64) -> Result<State, Error>
     ensures ok { IfOk result (λ state. ValidTo (entries items.now) (context_of (entries items.now) state)) }
+    ensures funcs { IfOk result (AreFuncs (entries items.now)) }
     ensures err { IfErr result (λ e. (error_kind e ≡ ErrorKind.OutOfMemory) ⊎ Refused (entries items.now) end (error_kind e) (error_offset e)) }
 {
     let mut state = State::new(alloc);
