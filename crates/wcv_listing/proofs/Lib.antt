@@ -1,0 +1,4 @@
+pub mod Made
+pub mod Counts
+pub mod Pairs
+pub mod After

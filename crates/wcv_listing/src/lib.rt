@@ -1,0 +1,10 @@
+//! Listings of components, read from JSON.
+#![tactic(auto)]
+
+mod forms;
+mod func;
+mod item;
+mod listing;
+mod value;
+
+pub use listing::{Listing, ListingError, read_listing};
