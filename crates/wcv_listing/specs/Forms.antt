@@ -1,6 +1,5 @@
 -- The forms of items, and which bodies of `type`, `import` and `export` are read.
-use Rattle.std.specs.Prelude.{ℕ, List, [], ◌∷◌, ◌==◌, if◌then◌else◌, Option, Some, None, option_map, option_and_then, codes}
-use Rattle.std.specs.Str.{bytes_eq}
+use Rattle.std.specs.Prelude.{ℕ, List, [], ◌∷◌, ◌&&◌, if◌then◌else◌, Option, Some, None, option_map, option_and_then, codes}
 use Rattle.serde_json.specs.Data.{Data, Items, no_items, item}
 use Rattle.serde_json.specs.Find.{as_array, as_str, get}
 use Rattle.wcv_core.specs.declared.primitive.PrimitiveValType.{PrimitiveValType}
@@ -8,7 +7,7 @@ use Rattle.wcv_core.specs.declared.primitive.PrimitiveValType.TheVariants as pri
 use Rattle.wcv_syntax.specs.declared.component_type.ComponentValType.{ComponentValType}
 use Rattle.wcv_syntax.specs.declared.component_type.ComponentValType.TheVariants.{Primitive}
 use Rattle.wcv_syntax.specs.Model.{Text, Func_form, Ref, func_ref, Form, func_type, import, export_func, unbuilt}
-use Rattle.wcv_listing.specs.Reading.{both, named, has_only, index_in, text_in, array_in, pair_of, optional}
+use Rattle.wcv_listing.specs.Reading.{both, named, has_only, is_text, index_in, text_in, array_in, pair_of, optional}
 
 -- the forms of items
 abbrev pub form_names : List (List ℕ)
@@ -75,15 +74,11 @@ import_of d =
     then both import (text_in (codes "name") d) (option_and_then ref_of (get (codes "type") d))
     else None
 
--- the text `func`
-abbrev pub is_func_sort : Text → Option (Unit {0})
-is_func_sort text = if bytes_eq text (codes "func") then Some tt else None
-
 -- the body of `export`: {"name": text, "sort": "func", "index": index}
 abbrev pub export_of : Data → Option Form
 export_of d =
-    if has_only (codes "name" ∷ codes "sort" ∷ codes "index" ∷ []) d
-    then option_and_then (λ sort. both export_func (text_in (codes "name") d) (index_in (codes "index") d)) (option_and_then is_func_sort (text_in (codes "sort") d))
+    if has_only (codes "name" ∷ codes "sort" ∷ codes "index" ∷ []) d && is_text (codes "func") (text_in (codes "sort") d)
+    then both export_func (text_in (codes "name") d) (index_in (codes "index") d)
     else None
 
 -- a body that is not read is of a form that is not built

@@ -1,11 +1,11 @@
 -- The listing that some bytes stand for.
-use Rattle.std.specs.Prelude.{ℕ, ◌+◌, List, [], ◌∷◌, ◌&&◌, ◌==◌, if◌then◌else◌, Option, Some, None, Result, Ok, Err, codes}
+use Rattle.std.specs.Prelude.{ℕ, ◌+◌, List, [], ◌∷◌, ◌&&◌, ◌==◌, if◌then◌else◌, Option, Some, None, option_map, Result, Ok, Err, codes}
 use Rattle.std.specs.Str.{is_utf8}
 use Rattle.serde_json.specs.Data.{Data, Items, no_items, item}
 use Rattle.serde_json.specs.Read.{read}
 use Rattle.wcv_core.specs.Features.{default_bits}
 use Rattle.wcv_syntax.specs.Model.{Entry}
-use Rattle.wcv_listing.specs.Reading.{both, has_only, key_count, natural_in, array_in}
+use Rattle.wcv_listing.specs.Reading.{has_only, key_count, natural_in, array_in}
 use Rattle.wcv_listing.specs.Forms.{form_names, form_in}
 
 -- the features by their bits, the root's items, and the offset of the root's end
@@ -24,7 +24,7 @@ pub data Reading : Type 0 where
 abbrev pub item_of : Data → Option Entry
 item_of d =
     if has_only (codes "at" ∷ form_names) d && (key_count d == 2)
-    then both (λ offset form. record { offset = offset; form = form }) (natural_in (codes "at") d) (Some (form_in d))
+    then option_map (λ offset. record { offset = offset; form = form_in d }) (natural_in (codes "at") d)
     else None
 
 abbrev pub with_entry : Option Entry → ℕ → Result (List Entry) ℕ → Result (List Entry) ℕ

@@ -67,6 +67,11 @@ text_in key d = option_and_then as_str (get key d)
 abbrev pub array_in : List ℕ → Data → Option Items
 array_in key d = option_and_then as_array (get key d)
 
+-- this text
+abbrev pub is_text : List ℕ → Option (List ℕ) → Bool
+is_text text None = false
+is_text text (Some found) = bytes_eq found text
+
 -- the two parts of an array of two
 abbrev pub pair_of : Items → Option (Data × Data)
 pair_of no_items = None
