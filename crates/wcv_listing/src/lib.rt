@@ -5,6 +5,8 @@ mod forms;
 mod func;
 mod item;
 mod listing;
+#[cfg(test)]
+mod tests;
 mod value;
 
 pub use listing::{Listing, ListingError, read_listing};
