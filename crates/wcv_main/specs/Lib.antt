@@ -1,7 +1,9 @@
 pub mod Adapters
+pub mod Answers
 pub mod Causes
 pub mod Codes
 pub mod Context
+pub mod Due
 pub mod Faults
 pub mod Forms
 pub mod Growth

@@ -13,8 +13,11 @@ mod report;
 mod state;
 mod status;
 mod steady;
+mod steady_run;
 #[cfg(test)]
 mod tests;
+mod top;
+mod type_text;
 mod words;
 
 pub use adapter::{ReadAdapter, WriteAdapter};
@@ -22,4 +25,6 @@ pub use ends::{Failed, Sink, Source};
 pub use memory::{MemorySink, MemorySource};
 pub use status::Status;
 pub use steady::{SteadySink, SteadySource};
+pub use steady_run::status_of_bytes;
+pub use top::run;
 pub use words::Words;

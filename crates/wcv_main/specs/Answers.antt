@@ -1,0 +1,54 @@
+-- What a run answers, and what it has then read and written.
+use Rattle.std.specs.Prelude.{ℕ, ◌≡◌, ◌+◌, ◌⊎◌, List, [], length, Option, Some, None, IfSome, ⊤}
+use Rattle.std.specs.Io.KnownBytes.{Appends}
+use Rattle.wcv_main.specs.declared.status.Status.{Status}
+use Rattle.wcv_main.specs.declared.status.Status.TheVariants as status
+use Rattle.wcv_main.specs.Pump.{AppendsFront}
+use Rattle.wcv_main.specs.Faults.{Rose}
+use Rattle.wcv_main.specs.Due.{limit, due_of, Gives}
+
+-- a status that tells of no fault
+abbrev pub IsAnswer : Status → Type 0
+IsAnswer status.Done = ⊤
+IsAnswer status.Refused = ⊤
+IsAnswer status.Words = ⊤
+IsAnswer status.Listing = ⊤
+IsAnswer status.TooLong = ⊤
+IsAnswer status.ReadFault = ⊥
+IsAnswer status.WriteFault = ⊥
+IsAnswer status.Memory = ⊥
+
+-- a status that tells of a listing
+abbrev pub IsOfListing : Status → Type 0
+IsOfListing status.Done = ⊤
+IsOfListing status.Refused = ⊤
+IsOfListing status.Words = ⊥
+IsOfListing status.Listing = ⊤
+IsOfListing status.TooLong = ⊤
+IsOfListing status.ReadFault = ⊥
+IsOfListing status.WriteFault = ⊥
+IsOfListing status.Memory = ⊥
+
+-- a status that may stand in place of any other
+abbrev pub MayStandIn : Status → Type 0
+MayStandIn s = (s ≡ status.WriteFault) ⊎ (s ≡ status.Memory)
+
+-- the sink took the text that is due
+abbrev pub Answers : List (List ℕ) → Option (List ℕ) → Status → Option (List ℕ) → Option (List ℕ) → Type 0
+Answers words left s old new = IsAnswer s → IfSome left (λ bytes. (text : List ℕ) × Gives (due_of words bytes) s text × Appends old new text)
+
+-- the sink took a front of the text that is due
+abbrev pub Cuts : List (List ℕ) → Option (List ℕ) → Status → Option (List ℕ) → Option (List ℕ) → Type 0
+Cuts words left s old new = MayStandIn s
+    → IfSome left (λ bytes. (due : Status) × (text : List ℕ) × Gives (due_of words bytes) due text × AppendsFront old new text)
+
+-- the source gave this many bytes
+abbrev pub HasRead : Option (List ℕ) → Option (List ℕ) → ℕ → Type 0
+HasRead None after n = ⊥
+HasRead (Some bytes) None n = ⊥
+HasRead (Some bytes) (Some rest) n = length bytes ≡ n + length rest
+
+-- the whole text was written, or a front of it before a fault
+abbrev pub Finishes : Status → Status → Option (List ℕ) → Option (List ℕ) → List ℕ → ℕ → ℕ → Type 0
+Finishes result s old new text before now =
+    (result ≡ s) × Appends old new text × (now ≡ before) ⊎ (result ≡ status.WriteFault) × AppendsFront old new text × Rose before now

@@ -1,0 +1,76 @@
+-- What is due for the words and the bytes of a run, where nothing fails.
+use Rattle.std.specs.Prelude.{ℕ, ◌≡◌, ◌⊎◌, List, [], ◌∷◌, ◌++◌, length, Bool, true, false, nat_lt, if◌then◌else◌, codes}
+use Rattle.std.specs.Str.{bytes_eq}
+use Rattle.std.specs.Fmt.{decimal}
+use Rattle.wcv_core.specs.Kinds.{kind_name}
+use Rattle.wcv_core.specs.declared.error.ErrorKind.{ErrorKind}
+use Rattle.wcv_syntax.specs.Model.{Entry}
+use Rattle.wcv_types.specs.Text.{type_text}
+use Rattle.wcv_listing.specs.Listing.{Reading, not_json, bad_shape, listed, reading_of}
+use Rattle.wcv_main.specs.declared.status.Status.{Status}
+use Rattle.wcv_main.specs.declared.status.Status.TheVariants as status
+use Rattle.wcv_main.specs.Context.{Context, lengths}
+use Rattle.wcv_main.specs.Report.{line, report}
+use Rattle.wcv_main.specs.Valid.{ValidTo, Refused, type_at_end}
+
+-- the outcome of a run, in the order in which it is looked for
+pub data Due : Type 0 where
+  wrong_words : Due
+  too_long : Due
+  no_json : Due
+  -- JSON that is no listing, with a position
+  no_shape : ℕ → Due
+  -- a listing, by its items and the offset of its end
+  sections : List Entry → ℕ → Due
+
+-- the one command that is built is the word `validate`
+abbrev pub is_validate : List (List ℕ) → Bool
+is_validate [] = false
+is_validate (word ∷ []) = bytes_eq word (codes "validate")
+is_validate (word ∷ more ∷ words) = false
+
+abbrev pub due_of_reading : Reading → Due
+due_of_reading not_json = no_json
+due_of_reading (bad_shape at) = no_shape at
+due_of_reading (listed l) = sections l.entries l.end
+
+-- the most bytes of a listing
+abbrev pub limit : ℕ
+limit = 67108864
+
+abbrev pub due_of_bytes : List ℕ → Due
+due_of_bytes bytes = if nat_lt limit (length bytes) then too_long else due_of_reading (reading_of bytes)
+
+abbrev pub due_of : List (List ℕ) → List ℕ → Due
+due_of words bytes = if is_validate words then due_of_bytes bytes else wrong_words
+
+abbrev pub usage : List ℕ
+usage = line (codes "usage: wcv validate, wcv link TURNS or wcv make N")
+
+-- the report of a valid root: the lengths of its index spaces, and its type
+abbrev pub accepted_text : Context → List ℕ
+accepted_text d = report (lengths d) ++ type_text (type_at_end d)
+
+-- the two lines of a refusal; the words of the message are not promised
+abbrev pub refusal_text : ErrorKind → ℕ → List ℕ → List ℕ
+refusal_text kind offset message = line (codes "refused " ++ kind_name kind ++ codes " at " ++ decimal offset) ++ line message
+
+-- so it is, with some message
+abbrev pub GivesRefusalText : ErrorKind → ℕ → List ℕ → Type 0
+GivesRefusalText kind offset text = (message : List ℕ) × (text ≡ refusal_text kind offset message)
+
+-- the root is valid: its report
+abbrev pub GivesReport : List Entry → Status → List ℕ → Type 0
+GivesReport es s text = (d : Context) × ValidTo es d × (s ≡ status.Done) × (text ≡ accepted_text d)
+
+-- the root is refused: a kind that is a cause at the place of refusal, and its offset
+abbrev pub GivesRefusal : List Entry → ℕ → Status → List ℕ → Type 0
+GivesRefusal es end s text = (kind : ErrorKind) × (offset : ℕ) × Refused es end kind offset × (s ≡ status.Refused) × GivesRefusalText kind offset text
+
+-- this status with this text is due
+abbrev pub Gives : Due → Status → List ℕ → Type 0
+Gives wrong_words s text = (s ≡ status.Words) × (text ≡ usage)
+Gives too_long s text = (s ≡ status.TooLong) × (text ≡ line (codes "listing is longer than 67108864 bytes"))
+Gives no_json s text = (s ≡ status.Listing) × (text ≡ line (codes "bad listing: not JSON"))
+Gives (no_shape at) s text = (s ≡ status.Listing) × (text ≡ line (codes "bad listing at " ++ decimal at))
+Gives (sections es end) s text = GivesReport es s text ⊎ GivesRefusal es end s text
