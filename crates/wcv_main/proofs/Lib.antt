@@ -1,3 +1,5 @@
+pub mod Answering
+pub mod Decided
 pub mod FormLemmas
 pub mod Items
 pub mod Known

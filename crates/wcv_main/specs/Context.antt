@@ -30,6 +30,9 @@ with_export c n t = record c { funcs = c.funcs ++ t ∷ []; exports = c.exports 
 
 -- The lengths of the thirteen index spaces: core types, core functions, core tags, core modules, core
 -- instances, core memories, core tables, core globals, types, functions, values, instances, components.
--- No built form reaches the others.
+-- No built form reaches those other than types and functions.
+abbrev pub with_lengths : ℕ → ℕ → List ℕ
+with_lengths types funcs = 0 ∷ 0 ∷ 0 ∷ 0 ∷ 0 ∷ 0 ∷ 0 ∷ 0 ∷ types ∷ funcs ∷ 0 ∷ 0 ∷ 0 ∷ []
+
 abbrev pub lengths : Context → List ℕ
-lengths c = 0 ∷ 0 ∷ 0 ∷ 0 ∷ 0 ∷ 0 ∷ 0 ∷ 0 ∷ length c.types ∷ length c.funcs ∷ 0 ∷ 0 ∷ 0 ∷ []
+lengths c = with_lengths (length c.types) (length c.funcs)

@@ -6,6 +6,7 @@ mod built;
 mod driver;
 mod ends;
 mod forms;
+mod laws;
 mod memory;
 mod names;
 mod pump;
@@ -22,6 +23,7 @@ mod words;
 
 pub use adapter::{ReadAdapter, WriteAdapter};
 pub use ends::{Failed, Sink, Source};
+pub use laws::each_root_has_one_answer;
 pub use memory::{MemorySink, MemorySource};
 pub use status::Status;
 pub use steady::{SteadySink, SteadySource};

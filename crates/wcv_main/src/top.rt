@@ -4,6 +4,7 @@ ghost use Rattle.std.specs.Io.KnownBytes.{Appends, IsAtEnd};
 ghost use Rattle.wcv_core.specs.Refusal.{error_kind, error_offset};
 ghost use Rattle.wcv_syntax.specs.View.{entries};
 ghost use Rattle.wcv_main.specs.Faults.{Rose};
+ghost use Rattle.wcv_main.specs.Context.{with_lengths};
 ghost use Rattle.wcv_main.specs.Pump.{GivesAtMost, GivesExactly};
 ghost use Rattle.wcv_main.specs.Due.{is_validate, due_of_bytes, due_of, Gives, usage, sections, accepted_text, GivesRefusalText};
 ghost use Rattle.wcv_main.specs.Reading.{context_of, AreFuncs};
@@ -35,15 +36,22 @@ fn is_validate_command(words: &Words) -> bool
     }
 }
 
+/// The lengths of the thirteen index spaces.
+fn space_lengths(state: &State) -> [u64; 13]
+    ensures { result ≡ with_lengths (length state.now.types.items) (length state.now.funcs.items) }
+{
+    let types = state.types.len() as u64;
+    let funcs = state.funcs.len() as u64;
+    [0, 0, 0, 0, 0, 0, 0, 0, types, funcs, 0, 0, 0]
+}
+
 /// The report of a valid root.
 fn report_text(alloc: Global, items: &[Item], state: &State) -> Result<String, AllocError>
     requires { AreFuncs (entries items.now) state.now }
     ensures { IfOk result (λ text. string_bytes text ≡ accepted_text (context_of (entries items.now) state.now)) }
 {
-    let types = state.types.len() as u64;
-    let funcs = state.funcs.len() as u64;
     let mut text = String::new(alloc);
-    push_report(&mut text, &[0, 0, 0, 0, 0, 0, 0, 0, types, funcs, 0, 0, 0])?;
+    push_report(&mut text, &space_lengths(state))?;
     push_type(alloc, &mut text, items, state)?;
     Ok(text)
 }
@@ -67,9 +75,10 @@ fn answer_listing(alloc: Global, listing: &Listing) -> Result<(Status, String), 
     ensures short { IfOk result (λ answer. answer.0 ≢ Status.TooLong) }
     ensures due { IfOk result (λ answer. Gives (sections (entries listing.now.items.items) listing.now.end) answer.0 (string_bytes answer.1)) }
 {
-    match validate_sections(alloc, &listing.items, listing.end) {
+    let items: &[Item] = &listing.items;
+    match validate_sections(alloc, items, listing.end) {
         Ok(state) => {
-            let text = report_text(alloc, &listing.items, &state)?;
+            let text = report_text(alloc, items, &state)?;
             Ok((Status::Done, text))
         }
         Err(error) => {

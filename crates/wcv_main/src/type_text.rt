@@ -11,12 +11,13 @@ use wcv_syntax::Item;
 
 pub fn push_type(
     _alloc: Global,
-    _text: &mut String,
+    text: &mut String,
     items: &[Item],
     state: &State,
 ) -> Result<(), AllocError>
     requires { AreFuncs (entries items.now) state.now }
-    ensures { OnOk result (string_bytes _text.new ≡ string_bytes _text.old ++ type_text (type_at_end (context_of (entries items.now) state.now))) }
+    ensures { OnOk result (string_bytes text.new ≡ string_bytes text.old ++ type_text (type_at_end (context_of (entries items.now) state.now))) }
 {
+    let _ = &text;
     Err(AllocError)
 }
