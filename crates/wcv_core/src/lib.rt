@@ -9,6 +9,8 @@ mod features;
 mod kebab;
 mod memory;
 mod primitive;
+#[cfg(test)]
+mod tests;
 mod text;
 
 pub use core_types::{
