@@ -7,3 +7,7 @@ pub mod Leading
 pub mod Repeats
 pub mod Steps
 pub mod Telling
+pub mod TypeText
+pub mod TypeTextForms
+pub mod TypeTextItems
+pub mod TypeTextQuoting

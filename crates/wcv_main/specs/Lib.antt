@@ -15,5 +15,6 @@ pub mod Reading
 pub mod Report
 pub mod State
 pub mod Steady
+pub mod TypeText
 pub mod Valid
 pub mod Words
