@@ -9,7 +9,7 @@ use Rattle.wcv_syntax.specs.declared.name.ComponentExport.{ComponentExport}
 use Rattle.wcv_syntax.specs.declared.item.Item.{roll-Item}
 use Rattle.wcv_syntax.specs.declared.item.Section.{Section}
 use Rattle.wcv_syntax.specs.declared.item.Section.TheVariants as section
-use Rattle.wcv_syntax.specs.Model.{func_type, unbuilt, Entry}
+use Rattle.wcv_syntax.specs.Model.{func_type, unbuilt}
 use Rattle.wcv_syntax.specs.View.{func_view, type_view, import_view, export_view, item_view, section_view}
 use Rattle.wcv_syntax.proofs.Views.{type_view-Func, section_view-Ty, section_view-Import, section_view-Export, section_view-Unbuilt, item_view-made}
 

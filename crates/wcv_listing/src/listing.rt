@@ -38,8 +38,8 @@ fn read_items(alloc: Global, list: &[Value]) -> Result<Vec<Item>, ListingError>
     ensures { ItemsGive result (entries_from 0 (items_view list.now)) }
 {
     let mut items = Vec::new(alloc);
-    for k in 0..list.len() {
-        match read_item(alloc, &list[k]).map_err(|_| ListingError::OutOfMemory)? {
+    for (k, value) in list.iter().enumerate() {
+        match read_item(alloc, value).map_err(|_| ListingError::OutOfMemory)? {
             Some(item) => items.push(item).map_err(|_| ListingError::OutOfMemory)?,
             None => return Err(ListingError::BadShape { at: k as u64 }),
         }
