@@ -59,65 +59,68 @@ fn root(alloc: Global, items: &str) -> Result<String, Fail> {
     Ok(text)
 }
 
+// Whole inputs and what they read as.
+const ROOTS: [(&str, &str); 29] = [
+    (r#"{"version":1,"items":[],"end":99}"#, "end 99"),
+    (r#" {"end":0, "items":[], "version":1} "#, "end 0"),
+    (
+        r#"{"version":1,"items":[],"end":18446744073709551615}"#,
+        "end 18446744073709551615",
+    ),
+    (
+        r#"{"version":1,"items":[],"end":18446744073709551616}"#,
+        "no listing at 0",
+    ),
+    (r#"{"version":1,"items":[],"end":1.0}"#, "no listing at 0"),
+    (r#"{"version":1,"items":[],"end":1e2}"#, "no listing at 0"),
+    (r#"{"version":1,"items":[],"end":-0}"#, "no listing at 0"),
+    (r#"{"version":1,"items":[],"end":"0"}"#, "no listing at 0"),
+    (r#"{"version":1,"items":[],"end":1e999}"#, "not JSON"),
+    (r#"{"version":1,"items":[],"end":01}"#, "not JSON"),
+    // Of a repeated key the last counts.
+    (
+        r#"{"version":2,"version":1,"items":[],"end":1.0,"end":5}"#,
+        "end 5",
+    ),
+    (
+        r#"{"version":1,"version":2,"items":[],"end":5}"#,
+        "no listing at 0",
+    ),
+    (r#"{"version":2,"items":[],"end":5}"#, "no listing at 0"),
+    (r#"{"version":1.0,"items":[],"end":5}"#, "no listing at 0"),
+    (r#"{"version":1,"items":{},"end":5}"#, "no listing at 0"),
+    (r#"{"version":1,"items":[]}"#, "no listing at 0"),
+    (r#"{"items":[],"end":5}"#, "no listing at 0"),
+    (r#"{"version":1,"end":5}"#, "no listing at 0"),
+    (
+        r#"{"version":1,"items":[],"end":5,"features":[]}"#,
+        "no listing at 0",
+    ),
+    (
+        r#"{"version":1,"items":[],"end":5,"x":0}"#,
+        "no listing at 0",
+    ),
+    // The root is looked at before its items.
+    (
+        r#"{"version":2,"items":[{"at":1,"type":{}},7],"end":5}"#,
+        "no listing at 0",
+    ),
+    ("{}", "no listing at 0"),
+    ("[]", "no listing at 0"),
+    ("null", "no listing at 0"),
+    ("", "not JSON"),
+    ("{", "not JSON"),
+    (r#"{"version":1,"items":[],"end":99}x"#, "not JSON"),
+    (r#"{"version":1,"items":[],"end":99,}"#, "not JSON"),
+    (
+        "\u{feff}{\"version\":1,\"items\":[],\"end\":99}",
+        "not JSON",
+    ),
+];
+
 #[test]
 fn roots_read(rt: HostRuntime) -> Result<(), Fail> {
-    for (text, wanted) in [
-        (r#"{"version":1,"items":[],"end":99}"#, "end 99"),
-        (r#" {"end":0, "items":[], "version":1} "#, "end 0"),
-        (
-            r#"{"version":1,"items":[],"end":18446744073709551615}"#,
-            "end 18446744073709551615",
-        ),
-        (
-            r#"{"version":1,"items":[],"end":18446744073709551616}"#,
-            "no listing at 0",
-        ),
-        (r#"{"version":1,"items":[],"end":1.0}"#, "no listing at 0"),
-        (r#"{"version":1,"items":[],"end":1e2}"#, "no listing at 0"),
-        (r#"{"version":1,"items":[],"end":-0}"#, "no listing at 0"),
-        (r#"{"version":1,"items":[],"end":"0"}"#, "no listing at 0"),
-        (r#"{"version":1,"items":[],"end":1e999}"#, "not JSON"),
-        (r#"{"version":1,"items":[],"end":01}"#, "not JSON"),
-        // Of a repeated key the last counts.
-        (
-            r#"{"version":2,"version":1,"items":[],"end":1.0,"end":5}"#,
-            "end 5",
-        ),
-        (
-            r#"{"version":1,"version":2,"items":[],"end":5}"#,
-            "no listing at 0",
-        ),
-        (r#"{"version":2,"items":[],"end":5}"#, "no listing at 0"),
-        (r#"{"version":1.0,"items":[],"end":5}"#, "no listing at 0"),
-        (r#"{"version":1,"items":{},"end":5}"#, "no listing at 0"),
-        (r#"{"version":1,"items":[]}"#, "no listing at 0"),
-        (r#"{"items":[],"end":5}"#, "no listing at 0"),
-        (r#"{"version":1,"end":5}"#, "no listing at 0"),
-        (
-            r#"{"version":1,"items":[],"end":5,"features":[]}"#,
-            "no listing at 0",
-        ),
-        (
-            r#"{"version":1,"items":[],"end":5,"x":0}"#,
-            "no listing at 0",
-        ),
-        // The root is looked at before its items.
-        (
-            r#"{"version":2,"items":[{"at":1,"type":{}},7],"end":5}"#,
-            "no listing at 0",
-        ),
-        ("{}", "no listing at 0"),
-        ("[]", "no listing at 0"),
-        ("null", "no listing at 0"),
-        ("", "not JSON"),
-        ("{", "not JSON"),
-        (r#"{"version":1,"items":[],"end":99}x"#, "not JSON"),
-        (r#"{"version":1,"items":[],"end":99,}"#, "not JSON"),
-        (
-            "\u{feff}{\"version\":1,\"items\":[],\"end\":99}",
-            "not JSON",
-        ),
-    ] {
+    for (text, wanted) in ROOTS {
         let read = words(rt.alloc(), text.as_bytes())?;
         assert_eq!(rt; read.as_str(), wanted, "{text}");
     }
@@ -126,109 +129,112 @@ fn roots_read(rt: HostRuntime) -> Result<(), Fail> {
     Ok(())
 }
 
+// Items and what a listing with them reads as.
+const ITEMS: [(&str, &str); 30] = [
+    (
+        r#"{"at":7,"type":{"func":{"params":[["x","u32"],["y","string"]],"result":"bool"}}}"#,
+        "7: func x Primitive(U32) y Primitive(String) gives Primitive(Bool); end 9",
+    ),
+    (
+        r#"{"at":0,"type":{"func":{"params":[]}}},{"import":{"name":"f","type":{"func":4294967295}},"at":1},{"at":2,"export":{"name":"g","sort":"func","index":0}}"#,
+        "0: func; 1: import f Func(4294967295); 2: export g Func 0; end 9",
+    ),
+    // Texts are read as they are meant.
+    (
+        r#"{"at":0,"import":{"name":"\u0066\n","type":{"func":0}}}"#,
+        "0: import f\n Func(0); end 9",
+    ),
+    // No form.
+    ("7", "no listing at 0"),
+    (r#"{"type":{}}"#, "no listing at 0"),
+    (r#"{"at":0}"#, "no listing at 0"),
+    (r#"{"at":0,"x":{}}"#, "no listing at 0"),
+    (r#"{"at":-1,"type":{}}"#, "no listing at 0"),
+    (
+        r#"{"at":18446744073709551616,"type":{}}"#,
+        "no listing at 0",
+    ),
+    (r#"{"type":{},"import":{}}"#, "no listing at 0"),
+    (
+        r#"{"at":0,"type":{}},{"at":1,"type":{},"import":{}},{}"#,
+        "no listing at 1",
+    ),
+    (
+        r#"{"at":0,"type":{}},{"at":1,"type":{},"x":1}"#,
+        "no listing at 1",
+    ),
+    (
+        r#"{"at":0,"type":{}},{"at":1,"canon":{}},{"at":"x","at":2,"start":0},[]"#,
+        "no listing at 3",
+    ),
+    (
+        r#"{"at":0,"import":{"name":"\ud800","type":{"func":0}}}"#,
+        "not JSON",
+    ),
+    // All other bodies.
+    (
+        r#"{"at":0,"core-type":1},{"at":0,"core-module":[]},{"at":0,"core-instance":{}},{"at":0,"component":null}"#,
+        "0: unbuilt; 0: unbuilt; 0: unbuilt; 0: unbuilt; end 9",
+    ),
+    (
+        r#"{"at":0,"instance":1},{"at":0,"alias":[]},{"at":18446744073709551615,"start":{}},{"at":0,"canon":""}"#,
+        "0: unbuilt; 0: unbuilt; 18446744073709551615: unbuilt; 0: unbuilt; end 9",
+    ),
+    (r#"{"at":0,"type":{}}"#, "0: unbuilt; end 9"),
+    (r#"{"at":0,"type":{"func":{}}}"#, "0: unbuilt; end 9"),
+    (
+        r#"{"at":0,"type":{"func":{"params":[],"async":true}}}"#,
+        "0: unbuilt; end 9",
+    ),
+    (
+        r#"{"at":0,"type":{"func":{"params":[]},"x":0}}"#,
+        "0: unbuilt; end 9",
+    ),
+    (
+        r#"{"at":0,"type":{"func":{"params":[],"result":null}}}"#,
+        "0: unbuilt; end 9",
+    ),
+    (
+        r#"{"at":0,"type":{"func":{"params":[["x","u33"]]}}}"#,
+        "0: unbuilt; end 9",
+    ),
+    (
+        r#"{"at":0,"type":{"func":{"params":[["x",0]]}}}"#,
+        "0: unbuilt; end 9",
+    ),
+    (
+        r#"{"at":0,"type":{"func":{"params":[["x"]]}}}"#,
+        "0: unbuilt; end 9",
+    ),
+    (
+        r#"{"at":0,"type":{"func":{"params":[["x","u8","u8"]]}}}"#,
+        "0: unbuilt; end 9",
+    ),
+    (
+        r#"{"at":0,"import":{"name":"f","type":{"func":4294967296}}}"#,
+        "0: unbuilt; end 9",
+    ),
+    (
+        r#"{"at":0,"import":{"name":{"name":"f"},"type":{"func":0}}}"#,
+        "0: unbuilt; end 9",
+    ),
+    (
+        r#"{"at":0,"import":{"name":"f","type":{"func":0},"x":0}}"#,
+        "0: unbuilt; end 9",
+    ),
+    (
+        r#"{"at":0,"export":{"name":"g","sort":"type","index":0}}"#,
+        "0: unbuilt; end 9",
+    ),
+    (
+        r#"{"at":0,"export":{"name":"g","sort":"func","index":0,"type":{"func":0}}}"#,
+        "0: unbuilt; end 9",
+    ),
+];
+
 #[test]
 fn items_read(rt: HostRuntime) -> Result<(), Fail> {
-    for (items, wanted) in [
-        (
-            r#"{"at":7,"type":{"func":{"params":[["x","u32"],["y","string"]],"result":"bool"}}}"#,
-            "7: func x Primitive(U32) y Primitive(String) gives Primitive(Bool); end 9",
-        ),
-        (
-            r#"{"at":0,"type":{"func":{"params":[]}}},{"import":{"name":"f","type":{"func":4294967295}},"at":1},{"at":2,"export":{"name":"g","sort":"func","index":0}}"#,
-            "0: func; 1: import f Func(4294967295); 2: export g Func 0; end 9",
-        ),
-        // Texts are read as they are meant.
-        (
-            r#"{"at":0,"import":{"name":"\u0066\n","type":{"func":0}}}"#,
-            "0: import f\n Func(0); end 9",
-        ),
-        // No form.
-        ("7", "no listing at 0"),
-        (r#"{"type":{}}"#, "no listing at 0"),
-        (r#"{"at":0}"#, "no listing at 0"),
-        (r#"{"at":0,"x":{}}"#, "no listing at 0"),
-        (r#"{"at":-1,"type":{}}"#, "no listing at 0"),
-        (
-            r#"{"at":18446744073709551616,"type":{}}"#,
-            "no listing at 0",
-        ),
-        (r#"{"type":{},"import":{}}"#, "no listing at 0"),
-        (
-            r#"{"at":0,"type":{}},{"at":1,"type":{},"import":{}},{}"#,
-            "no listing at 1",
-        ),
-        (
-            r#"{"at":0,"type":{}},{"at":1,"type":{},"x":1}"#,
-            "no listing at 1",
-        ),
-        (
-            r#"{"at":0,"type":{}},{"at":1,"canon":{}},{"at":"x","at":2,"start":0},[]"#,
-            "no listing at 3",
-        ),
-        (
-            r#"{"at":0,"import":{"name":"\ud800","type":{"func":0}}}"#,
-            "not JSON",
-        ),
-        // All other bodies.
-        (
-            r#"{"at":0,"core-type":1},{"at":0,"core-module":[]},{"at":0,"core-instance":{}},{"at":0,"component":null}"#,
-            "0: unbuilt; 0: unbuilt; 0: unbuilt; 0: unbuilt; end 9",
-        ),
-        (
-            r#"{"at":0,"instance":1},{"at":0,"alias":[]},{"at":18446744073709551615,"start":{}},{"at":0,"canon":""}"#,
-            "0: unbuilt; 0: unbuilt; 18446744073709551615: unbuilt; 0: unbuilt; end 9",
-        ),
-        (r#"{"at":0,"type":{}}"#, "0: unbuilt; end 9"),
-        (r#"{"at":0,"type":{"func":{}}}"#, "0: unbuilt; end 9"),
-        (
-            r#"{"at":0,"type":{"func":{"params":[],"async":true}}}"#,
-            "0: unbuilt; end 9",
-        ),
-        (
-            r#"{"at":0,"type":{"func":{"params":[]},"x":0}}"#,
-            "0: unbuilt; end 9",
-        ),
-        (
-            r#"{"at":0,"type":{"func":{"params":[],"result":null}}}"#,
-            "0: unbuilt; end 9",
-        ),
-        (
-            r#"{"at":0,"type":{"func":{"params":[["x","u33"]]}}}"#,
-            "0: unbuilt; end 9",
-        ),
-        (
-            r#"{"at":0,"type":{"func":{"params":[["x",0]]}}}"#,
-            "0: unbuilt; end 9",
-        ),
-        (
-            r#"{"at":0,"type":{"func":{"params":[["x"]]}}}"#,
-            "0: unbuilt; end 9",
-        ),
-        (
-            r#"{"at":0,"type":{"func":{"params":[["x","u8","u8"]]}}}"#,
-            "0: unbuilt; end 9",
-        ),
-        (
-            r#"{"at":0,"import":{"name":"f","type":{"func":4294967296}}}"#,
-            "0: unbuilt; end 9",
-        ),
-        (
-            r#"{"at":0,"import":{"name":{"name":"f"},"type":{"func":0}}}"#,
-            "0: unbuilt; end 9",
-        ),
-        (
-            r#"{"at":0,"import":{"name":"f","type":{"func":0},"x":0}}"#,
-            "0: unbuilt; end 9",
-        ),
-        (
-            r#"{"at":0,"export":{"name":"g","sort":"type","index":0}}"#,
-            "0: unbuilt; end 9",
-        ),
-        (
-            r#"{"at":0,"export":{"name":"g","sort":"func","index":0,"type":{"func":0}}}"#,
-            "0: unbuilt; end 9",
-        ),
-    ] {
+    for (items, wanted) in ITEMS {
         let text = root(rt.alloc(), items)?;
         let read = words(rt.alloc(), text.as_bytes())?;
         assert_eq!(rt; read.as_str(), wanted, "{items}");
