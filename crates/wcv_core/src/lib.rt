@@ -1,6 +1,7 @@
 //! The base of the validator: texts, names, kinds of refusal, features and core types.
 #![tactic(auto)]
 
+mod append_only;
 mod core_types;
 mod error;
 mod excerpt;
@@ -13,6 +14,7 @@ mod primitive;
 mod tests;
 mod text;
 
+pub use append_only::{IndexMapAppendOnly, IntoIter, Iter};
 pub use core_types::{
     AbstractHeap, ArrayType, CompositeInnerType, CoreTypeId, EntityType, FieldType, FuncType,
     GlobalType, HeapType, MemoryType, RecGroup, RefType, StorageType, StructType, SubType,
