@@ -1,7 +1,6 @@
 -- The code's writer does what the text says.
 use Rattle.std.proofs.Common.{◌≡◌, ℕ, suc, ◌+◌, List, [], ◌∷◌, ◌++◌, length, refl, sym, ◌∙◌, ap, subst, arith, eqb, eq-eqb, Bool, true, false, cond, ◌&&◌, ◌||◌, Some, None, append_assoc, append-nil, length-append}
-use Rattle.std.specs.Prelude.{codes, Option, is_some, ◌≢◌}
-use Rattle.std.specs.Fmt.{decimal}
+use Rattle.std.specs.Prelude.{codes, ◌≢◌}
 use Rattle.std.specs.BTreeMap.{get, btree_map_len, Updates, is_at, IsEmpty}
 use Rattle.std.specs.declared.collections.BTreeMap.{BTreeMap}
 use Rattle.std.specs.Ordering.{nat_cmp}
@@ -15,13 +14,12 @@ use Rattle.wcv_types.specs.Positions.{position_of, is_there}
 use Rattle.wcv_types.specs.Quoting.{quoted}
 use Rattle.wcv_types.specs.Text.{Written, nothing_written, write, line_text, entry_line, entity_text, node_number, type_text}
 use Rattle.wcv_types.specs.Tree.{Text, head}
-use Rattle.wcv_main.specs.declared.state.FuncEntry.{FuncEntry}
 use Rattle.wcv_main.specs.Context.{Type_tree, Context}
 use Rattle.wcv_main.specs.Growth.{func_tree}
-use Rattle.wcv_main.specs.Reading.{item_at, tree_of, tree_at, entry_at, name_of, IsFuncAt}
+use Rattle.wcv_main.specs.Reading.{item_at, tree_of, tree_at, IsFuncAt}
 use Rattle.wcv_main.specs.TypeText.{form_text, func_entry, write_list, identity_of, number_if, Shows}
 use Rattle.wcv_main.specs.Valid.{type_at_end}
-use Rattle.wcv_main.proofs.TypeTextForms.{known_written, new_written, all_written}
+use Rattle.wcv_main.proofs.TypeTextForms.{new_written, all_written}
 
 -- ## Where an identity stands
 
@@ -91,7 +89,7 @@ number-other is k q d =
     go false e = ap (λ (b : Bool). cond b (Some (position_of same_identity (identity_of q) (is ++ identity_of k ∷ []))) None) e ∙
         sym (ap (λ (b : Bool). cond b (Some (position_of same_identity (identity_of q) is)) None) e)
 
--- a number is there exactly where there is a line, and it is that of the line
+-- where there is no number there is no line, and a number is that of the line
 no_line : (b : Bool) (n : ℕ) → cond b (Some n) None ≡ None → b ≡ false
 no_line true n h = cc
 no_line false n h = refl
@@ -108,12 +106,6 @@ shows_nothing numbers before len none = record { text_is = sym (append-nil befor
 
 func_tree_at : (es : List Entry) (k : ℕ) (f : Func_form) → (item_at es k).form ≡ func_type f → tree_at es k ≡ func_tree (base (k ∷ [])) f
 func_tree_at es k f e = ap (tree_of (base (k ∷ []))) e
-
-pub shows_known : (numbers : BTreeMap ℕ ℕ Global) (before text : Text) (w : Written) (es : List Entry) (k number : ℕ) → IsFuncAt es k → get nat_cmp numbers k ≡ Some number →
-    Shows numbers before text w → Shows numbers before text (write w (tree_at es k))
-shows_known numbers before text w es k number f e h =
-    let there = (a_line (is_there same_identity (identity_of k) w.nodes) (position_of same_identity (identity_of k) w.nodes) number (sym (h.numbered k) ∙ e)).0 in
-    subst (Shows numbers before text) (sym (ap (write w) (func_tree_at es k f.0 f.1) ∙ known_written w k f.0 there)) h
 
 pub shows_new : (numbers more : BTreeMap ℕ ℕ Global) (before text next : Text) (w : Written) (es : List Entry) (k number : ℕ) (f : Func_form) → (item_at es k).form ≡ func_type f → get nat_cmp numbers k ≡ None →
     number ≡ btree_map_len numbers → next ≡ text ++ line_text number (form_text f) → Updates nat_cmp numbers more k (Some number) → btree_map_len more ≡ btree_map_len numbers + 1 →
@@ -153,7 +145,7 @@ pub shows_entry : (numbers : BTreeMap ℕ ℕ Global) (before text next : Text) 
     next ≡ text ++ func_entry word name number → Shows numbers before text w → Shows numbers before next (entry_line w word name (tree_at es k))
 shows_entry numbers before text next w es word name k number f e en h = record {
   text_is = en ∙ ap (λ (x : Text). x ++ func_entry word name number) h.text_is ∙ append_assoc before w.text (func_entry word name number) ∙
-  ap (λ (x : Text). before ++ (w.text ++ x)) (entry_said numbers before text w es word name k number f e h) ∙ regroup before w.text (word ++ quoted name ++ codes " " ++ entity_text w (head (tree_at es k)) (tree_at es k));
+      ap (λ (x : Text). before ++ (w.text ++ x)) (entry_said numbers before text w es word name k number f e h) ∙ regroup before w.text (word ++ quoted name ++ codes " " ++ entity_text w (head (tree_at es k)) (tree_at es k));
   count = h.count;
   numbered = h.numbered;
 }

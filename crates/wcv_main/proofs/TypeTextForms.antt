@@ -1,5 +1,5 @@
 -- The line of a function over primitives, and the lines of entries.
-use Rattle.std.proofs.Common.{◌≡◌, ℕ, zero, suc, ◌+◌, ◌<◌, ◌≤◌, List, [], ◌∷◌, ◌++◌, length, map, Bool, true, false, cond, Option, Some, None, refl, sym, ◌∙◌, ap, drop, take, drop-cons, get_or, add-one, append_assoc}
+use Rattle.std.proofs.Common.{◌≡◌, ℕ, suc, ◌+◌, ◌<◌, ◌≤◌, List, [], ◌∷◌, ◌++◌, length, map, Bool, false, cond, Option, Some, None, refl, sym, ◌∙◌, ap, drop, take, drop-cons, get_or, add-one}
 use Rattle.std.specs.Prelude.{codes}
 use Rattle.std.proofs.Math.ListN.{drop_of_length-le}
 use Rattle.std.proofs.lemmas.List.{take_more}
@@ -61,14 +61,7 @@ params_same w u before (p ∷ ps) r =
 form_same : (w : Written) (i : Name) (f : Func_form) → func_text w false (parts (func_tree i f)) ≡ form_text f
 form_same w i f = ap (λ (x : Text). ([] ++ codes "func {") ++ x) (params_same w nothing_written [] f.params f.result)
 
--- a function that has a line
-pub known_written : (w : Written) (k : ℕ) (f : Func_form) → is_there same_identity (identity_of k) w.nodes ≡ true → write w (func_tree (base (k ∷ [])) f) ≡ w
-known_written w k f h =
-    let i : Name = base (k ∷ []) in
-    let ps : Parts Name Name = parts (func_tree i f) in
-    ap (λ (b : Bool). cond b w (line_if (write_parts w ps) (Some (identity_of k)) (func i false) ps)) h
-
--- a function that has none gets the next
+-- a function that has no line gets the next
 pub new_written : (w : Written) (k : ℕ) (f : Func_form) → is_there same_identity (identity_of k) w.nodes ≡ false →
     write w (func_tree (base (k ∷ [])) f) ≡ record w { nodes = w.nodes ++ identity_of k ∷ []; text = w.text ++ line_text (length w.nodes) (form_text f) }
 new_written w k f h =

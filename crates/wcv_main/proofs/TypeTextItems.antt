@@ -1,15 +1,12 @@
 -- What the items at the positions of a state write.
-use Rattle.std.proofs.Common.{◌≡◌, ℕ, zero, suc, ◌<◌, ◌≤◌, List, [], ◌∷◌, length, get_or, Option, Some, None, refl, sym, ap, ◌∙◌, arith}
+use Rattle.std.proofs.Common.{◌≡◌, ℕ, zero, suc, ◌<◌, ◌≤◌, List, [], ◌∷◌, length, get_or, Option, Some, None, refl, ap, ◌∙◌, arith}
 use Rattle.std.specs.Option.{option_map, IsSome}
-use Rattle.wcv_syntax.specs.declared.component_type.ComponentFuncType.{ComponentFuncType}
 use Rattle.wcv_syntax.specs.declared.item.Item.{Item}
-use Rattle.wcv_syntax.specs.Model.{Func_form, Ref, func_ref, Form, func_type, import, export_func, unbuilt}
+use Rattle.wcv_syntax.specs.Model.{unbuilt}
 use Rattle.wcv_syntax.specs.View.{section_view, item_view, entries}
 use Rattle.wcv_syntax.proofs.Views.{item_view-made}
-use Rattle.wcv_types.specs.Tree.{Text}
-use Rattle.wcv_main.specs.Forms.{as_func, as_import, as_export}
-use Rattle.wcv_main.specs.Reading.{Each, item_at, name_of, IsFuncAt}
-use Rattle.wcv_main.proofs.Items.{item_found, func_form, import_form, export_form}
+use Rattle.wcv_main.specs.Reading.{Each, item_at, IsFuncAt}
+use Rattle.wcv_main.proofs.Items.{item_found}
 
 item_form : (x : Item) → (item_view x).form ≡ section_view x.section
 item_form x = ap (λ e. e.form) (item_view-made x.offset x.section)
@@ -41,18 +38,6 @@ func_below (x ∷ items) (suc k) f =
 pub surely_some : {X Y : Type 0} (f : X → Y) (o : Option X) (y : Y) → option_map f o ≡ Some y → IsSome o
 surely_some f None y h = cc
 surely_some f (Some x) y h = refl
-
-pub import_name : (f : Form) (n : Text) (k : ℕ) → Some (n, k) ≡ as_import f → n ≡ name_of f
-import_name f n k e = sym (ap name_of (import_form f n k e))
-
-pub export_name : (f : Form) (n : Text) (k : ℕ) → Some (n, k) ≡ as_export f → n ≡ name_of f
-export_name f n k e = sym (ap name_of (export_form f n k e))
-
-pub no_name : (f : Form) → None ≡ as_import f → None ≡ as_export f → [] ≡ name_of f
-no_name (func_type f) a b = refl
-no_name (import n (func_ref k)) a b = cc
-no_name (export_func n k) a b = cc
-no_name unbuilt a b = refl
 
 pub each_there : {X : Type 0} (P : X → Type 0) (xs : List X) (i : ℕ) (d : X) → Each P xs → i < length xs → P (get_or xs i d)
 each_there P [] i d h l = absurd (omega arith)

@@ -150,11 +150,7 @@ fn push_form(text: &mut String, func: &ComponentFuncType) -> Result<(), AllocErr
 }
 
 /// Appends the line of a function behind its number.
-fn push_line(
-    text: &mut String,
-    number: usize,
-    func: &ComponentFuncType,
-) -> Result<(), AllocError>
+fn push_line(text: &mut String, number: usize, func: &ComponentFuncType) -> Result<(), AllocError>
     ensures { OnOk result (string_bytes text.new ≡ string_bytes text.old ++ text_of.line_text number (form_text (func_view func.now))) }
 {
     write!(text, "{number}: ")?;
@@ -215,12 +211,7 @@ fn push_type_at(
 }
 
 /// Appends the line of an entry for a function, behind a word that says whether it is an import.
-fn push_entry(
-    text: &mut String,
-    word: &str,
-    name: &str,
-    number: usize,
-) -> Result<(), AllocError>
+fn push_entry(text: &mut String, word: &str, name: &str, number: usize) -> Result<(), AllocError>
     ensures { OnOk result (string_bytes text.new ≡ string_bytes text.old ++ func_entry word.now name.now number) }
 {
     text.push_str(word)?;
@@ -259,4 +250,30 @@ pub fn push_type(
     let mut numbers: BTreeMap<usize, usize> = BTreeMap::new(alloc);
     push_entries(text, &mut numbers, items, "import ", &state.imports)?;
     push_entries(text, &mut numbers, items, "export ", &state.exports)
+}
+
+#[cfg(test)]
+mod tests {
+    use super::push_quoted;
+    use std::test::Fail;
+
+    #[test]
+    fn texts_stand_between_quotes(rt: HostRuntime) -> Result<(), Fail> {
+        let cases = [
+            ("", r#""""#),
+            (r#"a"b\c"#, r#""a\"b\\c""#),
+            ("\0\x07\t\n\x1f", r#""\x00\x07\x09\x0a\x1f""#),
+            (" ~\x7f", r#"" ~\x7f""#),
+            (
+                "gr\u{fc}n \u{80} \u{1f600}",
+                "\"gr\u{fc}n \u{80} \u{1f600}\"",
+            ),
+        ];
+        for (text, quoted) in cases {
+            let mut written = String::new(rt.alloc());
+            push_quoted(&mut written, text)?;
+            assert_eq!(rt; written.as_str(), quoted);
+        }
+        Ok(())
+    }
 }

@@ -1,4 +1,4 @@
-use Rattle.std.proofs.Common.{◌≡◌, ◌∙◌, ap, sym, get_or, Some}
+use Rattle.std.proofs.Common.{◌∙◌, ap, sym, get_or}
 use Rattle.std.specs.Option.{option_map}
 use Rattle.wcv_syntax.specs.declared.item.Item.{Item}
 use Rattle.wcv_syntax.specs.View.{func_view, section_view}

@@ -1,5 +1,4 @@
-use Rattle.std.proofs.Common.{◌≡◌, ◌<◌, ◌≤◌, ◌∙◌, ap, sym, get_or, length, rules, arith}
-use Rattle.std.proofs.lemmas.Grind.{common_steps}
+use Rattle.std.proofs.Common.{◌≡◌, ◌<◌, ◌≤◌, ◌∙◌, ap, sym, get_or, length, rules}
 use Rattle.wcv_main.specs.Reading.{name_of}
 use Rattle.wcv_main.proofs.TypeTextItems.{form_at, none_at}
 use Rattle.wcv_main.proofs.type_text.name_at.Goals as goal

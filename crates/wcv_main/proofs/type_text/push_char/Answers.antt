@@ -1,6 +1,4 @@
-use Rattle.std.proofs.Common.{◌≡◌, ◌∙◌, ◌++◌, ap, sym, List, ℕ, string_bytes, rules, arith}
-use Rattle.std.proofs.lemmas.Grind.{common_steps}
-use Rattle.wcv_types.specs.Quoting.{quoted_bytes}
+use Rattle.std.proofs.Common.{rules}
 use Rattle.wcv_main.proofs.TypeTextQuoting.{plain_char}
 use Rattle.wcv_main.proofs.type_text.push_char.Goals as goal
 
