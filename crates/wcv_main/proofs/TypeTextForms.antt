@@ -1,7 +1,6 @@
 -- The line of a function over primitives, and the lines of entries.
-use Rattle.std.proofs.Common.{◌≡◌, ℕ, suc, ◌+◌, ◌<◌, ◌≤◌, List, [], ◌∷◌, ◌++◌, length, map, Bool, false, cond, Option, Some, None, refl, sym, ◌∙◌, ap, drop, take, drop-cons, get_or, add-one}
+use Rattle.std.proofs.Common.{◌≡◌, ℕ, ◌+◌, ◌<◌, List, [], ◌∷◌, ◌++◌, length, map, Bool, false, cond, Option, Some, None, refl, ◌∙◌, ap, take, get_or}
 use Rattle.std.specs.Prelude.{codes}
-use Rattle.std.proofs.Math.ListN.{drop_of_length-le}
 use Rattle.std.proofs.lemmas.List.{take_more}
 use Rattle.wcv_core.specs.Names.{Name, base}
 use Rattle.wcv_syntax.specs.declared.component_type.ComponentValType.{ComponentValType}
@@ -14,19 +13,8 @@ use Rattle.wcv_types.specs.Tree.{Text, Parts, none, part, here, import, export, 
 use Rattle.wcv_types.specs.Tree as tree
 use Rattle.wcv_main.specs.Context.{Type_tree, Context}
 use Rattle.wcv_main.specs.Growth.{value_tree, param_tree, result_tree, func_tree}
-use Rattle.wcv_main.specs.TypeText.{separator, form_text, write_list, identity_of}
+use Rattle.wcv_main.specs.TypeText.{form_text, write_list, identity_of}
 use Rattle.wcv_main.specs.Valid.{type_at_end}
-
--- ## Parameters one after another
-
-pub next_param : (ps : List (Text × ComponentValType)) (rest : Parts Name Name) (i : ℕ) (p : Text × ComponentValType) → i < length ps → p ≡ get_or ps i p →
-    params_text nothing_written (separator i) (fields (map param_tree (drop i ps)) rest) ≡
-    param_text (separator i) p.0 (mention nothing_written (value_tree p.1)) ++ params_text nothing_written (separator (i + 1)) (fields (map param_tree (drop (i + 1) ps)) rest)
-next_param ps rest i p h e =
-    ap (λ (qs : List (Text × ComponentValType)). params_text nothing_written (separator i) (fields (map param_tree qs) rest)) (drop-cons ps i p h ∙ ap (λ (q : Text × ComponentValType). q ∷ drop (suc i) ps) (sym e)) ∙ rw add-one refl
-
-pub no_params : (ps : List (Text × ComponentValType)) (rest : Parts Name Name) (i : ℕ) → length ps ≤ i → params_text nothing_written (separator i) (fields (map param_tree (drop i ps)) rest) ≡ params_text nothing_written (separator i) rest
-no_params ps rest i h = ap (λ (qs : List (Text × ComponentValType)). params_text nothing_written (separator i) (fields (map param_tree qs) rest)) (drop_of_length-le ps h)
 
 -- ## A function over primitives
 

@@ -1,5 +1,5 @@
 // The text of the type of a component that was read.
-ghost use Rattle.std.specs.Prelude.{◌≡◌, ℕ, ◌<◌, ◌/◌, ◌%◌, [], ◌∷◌, ◌++◌, Some, codes, encode_utf8, string_bytes, OnOk, IfOk, map};
+ghost use Rattle.std.specs.Prelude.{◌≡◌, ◌<◌, ◌/◌, ◌%◌, [], ◌∷◌, ◌++◌, Some, codes, encode_utf8, string_bytes, OnOk, IfOk, map};
 ghost use Rattle.std.specs.BTreeMap.{get};
 ghost use Rattle.std.specs.Ordering.{nat_cmp};
 ghost use Rattle.wcv_syntax.specs.Model.{func_type};
