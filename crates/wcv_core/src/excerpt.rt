@@ -3,7 +3,8 @@ use std::fmt;
 
 const LONGEST: usize = 64;
 
-/// Shows at most the first 64 bytes of a text, cut at a character.
+/// Shows at most the first 64 bytes of a text, cut at a character. A control character is shown as the
+/// replacement character, so that a message stays one line.
 #[derive(Clone, Copy)]
 pub struct Excerpt<'a>(pub &'a str);
 
@@ -16,7 +17,7 @@ impl fmt::Display for Excerpt<'_> {
                 break;
             }
             room -= width;
-            f.write_char(c)?;
+            f.write_char(if c.is_control() { '\u{fffd}' } else { c })?;
         }
         Ok(())
     }

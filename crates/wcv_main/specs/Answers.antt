@@ -42,12 +42,6 @@ abbrev pub Cuts : List (List ℕ) → Option (List ℕ) → Status → Option (L
 Cuts words left s old new = MayStandIn s
     → IfSome left (λ bytes. (due : Status) × (text : List ℕ) × Gives (due_of words bytes) due text × AppendsFront old new text)
 
--- the source gave this many bytes
-abbrev pub HasRead : Option (List ℕ) → Option (List ℕ) → ℕ → Type 0
-HasRead None after n = ⊥
-HasRead (Some bytes) None n = ⊥
-HasRead (Some bytes) (Some rest) n = length bytes ≡ n + length rest
-
 -- the whole text was written, or a front of it before a fault
 abbrev pub Finishes : Status → Status → Option (List ℕ) → Option (List ℕ) → List ℕ → ℕ → ℕ → Type 0
 Finishes result s old new text before now =

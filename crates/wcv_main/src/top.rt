@@ -139,6 +139,7 @@ pub fn run<S: Source, K: Sink>(alloc: Global, words: &Words, source: &mut S, sin
     ensures cuts { Cuts words.now (S.left source.old) result (K.taken sink.old) (K.taken sink.new) }
     ensures words { is_validate words.now ≡ false → (result ≡ Status.Words) ⊎ MayStandIn result }
     ensures usage { result ≡ Status.Words → (is_validate words.now ≡ false) × Appends (K.taken sink.old) (K.taken sink.new) usage }
+    ensures unread { is_validate words.now ≡ false → source.new ≡ source.old }
     ensures read_fault { result ≡ Status.ReadFault → Rose (S.faults source.old) (S.faults source.new) × Appends (K.taken sink.old) (K.taken sink.new) [] }
     ensures read_always { S.faults source.old < S.faults source.new → result ≡ Status.ReadFault }
     ensures write_fault { result ≡ Status.WriteFault → Rose (K.faults sink.old) (K.faults sink.new) }
