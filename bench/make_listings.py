@@ -1,0 +1,66 @@
+"""Makes the listings that are measured: those that a user's tool would write, and the largest that the
+program accepts now."""
+import json
+
+PRIMITIVES = "bool s8 u8 s16 u16 s32 u32 s64 u64 f32 f64 char string".split()
+
+
+def write_listing(file, items):
+    """Writes the items, one a line, until there are no more, and returns how many there were."""
+    count = 0
+    with open(file, "w", encoding="ascii") as out:
+        out.write('{"version": 1, "items": [\n')
+        for count, item in enumerate(items, 1):
+            out.write((",\n" if count > 1 else "") + json.dumps({"at": 8 + 23 * count, **item}))
+        out.write(f'\n], "end": {31 + 23 * count}}}\n')
+    return count
+
+
+def func_type(params, result):
+    return {"type": {"func": {"params": params, "result": result}}}
+
+
+def import_of(name, index):
+    return {"import": {"name": name, "type": {"func": index}}}
+
+
+def export_of(name, index):
+    return {"export": {"name": name, "sort": "func", "index": index}}
+
+
+def ordinary(limit):
+    """A function type, its import and an export of that in turn, some 100 bytes an item, until their
+    lines have so many bytes. Each third item makes a type, and the other two make functions."""
+    size, k = 60, 0
+    while size < limit - 100:
+        group = k // 3
+        params = [["first", PRIMITIVES[group % 13]], ["second", PRIMITIVES[group // 13 % 13]]]
+        item = (
+            func_type(params, PRIMITIVES[group // 7 % 13]),
+            import_of(f"imported-function-with-the-number-n{k}", group),
+            export_of(f"exported-function-with-the-number-n{k}", 2 * group),
+        )[k % 3]
+        yield item
+        size += len(json.dumps({"at": 31 + 23 * k, **item})) + 2
+        k += 1
+
+
+def long_names():
+    """1,000 items: 334 types, and 333 imports and 333 exports whose names of 99,900 bytes differ at the
+    end alone."""
+    front = "a" * 99_895 + "n"
+    for k in range(334):
+        yield func_type([["x", PRIMITIVES[k % 13]]], "bool")
+    for k in range(333):
+        yield import_of(f"{front}{k:04}", k)
+    for k in range(333):
+        yield export_of(f"{front}{k:04}", k)
+
+
+def many_params():
+    """1,000 items: 500 types of 100 parameters with names of 1,290 bytes, each of them imported."""
+    front = "a" * 1_286 + "n"
+    for k in range(500):
+        yield func_type([[f"{front}{n:03}", PRIMITIVES[(k + n) % 13]] for n in range(100)], "bool")
+    for k in range(500):
+        yield import_of(f"f{k}", k)
