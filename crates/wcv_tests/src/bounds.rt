@@ -19,12 +19,7 @@ fn func_type(alloc: Global, params: u64, length: usize) -> Result<String, Fail> 
 #[test]
 fn what_is_built_is_bounded(rt: HostRuntime) -> Result<(), Fail> {
     let alloc = rt.alloc();
-    for (params, length, status) in [
-        (100, 1, 0),
-        (101, 1, 1),
-        (1, 100_000, 0),
-        (1, 100_001, 1),
-    ] {
+    for (params, length, status) in [(100, 1, 0), (101, 1, 1), (1, 100_000, 0), (1, 100_001, 1)] {
         let items = func_type(alloc, params, length)?;
         let listing = root(alloc, items.as_str())?;
         let (code, text) = answer(alloc, "validate", listing, &[], &[])?;
@@ -39,7 +34,10 @@ fn what_is_built_is_bounded(rt: HostRuntime) -> Result<(), Fail> {
     for (length, status) in [(100_000, 0), (100_001, 1)] {
         let name = "n".repeat(alloc, length)?;
         let mut items = func_type(alloc, 1, 1)?;
-        write!(items, ",{{\"at\":1,\"import\":{{\"name\":\"{name}\",\"type\":{{\"func\":0}}}}}}")?;
+        write!(
+            items,
+            ",{{\"at\":1,\"import\":{{\"name\":\"{name}\",\"type\":{{\"func\":0}}}}}}"
+        )?;
         let (code, text) = answer(alloc, "validate", root(alloc, items.as_str())?, &[], &[])?;
         let due = if status == 0 {
             let lines = format!(in alloc; "0: func {{\"p\" u8}} -> -\nimport \"{name}\" func 0\n")?;
@@ -55,7 +53,10 @@ fn what_is_built_is_bounded(rt: HostRuntime) -> Result<(), Fail> {
         let mut items = func_type(alloc, 1, 1)?;
         let mut lines = String::from_str(alloc, "0: func {\"p\" u8} -> -\n")?;
         for k in 1..count {
-            write!(items, ",{{\"at\":{k},\"import\":{{\"name\":\"n{k}\",\"type\":{{\"func\":0}}}}}}")?;
+            write!(
+                items,
+                ",{{\"at\":{k},\"import\":{{\"name\":\"n{k}\",\"type\":{{\"func\":0}}}}}}"
+            )?;
             write!(lines, "import \"n{k}\" func 0\n")?;
         }
         let (code, text) = answer(alloc, "validate", root(alloc, items.as_str())?, &[], &[])?;
