@@ -1,72 +1,95 @@
 // The bounds of what is built, and that on the bytes of a listing.
-use crate::driver::{answer, report, root};
+use crate::driver::{accepted, answer};
 use std::alloc::Global;
 use std::fmt::Write;
 use std::test::Fail;
 
-// A function type of so many parameters, whose first has a name of so many bytes.
-fn func_type(alloc: Global, params: u64, length: usize) -> Result<String, Fail> {
-    let mut text = String::from_str(alloc, r#"{"at":0,"type":{"func":{"params":[["#)?;
-    let name = "p".repeat(alloc, length)?;
-    write!(text, "\"{name}\",\"u8\"]")?;
+// Appends a function type of so many parameters, the first with a name of so many bytes, to the items
+// and to the lines of a report.
+fn push_type(items: &mut String, lines: &mut String, params: u64, name: &str) -> Result<(), Fail> {
+    write!(
+        items,
+        "{{\"at\":0,\"type\":{{\"func\":{{\"params\":[[\"{name}\",\"u8\"]"
+    )?;
+    write!(lines, "0: func {{\"{name}\" u8")?;
     for k in 1..params {
-        write!(text, ",[\"n{k}\",\"u8\"]")?;
+        write!(items, ",[\"n{k}\",\"s8\"]")?;
+        write!(lines, ", \"n{k}\" s8")?;
     }
-    text.push_str("]}}}")?;
-    Ok(text)
+    items.push_str("]}}}")?;
+    lines.push_str("} -> -\n")?;
+    Ok(())
+}
+
+// Appends so many imports, the first with this name, to the items and to the lines of a report.
+fn push_imports(
+    items: &mut String,
+    lines: &mut String,
+    count: u64,
+    name: &str,
+) -> Result<(), Fail> {
+    write!(
+        items,
+        ",{{\"at\":1,\"import\":{{\"name\":\"{name}\",\"type\":{{\"func\":0}}}}}}"
+    )?;
+    write!(lines, "import \"{name}\" func 0\n")?;
+    for k in 2..=count {
+        write!(
+            items,
+            ",{{\"at\":{k},\"import\":{{\"name\":\"n{k}\",\"type\":{{\"func\":0}}}}}}"
+        )?;
+        write!(lines, "import \"n{k}\" func 0\n")?;
+    }
+    Ok(())
+}
+
+// The answer on a type and so many imports of it, and the answer that is due where all are built.
+fn answers(
+    alloc: Global,
+    params: u64,
+    param: &str,
+    imports: u64,
+    import: &str,
+) -> Result<(String, String), Fail> {
+    let mut items = String::new(alloc);
+    let mut lines = String::new(alloc);
+    push_type(&mut items, &mut lines, params, param)?;
+    push_imports(&mut items, &mut lines, imports, import)?;
+    let listing = format!(in alloc; "{{\"version\":1,\"items\":[{items}],\"end\":99}}")?;
+    let funcs = imports.to_string(alloc)?;
+    let due = accepted(alloc, "1", funcs.as_str(), lines.as_str())?;
+    Ok((
+        answer(alloc, "validate", listing.into_bytes(), &[], &[])?,
+        due,
+    ))
 }
 
 #[test]
 fn what_is_built_is_bounded(rt: HostRuntime) -> Result<(), Fail> {
     let alloc = rt.alloc();
-    for (params, length, status) in [(100, 1, 0), (101, 1, 1), (1, 100_000, 0), (1, 100_001, 1)] {
-        let items = func_type(alloc, params, length)?;
-        let listing = root(alloc, items.as_str())?;
-        let (code, text) = answer(alloc, "validate", listing, &[], &[])?;
-        let due = if status == 0 {
-            report(alloc, 1, 0, "")?
+    // A refusal, or none where all is built.
+    for (params, param, imports, import, refusal) in [
+        (100, 1, 1, 1, ""),
+        (101, 1, 1, 1, "1\nrefused Unbuilt at 0\n"),
+        (1, 100_000, 1, 1, ""),
+        (1, 100_001, 1, 1, "1\nrefused Unbuilt at 0\n"),
+        (1, 1, 1, 100_000, ""),
+        (1, 1, 1, 100_001, "1\nrefused Unbuilt at 1\n"),
+        (1, 1, 999, 1, ""),
+        (1, 1, 1_000, 1, "1\nrefused Unbuilt at 1000\n"),
+    ] {
+        let param = "p".repeat(alloc, param)?;
+        let import = "m".repeat(alloc, import)?;
+        let (text, due) = answers(alloc, params, param.as_str(), imports, import.as_str())?;
+        let due = if refusal.is_empty() {
+            due.as_str()
         } else {
-            String::from_str(alloc, "refused Unbuilt at 0\n")?
+            refusal
         };
-        assert_eq!(rt; code, status, "{params} parameters, {length} bytes");
-        assert!(rt; text == due, "{params} parameters, {length} bytes");
-    }
-    for (length, status) in [(100_000, 0), (100_001, 1)] {
-        let name = "n".repeat(alloc, length)?;
-        let mut items = func_type(alloc, 1, 1)?;
-        write!(
-            items,
-            ",{{\"at\":1,\"import\":{{\"name\":\"{name}\",\"type\":{{\"func\":0}}}}}}"
-        )?;
-        let (code, text) = answer(alloc, "validate", root(alloc, items.as_str())?, &[], &[])?;
-        let due = if status == 0 {
-            let lines = format!(in alloc; "0: func {{\"p\" u8}} -> -\nimport \"{name}\" func 0\n")?;
-            report(alloc, 1, 1, lines.as_str())?
-        } else {
-            String::from_str(alloc, "refused Unbuilt at 1\n")?
-        };
-        assert_eq!(rt; code, status, "a name of {length} bytes");
-        assert!(rt; text == due, "a name of {length} bytes");
-    }
-    // The types and imports of a root, up to so many items.
-    for (count, status) in [(1_000, 0), (1_001, 1)] {
-        let mut items = func_type(alloc, 1, 1)?;
-        let mut lines = String::from_str(alloc, "0: func {\"p\" u8} -> -\n")?;
-        for k in 1..count {
-            write!(
-                items,
-                ",{{\"at\":{k},\"import\":{{\"name\":\"n{k}\",\"type\":{{\"func\":0}}}}}}"
-            )?;
-            write!(lines, "import \"n{k}\" func 0\n")?;
-        }
-        let (code, text) = answer(alloc, "validate", root(alloc, items.as_str())?, &[], &[])?;
-        let due = if status == 0 {
-            report(alloc, 1, 999, lines.as_str())?
-        } else {
-            String::from_str(alloc, "refused Unbuilt at 1000\n")?
-        };
-        assert_eq!(rt; code, status, "{count} items");
-        assert!(rt; text == due, "{count} items");
+        assert!(rt;
+            text.as_str() == due,
+            "{params} parameters, {imports} imports: {refusal}"
+        );
     }
     Ok(())
 }
@@ -74,13 +97,11 @@ fn what_is_built_is_bounded(rt: HostRuntime) -> Result<(), Fail> {
 #[test]
 fn the_bytes_of_a_listing_are_bounded(rt: HostRuntime) -> Result<(), Fail> {
     let alloc = rt.alloc();
-    for (spaces, status, due) in [
-        (67_108_864, 3, "bad listing: not JSON\n"),
-        (67_108_865, 7, "listing is longer than 67108864 bytes\n"),
+    for (spaces, due) in [
+        (67_108_864, "3\nbad listing: not JSON\n"),
+        (67_108_865, "7\nlisting is longer than 67108864 bytes\n"),
     ] {
-        let bytes = vec![in alloc; 32; spaces]?;
-        let (code, text) = answer(alloc, "validate", bytes, &[], &[])?;
-        assert_eq!(rt; code, status, "{spaces} spaces");
+        let text = answer(alloc, "validate", vec![in alloc; 32; spaces]?, &[], &[])?;
         assert_eq!(rt; text.as_str(), due, "{spaces} spaces");
     }
     Ok(())

@@ -1,4 +1,4 @@
-// Runs the program over memory.
+// Runs the program over memory, and compares its answers with those of a table.
 use std::alloc::Global;
 use std::fmt::Write;
 use std::test::Fail;
@@ -28,39 +28,74 @@ fn promised(status: Status, text: &str) -> &str {
     }
 }
 
-// The status and the text that a run over these bytes ends with, where the reads and writes of these
-// numbers fail.
+// The status that a run over these bytes ends with, and below it the text, where the reads and writes
+// of these numbers fail.
 pub fn answer(
     alloc: Global,
     line: &str,
     bytes: Vec<u8>,
     reads: &[u64],
     writes: &[u64],
-) -> Result<(u8, String), Fail> {
+) -> Result<String, Fail> {
     let words = words_of(alloc, line)?;
     let mut source = MemorySource::new(bytes, reads.to_vec(alloc)?);
     let mut sink = MemorySink::new(alloc, writes.to_vec(alloc)?);
     let status = run(alloc, &words, &mut source, &mut sink);
     let text = String::from_utf8_lossy(alloc, sink.taken())?;
-    Ok((
-        status.code(),
-        String::from_str(alloc, promised(status, text.as_str()))?,
-    ))
+    let code = status.code();
+    let text = promised(status, text.as_str());
+    Ok(format!(in alloc; "{code}\n{text}")?)
 }
 
-// A listing with these items, whose end is at 99.
-pub fn root(alloc: Global, items: &str) -> Result<Vec<u8>, Fail> {
-    let text = format!(in alloc; "{{\"version\":1,\"items\":[{items}],\"end\":99}}")?;
-    Ok(text.into_bytes())
-}
-
-// The report on a root with so many types and functions, with these lines at its end.
-pub fn report(alloc: Global, types: u64, funcs: u64, lines: &str) -> Result<String, Fail> {
-    let mut text = String::from_str(alloc, "accepted\ncore-types 0\ncore-funcs 0\n")?;
+// The answer on a valid root with so many types and functions, whose report ends with these lines.
+pub fn accepted(alloc: Global, types: &str, funcs: &str, lines: &str) -> Result<String, Fail> {
+    let mut text = String::from_str(alloc, "0\naccepted\ncore-types 0\ncore-funcs 0\n")?;
     text.push_str("core-tags 0\ncore-modules 0\ncore-instances 0\ncore-memories 0\n")?;
     text.push_str("core-tables 0\ncore-globals 0\n")?;
     write!(text, "types {types}\nfuncs {funcs}\n")?;
     text.push_str("values 0\ninstances 0\ncomponents 0\n")?;
     text.push_str(lines)?;
     Ok(text)
+}
+
+// An answer as a table writes it: `accepted TYPES FUNCS` stands for the 15 lines of `accepted`.
+fn due_answer(alloc: Global, short: &str) -> Result<String, Fail> {
+    let Some(rest) = short.strip_prefix("accepted ") else {
+        return Ok(format!(in alloc; "{short}\n")?);
+    };
+    let (counts, lines) = rest.split_once('\n').unwrap_or((rest, ""));
+    let (types, funcs) = counts.split_once(' ').ok_or("a row has no counts")?;
+    let mut due = accepted(alloc, types, funcs, lines)?;
+    if !lines.is_empty() {
+        due.push_str("\n")?;
+    }
+    Ok(due)
+}
+
+// What a row is answered with, where that is not what it says.
+fn wrong_answer(alloc: Global, row: &str) -> Result<Option<String>, Fail> {
+    let (question, due) = row.split_once("\n=> ").ok_or("a row has no answer")?;
+    let (_, question) = question.split_once('\n').ok_or("a row has no title")?;
+    let (words, listing) = question.split_once('\n').unwrap_or((question, ""));
+    let words = words.strip_prefix("wcv").ok_or("a row has no words")?;
+    let bytes = listing.as_bytes().to_vec(alloc)?;
+    let answer = answer(alloc, words.trim_start(), bytes, &[], &[])?;
+    let due = due_answer(alloc, due)?;
+    if answer == due {
+        return Ok(None);
+    }
+    Ok(Some(answer))
+}
+
+// The rows of a table that are not answered as they say, and what they are answered with. Blank lines
+// part the rows. A row has a line that says what it shows, a line `wcv` with the words, the listing, and
+// after `=> ` the status and the text that are promised.
+pub fn wrong_rows(alloc: Global, table: &str) -> Result<String, Fail> {
+    let mut wrong = String::new(alloc);
+    for row in table.trim().split("\n\n") {
+        if let Some(answer) = wrong_answer(alloc, row)? {
+            write!(wrong, "{row}\nis answered with {answer}\n")?;
+        }
+    }
+    Ok(wrong)
 }

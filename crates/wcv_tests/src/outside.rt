@@ -1,73 +1,142 @@
 // Words, bytes that are no listing, and faults.
-use crate::driver::{answer, report, words_of};
+use crate::driver::{accepted, answer, words_of, wrong_rows};
 use std::io;
 use std::io::Write;
 use std::test::Fail;
 use wcv_main::{MemorySource, WriteAdapter, run};
 
+const ROWS: &str = r#"
+No words.
+wcv
+{"version":1,"items":[],"end":99}
+=> 2
+usage: wcv validate, wcv link TURNS or wcv make N
+
+A word too many.
+wcv validate x
+{"version":1,"items":[],"end":99}
+=> 2
+usage: wcv validate, wcv link TURNS or wcv make N
+
+A command in other letters.
+wcv Validate
+{"version":1,"items":[],"end":99}
+=> 2
+usage: wcv validate, wcv link TURNS or wcv make N
+
+A command that is not built.
+wcv make 2
+=> 2
+usage: wcv validate, wcv link TURNS or wcv make N
+
+A number with a leading zero.
+wcv make 01
+=> 2
+usage: wcv validate, wcv link TURNS or wcv make N
+
+A number that is too large.
+wcv make 1001
+=> 2
+usage: wcv validate, wcv link TURNS or wcv make N
+
+Another command that is not built.
+wcv link 2
+{"version":1,"items":[],"end":99}
+=> 2
+usage: wcv validate, wcv link TURNS or wcv make N
+
+A word for help.
+wcv --help
+=> 2
+usage: wcv validate, wcv link TURNS or wcv make N
+
+No bytes.
+wcv validate
+=> 3
+bad listing: not JSON
+
+An object without an end.
+wcv validate
+{
+=> 3
+bad listing: not JSON
+
+Text after the object.
+wcv validate
+{"version":1,"items":[],"end":99} x
+=> 3
+bad listing: not JSON
+
+A number that is too large for JSON.
+wcv validate
+{"version":1,"items":[],"end":1e999}
+=> 3
+bad listing: not JSON
+
+A root that is no object.
+wcv validate
+7
+=> 3
+bad listing at 0
+
+A root without keys.
+wcv validate
+{}
+=> 3
+bad listing at 0
+
+Another version.
+wcv validate
+{"version":2,"items":[],"end":0}
+=> 3
+bad listing at 0
+
+Items that are no list.
+wcv validate
+{"version":1,"items":{},"end":0}
+=> 3
+bad listing at 0
+
+A number with a fraction.
+wcv validate
+{"version":1,"items":[],"end":1.0}
+=> 3
+bad listing at 0
+
+A number of more than 64 bits.
+wcv validate
+{"version":1,"items":[],"end":18446744073709551616}
+=> 3
+bad listing at 0
+
+A key that is not read yet.
+wcv validate
+{"version":1,"items":[],"end":0,"features":[]}
+=> 3
+bad listing at 0
+
+An item that is no object.
+wcv validate
+{"version":1,"items":[7],"end":0}
+=> 3
+bad listing at 0
+
+The bytes are no listing, whatever causes the items before have.
+wcv validate
+{"version":1,"items":[{"at":0,"type":{}},{"at":1,"type":{},"x":1}],"end":0}
+=> 3
+bad listing at 1
+
+Of a key that stands twice the last counts.
+wcv validate
+{"version":2,"version":1,"items":[],"end":0}
+=> accepted 0 0
+"#;
+
 #[test]
 fn words_and_bytes_have_their_status(rt: HostRuntime) -> Result<(), Fail> {
-    let alloc = rt.alloc();
-    let empty = r#"{"version":1,"items":[],"end":99}"#;
-    let usage = "usage: wcv validate, wcv link TURNS or wcv make N\n";
-    let no_json = "bad listing: not JSON\n";
-    let at_0 = "bad listing at 0\n";
-    for (words, listing, status, due) in [
-        ("", empty, 2, usage),
-        ("validate x", empty, 2, usage),
-        ("validate ", empty, 2, usage),
-        ("Validate", empty, 2, usage),
-        ("make 2", "", 2, usage),
-        ("make 01", "", 2, usage),
-        ("make 1001", "", 2, usage),
-        ("link 2", empty, 2, usage),
-        ("--help", "", 2, usage),
-        ("validate", "", 3, no_json),
-        ("validate", "{", 3, no_json),
-        ("validate", "{} x", 3, no_json),
-        (
-            "validate",
-            r#"{"version":1,"items":[],"end":1e999}"#,
-            3,
-            no_json,
-        ),
-        ("validate", "7", 3, at_0),
-        ("validate", "{}", 3, at_0),
-        ("validate", r#"{"version":2,"items":[],"end":0}"#, 3, at_0),
-        ("validate", r#"{"version":1,"items":{},"end":0}"#, 3, at_0),
-        ("validate", r#"{"version":1,"items":[],"end":1.0}"#, 3, at_0),
-        (
-            "validate",
-            r#"{"version":1,"items":[],"end":18446744073709551616}"#,
-            3,
-            at_0,
-        ),
-        (
-            "validate",
-            r#"{"version":1,"items":[],"end":0,"features":[]}"#,
-            3,
-            at_0,
-        ),
-        ("validate", r#"{"version":1,"items":[7],"end":0}"#, 3, at_0),
-        // The bytes are no listing as a whole, whatever the cause of an item before.
-        (
-            "validate",
-            r#"{"version":1,"items":[{"at":0,"type":{}},{"at":1,"type":{},"x":1}],"end":0}"#,
-            3,
-            "bad listing at 1\n",
-        ),
-    ] {
-        let bytes = listing.as_bytes().to_vec(alloc)?;
-        let (code, text) = answer(alloc, words, bytes, &[], &[])?;
-        assert_eq!(rt; code, status, "{words} {listing}");
-        assert_eq!(rt; text.as_str(), due, "{words} {listing}");
-    }
-    // Of a key that stands twice the last counts.
-    let again = b"{\"version\":2,\"version\":1,\"items\":[],\"end\":0}".to_vec(alloc)?;
-    let (code, text) = answer(alloc, "validate", again, &[], &[])?;
-    assert_eq!(rt; code, 0);
-    let due = report(alloc, 0, 0, "")?;
-    assert_eq!(rt; text.as_str(), due.as_str());
+    let wrong = wrong_rows(rt.alloc(), ROWS)?;
+    assert_eq!(rt; wrong.as_str(), "");
     Ok(())
 }
 
@@ -98,29 +167,25 @@ impl Write for BreaksOnce<'_> {
 #[test]
 fn faults_have_their_status(rt: HostRuntime) -> Result<(), Fail> {
     let alloc = rt.alloc();
-    let empty = r#"{"version":1,"items":[],"end":99}"#;
-    let whole = report(alloc, 0, 0, "")?;
+    let empty = b"{\"version\":1,\"items\":[],\"end\":99}";
+    let whole = accepted(alloc, "0", "0", "")?;
     // The first read gives all bytes, and the second says that they have ended.
-    for (read, write, status, due) in [
-        (1, 0, 4, ""),
-        (2, 0, 4, ""),
-        (3, 0, 0, whole.as_str()),
-        (0, 1, 5, ""),
-        (0, 2, 0, whole.as_str()),
-        (2, 1, 4, ""),
+    for (words, read, write, due) in [
+        ("validate", 1, 0, "4\n"),
+        ("validate", 2, 0, "4\n"),
+        ("validate", 3, 0, whole.as_str()),
+        ("validate", 0, 1, "5\n"),
+        ("validate", 0, 2, whole.as_str()),
+        ("validate", 2, 1, "4\n"),
+        // Words that are no command read nothing.
+        ("link 2", 1, 1, "5\n"),
     ] {
-        let bytes = empty.as_bytes().to_vec(alloc)?;
-        let (code, text) = answer(alloc, "validate", bytes, &[read], &[write])?;
-        assert_eq!(rt; code, status, "read {read}, write {write}");
-        assert_eq!(rt; text.as_str(), due, "read {read}, write {write}");
+        let text = answer(alloc, words, empty.to_vec(alloc)?, &[read], &[write])?;
+        assert_eq!(rt; text.as_str(), due, "{words}: read {read}, write {write}");
     }
-    // Words that are no command read nothing.
-    let (code, text) = answer(alloc, "link 2", Vec::new(alloc), &[1], &[1])?;
-    assert_eq!(rt; code, 5);
-    assert_eq!(rt; text.as_str(), "");
     // A later write fails, after a front of the report.
     let words = words_of(alloc, "validate")?;
-    let mut source = MemorySource::new(empty.as_bytes().to_vec(alloc)?, Vec::new(alloc));
+    let mut source = MemorySource::new(empty.to_vec(alloc)?, Vec::new(alloc));
     let mut taken = Vec::new(alloc);
     let mut sink = WriteAdapter::new(BreaksOnce {
         taken: &mut taken,
