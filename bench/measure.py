@@ -3,11 +3,16 @@
 
     bench/measure.py [RUNS]
 
-Each figure is the median of RUNS runs, 5 if not given, in which the programs that are compared take turns.
+Times and memory are medians of RUNS runs, 5 if not given, in which the programs that are compared take
+turns. Where valgrind is there, the instructions of one run are counted too: they do not depend on what
+else the machine does.
 """
 import itertools
 import os
+import re
+import shutil
 import statistics
+import subprocess
 import sys
 import tempfile
 import time
@@ -21,7 +26,8 @@ VALIDATE = [f"{ROOT}/crates/wcv/out/wcv", "validate"]
 
 
 def run_once(words, file):
-    """The wall time, the time of the processor and the peak memory of one run, in seconds and bytes."""
+    """The wall time, the user time, the whole time of the processor and the peak memory of one run, in
+    seconds and bytes."""
     started = time.perf_counter()
     child = os.fork()
     if child == 0:
@@ -29,7 +35,19 @@ def run_once(words, file):
         os.dup2(os.open(os.devnull, os.O_WRONLY), 1)
         os.execv(words[0], words)
     _, status, used = os.wait4(child, 0)
-    return (time.perf_counter() - started, used.ru_utime, used.ru_utime + used.ru_stime, used.ru_maxrss * 1024, status)
+    if status:
+        sys.exit(f"{words[0]} ended with {os.waitstatus_to_exitcode(status)} on {file}")
+    return time.perf_counter() - started, used.ru_utime, used.ru_utime + used.ru_stime, used.ru_maxrss * 1024
+
+
+def count_instructions(words, file, room):
+    """The instructions of one run, or None without valgrind."""
+    if not shutil.which("valgrind"):
+        return None
+    how = ["valgrind", "--tool=callgrind", f"--callgrind-out-file={room}/out"]
+    with open(file, "rb") as given:
+        ran = subprocess.run([*how, *words], stdin=given, capture_output=True, text=True, check=True)
+    return int(re.search(r"Collected : (\d+)", ran.stderr)[1])
 
 
 def measure(programs, file, runs):
@@ -37,44 +55,43 @@ def measure(programs, file, runs):
     taken = [[] for _ in programs]
     for _ in range(runs):
         for program, rows in zip(programs, taken):
-            *row, status = run_once(program, file)
-            if status not in (0, 256):
-                sys.exit(f"{program[0]} ended with {os.waitstatus_to_exitcode(status)} on {file}")
-            rows.append(row)
+            rows.append(run_once(program, file))
     return [[statistics.median(column) for column in zip(*rows)] for rows in taken]
 
 
-def show(row):
-    wall, user, both, peak = row
-    return f"{wall:.3f} s ({user:.3f}; {both:.3f}) | {peak / 1e6:.0f} MB"
+def print_table(first, programs, listings, runs):
+    """One row for each listing and program, with the ratios to the first program."""
+    print(f"\n| {first} | Program | Wall | User | User and system | Peak | Instructions |")
+    print("|---|---|---|---|---|---|---|")
+    with tempfile.TemporaryDirectory() as room:
+        file = f"{room}/listing.json"
+        for name, items, is_counted in listings:
+            count = make_listings.write_listing(file, items)
+            size = os.path.getsize(file)
+            base = None
+            for (program, words), row in zip(programs, measure([it[1] for it in programs], file, runs)):
+                counted = count_instructions(words, file, room) if is_counted else None
+                base = base or (*row, counted)
+                units = [f"{row[0]:.3f} s", f"{row[1]:.3f} s", f"{row[2]:.3f} s", f"{row[3] / 1e6:.0f} MB"]
+                units.append(f"{counted / 1e6:.0f} million" if counted else "")
+                if words != programs[0][1]:
+                    ratios = [a and b and f" ({a / b:.2f})" or "" for a, b in zip((*row, counted), base)]
+                    units = [unit + ratio for unit, ratio in zip(units, ratios)]
+                what = f"{name}: {size:,} bytes, {count:,} items" if words == programs[0][1] else ""
+                print(f"| {what} | {program} | {' | '.join(units)} |", flush=True)
 
 
 def main(runs):
-    print(f"{os.cpu_count()} processors, load {os.getloadavg()[0]:.1f} before the runs, medians of {runs} runs.\n")
-    print("| Listing | Items | Bare parse: wall (user; user and system) | Peak | Reading | Peak | Wall | User | Both | Memory |")
-    print("|---|---|---|---|---|---|---|---|---|---|")
-    with tempfile.TemporaryDirectory() as room:
-        file = f"{room}/listing.json"
-        for megabytes in (1, 8, 64):
-            count = make_listings.write_listing(file, make_listings.ordinary(megabytes * 1_000_000))
-            size = os.path.getsize(file)
-            parse, read = measure([PARSE, READ], file, runs)
-            ratios = " | ".join(f"{b / a:.2f}" for a, b in zip(parse, read))
-            print(f"| {size / 1e6:.1f} MB | {count:,} | {show(parse)} | {show(read)} | {ratios} |", flush=True)
-        if not os.path.isfile(VALIDATE[0]):
-            return
-        print("\n| Listing of 1,000 items | Bytes | Bare parse | Peak | Reading | Peak | Validation | Peak | Wall | User | Both | Memory |")
-        print("|---|---|---|---|---|---|---|---|---|---|---|---|")
-        for name, items in (
-            ("as a tool writes it", itertools.islice(make_listings.ordinary(1_000_000), 1_000)),
-            ("names of 99,900 bytes", make_listings.long_names()),
-            ("types of 100 parameters", make_listings.many_params()),
-        ):
-            make_listings.write_listing(file, items)
-            size = os.path.getsize(file)
-            rows = measure([PARSE, READ, VALIDATE], file, runs)
-            ratios = " | ".join(f"{b / a:.2f}" for a, b in zip(rows[0], rows[2]))
-            print(f"| {name} | {size:,} | {' | '.join(map(show, rows))} | {ratios} |", flush=True)
+    print(f"{os.cpu_count()} processors, load {os.getloadavg()[0]:.1f} at the start, medians of {runs} runs. In brackets: times the bare parse.")
+    ordinary = [(f"{n} MB", make_listings.ordinary(n * 1_000_000), n < 64) for n in (1, 8, 64)]
+    print_table("Listing", [("bare parse", PARSE), ("reading", READ)], ordinary, runs)
+    largest = [
+        ("as a tool writes it", itertools.islice(make_listings.ordinary(1_000_000), 1_000), True),
+        ("long names", make_listings.long_names(), False),
+        ("many parameters", make_listings.many_params(), False),
+    ]
+    print_table("Valid listing of 1,000 items", [("bare parse", PARSE), ("reading", READ), ("validation", VALIDATE)], largest, runs)
+    print(f"\nLoad {os.getloadavg()[0]:.1f} at the end.")
 
 
 main(int(sys.argv[1]) if len(sys.argv) > 1 else 5)
