@@ -16,3 +16,9 @@ pub mod SameText
 pub mod Named
 pub mod FirstPath
 pub mod Examples
+pub mod Grown
+pub mod Unfolding
+pub mod Slots
+pub mod Below
+pub mod Naming
+pub mod Fitting

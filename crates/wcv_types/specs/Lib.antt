@@ -11,3 +11,7 @@ pub mod FirstPath
 pub mod Named
 pub mod Quoting
 pub mod Text
+pub mod Arena
+pub mod Info
+pub mod Unfold
+pub mod Standing

@@ -1,6 +1,18 @@
 //! Type trees of components, their laws, and the text of a type.
 #![tactic(auto)]
 
+mod arena;
+mod component_type;
+mod func_sort;
+mod ids;
+mod info;
+mod item_map;
+mod resource_sort;
+mod shapes;
+mod sorts;
+#[cfg(test)]
+mod tests;
+
 ghost use Rattle.std.specs.Prelude.{◌≡◌, ℕ, List, false, Some, None};
 ghost use Rattle.wcv_core.specs.Names.{Name};
 ghost use Rattle.wcv_types.specs.Identity.{Identity};
@@ -13,6 +25,18 @@ ghost use Rattle.wcv_types.specs.Resources.{Free, substitute, Admits};
 ghost use Rattle.wcv_types.specs.Seen.{Within, seen};
 ghost use Rattle.wcv_types.specs.Text.{type_text};
 ghost use Rattle.wcv_types.specs.Tree.{Text, Tree};
+
+pub use arena::{Node, TypeAlloc};
+pub use component_type::{ComponentType, Paths};
+pub use ids::{
+    AliasableResourceId, ComponentAnyTypeId, ComponentCoreInstanceTypeId,
+    ComponentCoreModuleTypeId, ComponentCoreTypeId, ComponentDefinedTypeId, ComponentFuncTypeId,
+    ComponentInstanceTypeId, ComponentTypeId, Part, ResourceId,
+};
+pub use info::TypeInfo;
+pub use item_map::{ComponentItem, ItemMap};
+pub use shapes::{ComponentEntityType, ComponentFuncType, ComponentValType};
+pub use sorts::{NodeSort, TypeSort};
 
 /// Types that are equal up to renaming of resources and of identities have one text.
 #[tactic(auto, using(crate::proofs::SameText::same_text))]

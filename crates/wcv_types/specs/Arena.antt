@@ -1,0 +1,8 @@
+-- What contracts see of an arena.
+use Rattle.std.specs.Prelude.{ℕ, List}
+use Rattle.wcv_types.specs.declared.arena.Node.{Node}
+
+-- its nodes in order, and how many resources were made
+pub record Arena : Type 0 where
+  pub nodes : List Node
+  pub made : ℕ

@@ -1,0 +1,187 @@
+-- The tree that a node of the arena stands for.
+use Rattle.std.specs.Prelude.{ℕ, suc, min, ◌≡◌, Bool, true, false, List, [], ◌∷◌, ◌++◌, length, slice_get, slice_index_or, Option, Some, None}
+use Rattle.wcv_core.specs.Names.{Name, number, stamp}
+use Rattle.wcv_core.specs.declared.primitive.PrimitiveValType.{PrimitiveValType}
+use Rattle.wcv_types.specs.Tree.{Text, Head, nothing, func, Role, here, label, Tree, node, Parts, none, part, primitive_type, resource_type, type_of}
+use Rattle.wcv_types.specs.Measure.{size, depth}
+use Rattle.wcv_types.specs.Arena.{Arena}
+use Rattle.wcv_types.specs.declared.arena.Node.{Node}
+use Rattle.wcv_types.specs.declared.arena.Node.TheVariants as n
+use Rattle.wcv_types.specs.declared.ids.AliasableResourceId.{AliasableResourceId}
+use Rattle.wcv_types.specs.declared.ids.Part.{Part}
+use Rattle.wcv_types.specs.declared.ids.Part.TheVariants as p
+use Rattle.wcv_types.specs.declared.info.TypeInfo.{TypeInfo}
+use Rattle.wcv_types.specs.declared.shapes.ComponentValType.{ComponentValType}
+use Rattle.wcv_types.specs.declared.shapes.ComponentValType.TheVariants as v
+
+-- the tree of a type, by names
+abbrev pub Type_tree : Type 0
+Type_tree = Tree Name Name
+
+-- what is left out
+abbrev pub left_out : Type_tree
+left_out = node nothing none
+
+-- ## Parts
+
+-- where the node of a part stands in the arena
+abbrev pub place : Part → ℕ
+place (p.Defined i) = i.index
+place (p.Func i) = i.index
+place (p.Instance i) = i.index
+place (p.Component i) = i.index
+place (p.Module i) = i.index
+place (p.CoreInstance i) = i.index
+place (p.Resource r) = 0
+place (p.Core i) = 0
+
+-- one more than the place; 0 for a resource reference and for a core type, which are no nodes
+abbrev pub rank : Part → ℕ
+rank (p.Defined i) = suc i.index
+rank (p.Func i) = suc i.index
+rank (p.Instance i) = suc i.index
+rank (p.Component i) = suc i.index
+rank (p.Module i) = suc i.index
+rank (p.CoreInstance i) = suc i.index
+rank (p.Resource r) = 0
+rank (p.Core i) = 0
+
+-- the type is a node and no primitive
+abbrev pub names_node : ComponentValType → Bool
+names_node (v.Primitive q) = false
+names_node (v.Ty i) = true
+
+-- ## Slots
+
+-- what stands at a place among the parts of a node
+pub data Slot : Type 0 where
+  -- a primitive, or what is left out
+  leaf : Option PrimitiveValType → Slot
+  at : Part → Slot
+  -- a type entity, from its created and its referenced part
+  both : Part → Part → Slot
+
+-- what stands among the parts, each in its role
+abbrev pub Slots : Type 0
+Slots = List (Role × Slot)
+
+-- a value type
+abbrev pub value_slot : ComponentValType → Slot
+value_slot (v.Primitive q) = leaf (Some q)
+value_slot (v.Ty i) = at (p.Defined i)
+
+-- a value type that may be left out
+abbrev pub option_slot : Option ComponentValType → Slot
+option_slot None = leaf None
+option_slot (Some t) = value_slot t
+
+-- value types under labels, before others
+abbrev pub field_slots : List (Text × ComponentValType) → Slots → Slots
+field_slots [] rest = rest
+field_slots (f ∷ fs) rest = (label f.0, value_slot f.1) ∷ field_slots fs rest
+
+-- the node at the place k, without its parts
+abbrev pub head_of : ℕ → Node → Head Name Name
+head_of k (n.Func s) = func (number k) s.async_
+
+-- what the node is made of
+abbrev pub slots_of : Node → Slots
+slots_of (n.Func s) = field_slots s.params.items ((here, option_slot s.result) ∷ [])
+
+-- the parts that a slot names
+abbrev pub slot_refs : Slot → List Part
+slot_refs (leaf o) = []
+slot_refs (at q) = q ∷ []
+slot_refs (both c r) = c ∷ r ∷ []
+
+-- the parts that the slots name, in order
+abbrev pub parts_in : Slots → List Part
+parts_in [] = []
+parts_in (s ∷ ss) = slot_refs s.1 ++ parts_in ss
+
+-- the parts of a node, in order
+abbrev pub parts_of : Node → List Part
+parts_of x = parts_in (slots_of x)
+
+-- what the node is made of, if it is there
+abbrev pub slots_if : Option Node → Slots
+slots_if None = []
+slots_if (Some x) = slots_of x
+
+-- what the type is made of, which is nothing for a resource reference and for a core type
+abbrev pub slots_at : List Node → Part → Slots
+slots_at xs (p.Resource r) = []
+slots_at xs (p.Core i) = []
+slots_at xs q = slots_if (slice_get xs (place q))
+
+-- the parts of a type, in order
+abbrev pub parts_at : Arena → Part → List Part
+parts_at a q = parts_in (slots_at a.nodes q)
+
+-- ## Trees
+
+-- a resource reference
+abbrev pub reference : AliasableResourceId → Type_tree
+reference r = resource_type (number r.resource.index) (stamp r.stamp)
+
+-- a primitive, or what is left out
+abbrev pub leaf_tree : Option PrimitiveValType → Type_tree
+leaf_tree None = left_out
+leaf_tree (Some q) = primitive_type q
+
+-- the tree at a place in a list
+abbrev pub tree_in : List Type_tree → ℕ → Type_tree
+tree_in ts k = slice_index_or ts k left_out
+
+-- the tree of a part, over the trees of the nodes; core types are not unfolded yet
+abbrev pub part_tree : List Type_tree → Part → Type_tree
+part_tree ts (p.Resource r) = reference r
+part_tree ts (p.Core i) = left_out
+part_tree ts q = tree_in ts (place q)
+
+-- the tree of what stands at a place among the parts
+abbrev pub slot_tree : List Type_tree → Slot → Type_tree
+slot_tree ts (leaf o) = leaf_tree o
+slot_tree ts (at q) = part_tree ts q
+slot_tree ts (both c r) = type_of (part_tree ts c) (part_tree ts r)
+
+-- the trees of the slots, in their roles
+abbrev pub slot_parts : List Type_tree → Slots → Parts Name Name
+slot_parts ts [] = none
+slot_parts ts (s ∷ ss) = part s.0 (slot_tree ts s.1) (slot_parts ts ss)
+
+-- the node as the next one, over the trees of the older nodes
+abbrev pub tree_of : List Type_tree → Node → Type_tree
+tree_of ts x = node (head_of (length ts) x) (slot_parts ts (slots_of x))
+
+-- the trees of the nodes, after those that are there
+abbrev pub trees_after : List Type_tree → List Node → List Type_tree
+trees_after ts [] = ts
+trees_after ts (x ∷ xs) = trees_after (ts ++ tree_of ts x ∷ []) xs
+
+-- the trees of the nodes
+abbrev pub trees : List Node → List Type_tree
+trees xs = trees_after [] xs
+
+-- the tree of a part
+abbrev pub tree_at : Arena → Part → Type_tree
+tree_at a q = part_tree (trees a.nodes) q
+
+-- the tree of the node at the place k, over the trees of its parts in the same arena
+abbrev pub unfolded : Arena → ℕ → Node → Type_tree
+unfolded a k x = node (head_of k x) (slot_parts (trees a.nodes) (slots_of x))
+
+-- ## What a node keeps of its tree
+
+-- the size and the depth that a node keeps
+abbrev pub info_of : Node → TypeInfo
+info_of (n.Func s) = s.info
+
+-- a number as an info keeps it
+abbrev pub capped : ℕ → ℕ
+capped k = min k 4294967295
+
+-- the size and the depth of the tree
+pub record IsInfoOf (info : TypeInfo) (t : Type_tree) : Type 0 where
+  pub size : info.size ≡ capped (size t)
+  pub depth : info.depth ≡ capped (depth t)

@@ -1,0 +1,104 @@
+// The arena of types.
+ghost use Rattle.std.specs.Prelude.{◌≡◌, suc, ◌+◌, List, [], ◌∷◌, length, slice_get, Some, All, OnOk, OnErr, IfOk};
+ghost use Rattle.wcv_types.specs.Unfold.{place, rank, parts_of, tree_at, tree_of, trees, unfolded};
+ghost use Rattle.wcv_types.specs.Standing.{Stands, StandsBefore, Fits, AllFit, KeepsTrees, with_node};
+
+use crate::ids::{AliasableResourceId, ResourceId};
+use crate::shapes::ComponentFuncType;
+use crate::sorts::NodeSort;
+use std::alloc::Global;
+use std::marker::Model;
+use wcv_core::{OutOfMemory, WasmFeatures};
+
+/// A node of the arena.
+#[derive(Drop)]
+pub enum Node {
+    Func(ComponentFuncType),
+}
+
+/// An arena of types, in which parts stand before the whole. Contracts see it as its nodes and the
+/// number of resources that it made.
+#[derive(Drop)]
+pub struct TypeAlloc {
+    pub(crate) nodes: Vec<Node>,
+    resources: Vec<ResourceId>,
+    features: WasmFeatures,
+    alloc: Global,
+}
+
+impl Model for TypeAlloc {
+    ghost use Rattle.std.specs.Prelude.{length};
+    ghost use Rattle.wcv_types.specs.Arena.{Arena};
+    ghost use Rattle.wcv_types.specs.Standing.{AllFit};
+
+    ghost Value = { Arena };
+
+    ghost view = { λ a. record { nodes = a.nodes.items; made = length a.resources.items } };
+
+    ghost invariant = { λ a. AllFit (record { nodes = a.nodes.items; made = length a.resources.items }) };
+}
+
+impl TypeAlloc {
+    /// An arena with no node.
+    pub fn new(alloc: Global, features: WasmFeatures) -> TypeAlloc
+        ensures { result ≡ record { nodes = []; made = 0 } }
+    {
+        TypeAlloc {
+            nodes: Vec::new(alloc),
+            resources: Vec::new(alloc),
+            features,
+            alloc,
+        }
+    }
+
+    /// The allocator that the arena keeps.
+    pub fn allocator(&self) -> Global {
+        self.alloc
+    }
+
+    /// A resource and a stamp that stood nowhere.
+    pub fn alloc_resource_id(&mut self) -> Result<AliasableResourceId, OutOfMemory>
+        ensures made { OnOk result (self.new ≡ record self.old { made = self.old.made + 1 }) }
+        ensures last { IfOk result (λ id. id ≡ record { resource = record { index = self.old.made }; stamp = self.old.made }) }
+        ensures err { OnErr result (self.new ≡ self.old) }
+    {
+        let index = self.resources.len() as u64;
+        let resource = ResourceId { index };
+        self.resources.push(resource)?;
+        Ok(AliasableResourceId {
+            resource,
+            stamp: index,
+        })
+    }
+
+    /// Tells a proof that each node fits those before it.
+    pub fn learn(&self)
+        ensures { AllFit self.now }
+    {
+        let _ = &self.nodes;
+    }
+
+    /// The node.
+    pub fn get<S: NodeSort>(&self, id: S) -> &S::Shape
+        requires { Stands self.now (S.as_part id) }
+        ensures found { slice_get self.now.nodes (place (S.as_part id)) ≡ Some (S.as_node result.now) }
+        ensures unfolds { tree_at self.now (S.as_part id) ≡ unfolded self.now (place (S.as_part id)) (S.as_node result.now) }
+        ensures before { All (StandsBefore self.now (rank (S.as_part id))) (parts_of (S.as_node result.now)) }
+    {
+        S::node(self, id)
+    }
+
+    /// A new node, after all others.
+    #[tactic(auto, using(crate::proofs::Grown::tree_at_last, crate::proofs::Grown::push_keeps))]
+    pub fn push_ty<S: NodeSort>(&mut self, shape: S::Shape) -> Result<S, OutOfMemory>
+        requires { Fits self.old (S.as_node shape) }
+        ensures added { IfOk result (λ _. self.new ≡ with_node self.old (S.as_node shape)) }
+        ensures last { IfOk result (λ id. rank (S.as_part id) ≡ suc (length self.old.nodes)) }
+        ensures stands { IfOk result (λ id. Stands self.new (S.as_part id)) }
+        ensures tree { IfOk result (λ id. tree_at self.new (S.as_part id) ≡ tree_of (trees self.old.nodes) (S.as_node shape)) }
+        ensures stay { IfOk result (λ _. KeepsTrees self.old self.new) }
+        ensures err { OnErr result (self.new ≡ self.old) }
+    {
+        S::store(self, shape)
+    }
+}

@@ -1,0 +1,80 @@
+// Imports and exports by name.
+ghost use Rattle.std.specs.Prelude.{◌≡◌, List, [], ◌∷◌, ◌++◌, length, slice_get, option_copied, bytes_eq, OnOk, OnErr};
+ghost use Rattle.std.specs.Map.{lookup};
+
+use crate::shapes::ComponentEntityType;
+use std::alloc::Global;
+use std::marker::Model;
+use wcv_core::{OutOfMemory, Text};
+
+/// What is imported or exported under a name, with what the name says beside it.
+#[derive(Debug, Drop)]
+pub struct ComponentItem {
+    pub ty: ComponentEntityType,
+    pub implements: Option<Text>,
+    pub version_suffix: Option<Text>,
+    pub external_id: Option<Text>,
+}
+
+/// Items by name, in order. A name may stand more than once. Contracts see it as the list of its pairs.
+#[derive(Debug, Drop)]
+pub struct ItemMap {
+    entries: Vec<(Text, ComponentItem)>,
+}
+
+impl Model for ItemMap {
+    ghost use Rattle.std.specs.Prelude.{List};
+    ghost use Rattle.wcv_types.specs.Tree.{Text};
+    ghost use Rattle.wcv_types.specs.declared.item_map.ComponentItem.{ComponentItem};
+
+    ghost Value = { List (Text × ComponentItem) };
+
+    ghost view = { λ m. m.entries.items };
+}
+
+impl ItemMap {
+    /// A map with no pair.
+    pub fn new(alloc: Global) -> ItemMap
+        ensures { result ≡ [] }
+    {
+        ItemMap {
+            entries: Vec::new(alloc),
+        }
+    }
+
+    /// Appends a pair.
+    pub fn push(&mut self, entry: (Text, ComponentItem)) -> Result<(), OutOfMemory>
+        ensures ok { OnOk result (self.new ≡ self.old ++ entry ∷ []) }
+        ensures err { OnErr result (self.new ≡ self.old) }
+    {
+        self.entries.push(entry)?;
+        Ok(())
+    }
+
+    /// How many pairs there are.
+    pub fn len(&self) -> usize
+        ensures { result ≡ length self.now }
+    {
+        self.entries.len()
+    }
+
+    /// The pair at this position.
+    pub fn get_index(&self, k: usize) -> Option<&(Text, ComponentItem)>
+        ensures { option_copied result ≡ slice_get self.now k }
+    {
+        self.entries.get(k)
+    }
+
+    /// The item of the first pair with this name.
+    #[tactic(auto, using(crate::proofs::Naming::next_entry, crate::proofs::Naming::no_entry))]
+    pub fn get(&self, key: &Text) -> Option<&ComponentItem>
+        ensures { option_copied result ≡ lookup (bytes_eq key.now) self.now }
+    {
+        for entry in &self.entries {
+            if key.as_str() == entry.0.as_str() {
+                return Some(&entry.1);
+            }
+        }
+        None
+    }
+}

@@ -1,0 +1,50 @@
+// What nodes of the arena are made of.
+ghost use Rattle.std.specs.Prelude.{◌≡◌};
+ghost use Rattle.wcv_types.specs.Unfold.{names_node};
+
+use crate::ids::{
+    ComponentAnyTypeId, ComponentCoreModuleTypeId, ComponentDefinedTypeId, ComponentFuncTypeId,
+    ComponentInstanceTypeId, ComponentTypeId,
+};
+use crate::info::TypeInfo;
+use wcv_core::{PrimitiveValType, Text};
+
+/// A value type: a primitive, or a node of the arena.
+#[derive(Clone, Copy, Debug, PartialEq, Eq)]
+pub enum ComponentValType {
+    Primitive(PrimitiveValType),
+    Ty(ComponentDefinedTypeId),
+}
+
+impl ComponentValType {
+    /// Whether the type is a node of the arena.
+    pub fn is_node(&self) -> bool
+        ensures { result ≡ names_node self.now }
+    {
+        matches!(self, ComponentValType::Ty(_))
+    }
+}
+
+/// A function type: parameters by name, and maybe a result.
+#[derive(Debug, Drop)]
+pub struct ComponentFuncType {
+    pub async_: bool,
+    pub info: TypeInfo,
+    pub params: Vec<(Text, ComponentValType)>,
+    pub result: Option<ComponentValType>,
+}
+
+/// The type of what is imported or exported.
+#[derive(Clone, Copy, Debug, PartialEq, Eq)]
+pub enum ComponentEntityType {
+    Module(ComponentCoreModuleTypeId),
+    Func(ComponentFuncTypeId),
+    Value(ComponentValType),
+    /// A type: the node that the entry makes, and the node that it names.
+    Ty {
+        created: ComponentAnyTypeId,
+        referenced: ComponentAnyTypeId,
+    },
+    Instance(ComponentInstanceTypeId),
+    Component(ComponentTypeId),
+}
