@@ -20,31 +20,24 @@ abbrev pub is_built_result : Option ComponentValType → Bool
 is_built_result None = true
 is_built_result (Some v) = is_built_value v
 
--- a text of at most 100,000 bytes
-abbrev pub is_short : Text → Bool
-is_short t = nat_le (length t) 100000
-
 -- `[` or `:`, which stand in names of other forms
 abbrev pub is_mark : ℕ → Bool
 is_mark b = b == 91 || b == 58
 
 -- a name that is of the plain form, if of any
 abbrev pub is_built_name : Text → Bool
-is_built_name t = is_short t && not (list_any is_mark t)
+is_built_name t = not (list_any is_mark t)
 
 abbrev pub is_built_param : Text × ComponentValType → Bool
-is_built_param p = is_short p.0 && is_built_value p.1
+is_built_param p = is_built_value p.1
 
--- at most 100 parameters, and primitives alone
+-- primitives alone
 abbrev pub is_built_func : Func_form → Bool
-is_built_func f = nat_le (length f.params) 100 && (list_all is_built_param f.params && is_built_result f.result)
+is_built_func f = list_all is_built_param f.params && is_built_result f.result
 
-abbrev pub is_built_form : Form → Bool
-is_built_form (func_type f) = is_built_func f
-is_built_form (import n r) = is_built_name n
-is_built_form (export_func n k) = is_built_name n
-is_built_form unbuilt = false
-
--- of the root's items, counted from 0, the first 1,000
-abbrev pub is_built : ℕ → Form → Bool
-is_built k f = nat_lt k 1000 && is_built_form f
+-- the form is built
+abbrev pub is_built : Form → Bool
+is_built (func_type f) = is_built_func f
+is_built (import n r) = is_built_name n
+is_built (export_func n k) = is_built_name n
+is_built unbuilt = false

@@ -39,6 +39,15 @@ plain_name name None None (Some i) = None
 abbrev pub name_view : ComponentExternName → Option Text
 name_view n = plain_name n.name n.implements n.version_suffix n.external_id
 
+-- a written type of a built form
+abbrev pub ref_view : ComponentTypeRef → Option Ref
+ref_view (ref.Func k) = Some (func_ref k)
+ref_view (ref.Module k) = None
+ref_view (ref.Value v) = None
+ref_view (ref.Ty b) = None
+ref_view (ref.Instance k) = None
+ref_view (ref.Component k) = None
+
 abbrev pub import_of : Option Text → ComponentTypeRef → Form
 import_of None ty = unbuilt
 import_of (Some name) (ref.Func k) = import name (func_ref k)
@@ -50,6 +59,16 @@ import_of (Some name) (ref.Component k) = unbuilt
 
 abbrev pub import_view : ComponentImport → Form
 import_view i = import_of (name_view i.name) i.ty
+
+-- the index of an exported function without a written type, which is the built form of an exported item
+abbrev pub exported_func : ComponentExternalKind → ℕ → Option ComponentTypeRef → Option ℕ
+exported_func kind k (Some ty) = None
+exported_func sort.Func k None = Some k
+exported_func sort.Module k None = None
+exported_func sort.Value k None = None
+exported_func sort.Ty k None = None
+exported_func sort.Instance k None = None
+exported_func sort.Component k None = None
 
 abbrev pub export_of : Option Text → ComponentExternalKind → ℕ → Option ComponentTypeRef → Form
 export_of None kind k ty = unbuilt

@@ -1,0 +1,11 @@
+pub mod Naming
+pub mod Ending
+pub mod Decided
+pub mod Once
+pub mod Telling
+pub mod Repeats
+pub mod Texts
+pub mod FuncNodes
+pub mod Occurring
+pub mod Steps
+pub mod Leading

@@ -1,0 +1,12 @@
+use Rattle.std.proofs.Common.{◌≡◌, ◌<◌, true, rules}
+use Rattle.wcv_syntax.specs.Built.{is_built_func}
+use Rattle.wcv_syntax.specs.View.{func_view}
+use Rattle.wcv_state.specs.Causes.{types_in, most}
+use Rattle.wcv_state.specs.Contents.{context_of}
+use Rattle.wcv_link.proofs.Steps.{func_read}
+use Rattle.wcv_link.proofs.reading.read_func.Goals as goal
+
+pub returns-clause-ok : goal.returns-clause-ok
+returns-clause-ok c =
+    let built : is_built_func (func_view c.args.func.now) ≡ true = search rules in
+    func_read c.args.types.now c.add_func.new.types c.args.state.now c.add_func.new.state (func_view c.args.func.now) built c.in_ok-check_limits.ensures.ok c.in_ok-check_labels.ensures.ok c.in_ok-check_types.ensures.ok c.in_ok-add_func.ensures

@@ -1,0 +1,6 @@
+pub mod Valid
+pub mod Naming
+pub mod Forms
+pub mod Shapes
+pub mod Leads
+pub mod Accepts

@@ -1,0 +1,10 @@
+pub mod Causes
+pub mod Contents
+pub mod Entering
+pub mod Forms
+pub mod Fresh
+pub mod Inside
+pub mod Labels
+pub mod Promises
+pub mod Reading
+pub mod Shape

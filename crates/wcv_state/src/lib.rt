@@ -1,0 +1,14 @@
+//! The state of a component that is being read.
+#![tactic(auto)]
+
+mod entry;
+mod forms;
+mod indices;
+mod kind;
+mod labels;
+mod spaces;
+mod state;
+
+pub use kind::{ComponentKind, Space};
+pub use labels::check_label;
+pub use state::ComponentState;

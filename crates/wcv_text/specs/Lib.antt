@@ -1,0 +1,2 @@
+pub mod FuncLine
+pub mod Entries
