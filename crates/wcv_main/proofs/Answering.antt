@@ -9,11 +9,11 @@ use Rattle.wcv_main.specs.declared.status.Status.{Status}
 use Rattle.wcv_main.specs.declared.status.Status.TheVariants as status
 use Rattle.wcv_core.specs.declared.error.ErrorKind.{ErrorKind}
 use Rattle.wcv_syntax.specs.Model.{Entry}
-use Rattle.wcv_main.specs.Context.{Context}
+use Rattle.wcv_lower.specs.Context.{Context}
 use Rattle.wcv_main.specs.Due.{Due, wrong_words, too_long, no_json, no_shape, sections, is_validate, limit, due_of_bytes, due_of, usage, Gives, accepted_text, refusal_text}
 use Rattle.wcv_main.specs.Report.{line}
-use Rattle.wcv_main.specs.Valid.{ValidTo, Refused}
-use Rattle.wcv_main.proofs.Decided.{valid_or_refused}
+use Rattle.wcv_link.specs.Valid.{ValidTo, Refused}
+use Rattle.wcv_link.proofs.Decided.{valid_or_refused}
 use Rattle.wcv_main.specs.Pump.{AppendsFront}
 use Rattle.wcv_main.specs.Answers.{IsAnswer, IsOfListing, MayStandIn, Answers, Cuts, Finishes}
 use Rattle.wcv_main.proofs.Known.{appends_nothing}

@@ -1,13 +1,3 @@
 pub mod Answering
-pub mod Decided
-pub mod FormLemmas
-pub mod Items
+pub mod Counting
 pub mod Known
-pub mod Leading
-pub mod Repeats
-pub mod Steps
-pub mod Telling
-pub mod TypeText
-pub mod TypeTextForms
-pub mod TypeTextItems
-pub mod TypeTextQuoting

@@ -3,15 +3,16 @@ use Rattle.std.specs.Prelude.{ℕ, ◌≡◌, ◌⊎◌, List, [], ◌∷◌, �
 use Rattle.std.specs.Str.{bytes_eq}
 use Rattle.std.specs.Fmt.{decimal}
 use Rattle.wcv_core.specs.Kinds.{kind_name}
+use Rattle.wcv_core.specs.Names.{base}
 use Rattle.wcv_core.specs.declared.error.ErrorKind.{ErrorKind}
 use Rattle.wcv_syntax.specs.Model.{Entry}
 use Rattle.wcv_types.specs.Text.{type_text}
 use Rattle.wcv_listing.specs.Listing.{Reading, not_json, bad_shape, listed, reading_of}
 use Rattle.wcv_main.specs.declared.status.Status.{Status}
 use Rattle.wcv_main.specs.declared.status.Status.TheVariants as status
-use Rattle.wcv_main.specs.Context.{Context, lengths}
+use Rattle.wcv_lower.specs.Context.{Context, lengths}
+use Rattle.wcv_link.specs.Valid.{ValidTo, Refused, type_at_end}
 use Rattle.wcv_main.specs.Report.{line, report}
-use Rattle.wcv_main.specs.Valid.{ValidTo, Refused, type_at_end}
 
 -- the outcome of a run, in the order in which it is looked for
 pub data Due : Type 0 where
@@ -49,7 +50,7 @@ usage = line (codes "usage: wcv validate, wcv link TURNS or wcv make N")
 
 -- the report of a valid root: the lengths of its index spaces, and its type
 abbrev pub accepted_text : Context → List ℕ
-accepted_text d = report (lengths d) ++ type_text (type_at_end d)
+accepted_text d = report (lengths d) ++ type_text (type_at_end (base []) d)
 
 -- the two lines of a refusal; the words of the message are not promised
 abbrev pub refusal_text : ErrorKind → ℕ → List ℕ → List ℕ

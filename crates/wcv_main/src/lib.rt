@@ -2,28 +2,20 @@
 #![tactic(auto)]
 
 mod adapter;
-mod built;
-mod driver;
 mod ends;
-mod forms;
-mod laws;
 mod memory;
-mod names;
 mod pump;
 mod report;
-mod state;
 mod status;
 mod steady;
 mod steady_run;
 #[cfg(test)]
 mod tests;
 mod top;
-mod type_text;
 mod words;
 
 pub use adapter::{ReadAdapter, WriteAdapter};
 pub use ends::{Failed, Sink, Source};
-pub use laws::each_root_has_one_answer;
 pub use memory::{MemorySink, MemorySource};
 pub use status::Status;
 pub use steady::{SteadySink, SteadySource};

@@ -1,27 +1,30 @@
 // The top call.
-ghost use Rattle.std.specs.Prelude.{◌≡◌, ◌≢◌, ◌+◌, ◌≤◌, ◌<◌, ◌⊎◌, ◌++◌, [], false, length, string_bytes, IfOk};
+ghost use Rattle.std.specs.Prelude.{◌≡◌, ◌≢◌, ◌+◌, ◌≤◌, ◌<◌, ◌⊎◌, ◌++◌, List, [], false, length, string_bytes, IfOk};
 ghost use Rattle.std.specs.Io.KnownBytes.{Appends, IsAtEnd};
 ghost use Rattle.wcv_core.specs.Refusal.{error_kind, error_offset};
+ghost use Rattle.wcv_syntax.specs.Model.{Entry};
 ghost use Rattle.wcv_syntax.specs.View.{entries};
+ghost use Rattle.wcv_types.specs.Text.{type_text};
+ghost use Rattle.wcv_state.specs.Shape.{root_tree};
+ghost use Rattle.wcv_link.specs.Accepts.{Accepts};
 ghost use Rattle.wcv_main.specs.Faults.{Rose};
-ghost use Rattle.wcv_main.specs.Context.{with_lengths};
 ghost use Rattle.wcv_main.specs.Pump.{GivesAtMost, GivesExactly};
-ghost use Rattle.wcv_main.specs.Due.{is_validate, due_of_bytes, due_of, Gives, usage, sections, accepted_text, GivesRefusalText};
-ghost use Rattle.wcv_main.specs.Reading.{context_of, AreFuncs};
+ghost use Rattle.wcv_main.specs.Due.{is_validate, due_of_bytes, due_of, Gives, usage, sections, GivesRefusalText};
+ghost use Rattle.wcv_main.specs.Report.{report, space_lengths as lengths_of_spaces};
 ghost use Rattle.wcv_main.specs.Answers.{IsOfListing, MayStandIn, Answers, Cuts, Finishes};
 
-use crate::driver::validate_sections;
 use crate::ends::{Sink, Source};
 use crate::pump::{LIMIT, ReadError, read_all, write_all};
 use crate::report::push_report;
-use crate::state::State;
 use crate::status::Status;
-use crate::type_text::push_type;
 use crate::words::Words;
 use std::alloc::{AllocError, Global};
-use wcv_core::{Error, ErrorKind};
+use wcv_core::{Error, ErrorKind, WasmFeatures};
+use wcv_link::{Accepted, validate_sections};
 use wcv_listing::{Listing, ListingError, read_listing};
+use wcv_state::{ComponentState, Space};
 use wcv_syntax::Item;
+use wcv_text::push_type;
 
 /// Whether the words are the command `validate`.
 fn is_validate_command(words: &Words) -> bool
@@ -37,22 +40,34 @@ fn is_validate_command(words: &Words) -> bool
 }
 
 /// The lengths of the thirteen index spaces.
-fn space_lengths(state: &State) -> [u64; 13]
-    ensures { result ≡ with_lengths (length state.now.types.items) (length state.now.funcs.items) }
+fn space_lengths(state: &ComponentState) -> [u64; 13]
+    ensures { result ≡ lengths_of_spaces state.now.spaces }
 {
-    let types = state.types.len() as u64;
-    let funcs = state.funcs.len() as u64;
-    [0, 0, 0, 0, 0, 0, 0, 0, types, funcs, 0, 0, 0]
+    [
+        state.space_len(Space::CoreTypes) as u64,
+        state.space_len(Space::CoreFuncs) as u64,
+        state.space_len(Space::CoreTags) as u64,
+        state.space_len(Space::CoreModules) as u64,
+        state.space_len(Space::CoreInstances) as u64,
+        state.space_len(Space::CoreMemories) as u64,
+        state.space_len(Space::CoreTables) as u64,
+        state.space_len(Space::CoreGlobals) as u64,
+        state.space_len(Space::Types) as u64,
+        state.space_len(Space::Funcs) as u64,
+        state.space_len(Space::Values) as u64,
+        state.space_len(Space::Instances) as u64,
+        state.space_len(Space::Components) as u64,
+    ]
 }
 
 /// The report of a valid root.
-fn report_text(alloc: Global, items: &[Item], state: &State) -> Result<String, AllocError>
-    requires { AreFuncs (entries items.now) state.now }
-    ensures { IfOk result (λ text. string_bytes text ≡ accepted_text (context_of (entries items.now) state.now)) }
+fn report_text(alloc: Global, accepted: &Accepted) -> Result<String, AllocError>
+    requires { (es : List Entry) × Accepts es accepted.now }
+    ensures { IfOk result (λ text. string_bytes text ≡ report (lengths_of_spaces accepted.now.state.spaces) ++ type_text (root_tree accepted.now.types accepted.now.ty)) }
 {
     let mut text = String::new(alloc);
-    push_report(&mut text, &space_lengths(state))?;
-    push_type(alloc, &mut text, items, state)?;
+    push_report(&mut text, &space_lengths(&accepted.state))?;
+    push_type(alloc, &mut text, &accepted.types, &accepted.ty)?;
     Ok(text)
 }
 
@@ -76,9 +91,9 @@ fn answer_listing(alloc: Global, listing: &Listing) -> Result<(Status, String), 
     ensures due { IfOk result (λ answer. Gives (sections (entries listing.now.items.items) listing.now.end) answer.0 (string_bytes answer.1)) }
 {
     let items: &[Item] = &listing.items;
-    match validate_sections(alloc, items, listing.end) {
-        Ok(state) => {
-            let text = report_text(alloc, items, &state)?;
+    match validate_sections(alloc, WasmFeatures::default(), items, listing.end) {
+        Ok(accepted) => {
+            let text = report_text(alloc, &accepted)?;
             Ok((Status::Done, text))
         }
         Err(error) => {

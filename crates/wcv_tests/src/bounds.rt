@@ -1,4 +1,4 @@
-// The bounds of what is built, and that on the bytes of a listing.
+// The limits on parameters, texts and the bytes of a listing.
 use crate::driver::{accepted, answer};
 use std::alloc::Global;
 use std::fmt::Write;
@@ -43,7 +43,7 @@ fn push_imports(
     Ok(())
 }
 
-// The answer on a type and so many imports of it, and the answer that is due where all are built.
+// The answer on a type and so many imports of it, and the answer that is due where no limit is passed.
 fn answers(
     alloc: Global,
     params: u64,
@@ -65,18 +65,17 @@ fn answers(
 }
 
 #[test]
-fn what_is_built_is_bounded(rt: HostRuntime) -> Result<(), Fail> {
+fn parameters_and_texts_have_limits(rt: HostRuntime) -> Result<(), Fail> {
     let alloc = rt.alloc();
-    // A refusal, or none where all is built.
+    // A refusal, or none where no limit is passed.
     for (params, param, imports, import, refusal) in [
-        (100, 1, 1, 1, ""),
-        (101, 1, 1, 1, "1\nrefused Unbuilt at 0\n"),
+        (1_000, 1, 1, 1, ""),
+        (1_001, 1, 1, 1, "1\nrefused Limit at 0\n"),
         (1, 100_000, 1, 1, ""),
-        (1, 100_001, 1, 1, "1\nrefused Unbuilt at 0\n"),
+        (1, 100_001, 1, 1, "1\nrefused Limit at 0\n"),
         (1, 1, 1, 100_000, ""),
-        (1, 1, 1, 100_001, "1\nrefused Unbuilt at 1\n"),
-        (1, 1, 999, 1, ""),
-        (1, 1, 1_000, 1, "1\nrefused Unbuilt at 1000\n"),
+        (1, 1, 1, 100_001, "1\nrefused Limit at 1\n"),
+        (1, 1, 3_000, 1, ""),
     ] {
         let param = "p".repeat(alloc, param)?;
         let import = "m".repeat(alloc, import)?;
