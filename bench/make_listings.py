@@ -17,7 +17,8 @@ def write_listing(file, items):
 
 
 def func_type(params, result):
-    return {"type": {"func": {"params": params, "result": result}}}
+    func = {"params": params, "result": result} if result else {"params": params}
+    return {"type": {"func": func}}
 
 
 def import_of(name, index):
@@ -29,14 +30,14 @@ def export_of(name, index):
 
 
 def ordinary(limit):
-    """A function type, its import and an export of that in turn, some 100 bytes an item, until their
-    lines have so many bytes. Each third item makes a type, and the other two make functions."""
+    """A function type, its import and an export of that in turn, some 110 bytes an item, until their
+    lines have so many bytes. Each third item makes a type, and the other two make functions. With one
+    parameter a function has the size 2, so the largest listing keeps below the limit on a component's size."""
     size, k = 60, 0
-    while size < limit - 100:
+    while size < limit - 120:
         group = k // 3
-        params = [["first", PRIMITIVES[group % 13]], ["second", PRIMITIVES[group // 13 % 13]]]
         item = (
-            func_type(params, PRIMITIVES[group // 7 % 13]),
+            func_type([[f"the-parameter-of-the-function-with-the-number-n{k}", PRIMITIVES[group % 13]]], None),
             import_of(f"imported-function-with-the-number-n{k}", group),
             export_of(f"exported-function-with-the-number-n{k}", 2 * group),
         )[k % 3]
