@@ -59,9 +59,13 @@ pub record Grew (a a' : Arena) (s s' : Contents) (f : Form) : Type 0 where
   pub free : IsFree (CallCause (context_of a s) f)
   pub live : s'.spent ≡ false
 
+-- the error tells of a cause at that offset
+abbrev pub Says : Causes → ℕ → Error → Type 0
+Says P offset e = P (error_kind e) × (error_offset e ≡ offset)
+
 -- the error tells of a cause at that offset, or of want of memory
 abbrev pub Tells : Causes → ℕ → Error → Type 0
-Tells P offset e = (error_kind e ≡ kind.OutOfMemory) ⊎ (P (error_kind e) × (error_offset e ≡ offset))
+Tells P offset e = (error_kind e ≡ kind.OutOfMemory) ⊎ Says P offset e
 
 -- the call was refused, by such a cause where memory was not wanting, and the state is spent
 abbrev pub RefusesBy : Causes → Contents → ℕ → Error → Type 0

@@ -8,7 +8,7 @@ ghost use Rattle.wcv_state.specs.Causes.{IndexCause};
 ghost use Rattle.wcv_state.specs.Contents.{empty_state, context_of, entity_tree, AnyStands, FuncStands, EntityStands, StateStands};
 ghost use Rattle.wcv_state.specs.Entering.{with_type, with_func, spent};
 ghost use Rattle.wcv_state.specs.Forms.{IsBuiltName, UnbuiltName, WrittenIn, WrittenCauseIn, ExportedIn, ExportedCauseIn};
-ghost use Rattle.wcv_state.specs.Promises.{Keeps, Grew, Refuses, RefusesBy, Tells, Brings, RefCause, Exported, ItemCause, Entered, ExportCause, Finished};
+ghost use Rattle.wcv_state.specs.Promises.{Keeps, Grew, Refuses, RefusesBy, Says, Tells, Brings, RefCause, Exported, ItemCause, Entered, ExportCause, Finished};
 ghost use Rattle.wcv_state.specs.Reading.{space_length, SortCause, is_func_id};
 
 use crate::entry::{admit, check_count, check_exports, join};
@@ -237,35 +237,38 @@ impl ComponentState {
         &self.exports
     }
 
-    /// The core type at that index. Refuses an index that is not below the length as `OutOfBounds`.
+    /// The core type at that index. Refuses an index that is not below the length as `OutOfBounds`, and
+    /// takes no memory.
     pub fn core_type_at(&self, idx: u32, offset: u64) -> Result<ComponentCoreTypeId, Error>
         ensures ok { IfOk result (λ id. slice_get self.now.spaces.core_types idx ≡ Some id) }
-        ensures err { IfErr result (Tells (IndexCause self.now.spaces.core_types idx) offset) }
+        ensures err { IfErr result (Says (IndexCause self.now.spaces.core_types idx) offset) }
     {
         element_at(&self.spaces.core_types, "core type", idx, offset)
     }
 
-    /// The type at that index. Refuses an index that is not below the length as `OutOfBounds`.
+    /// The type at that index. Refuses an index that is not below the length as `OutOfBounds`, and takes
+    /// no memory.
     pub fn component_type_at(&self, idx: u32, offset: u64) -> Result<ComponentAnyTypeId, Error>
         ensures ok { IfOk result (λ id. slice_get self.now.spaces.types idx ≡ Some id) }
-        ensures err { IfErr result (Tells (IndexCause self.now.spaces.types idx) offset) }
+        ensures err { IfErr result (Says (IndexCause self.now.spaces.types idx) offset) }
     {
         element_at(&self.spaces.types, "type", idx, offset)
     }
 
-    /// The type of the function at that index. Refuses an index that is not below the length as `OutOfBounds`.
+    /// The type of the function at that index. Refuses an index that is not below the length as
+    /// `OutOfBounds`, and takes no memory.
     pub fn function_at(&self, idx: u32, offset: u64) -> Result<ComponentFuncTypeId, Error>
         ensures ok { IfOk result (λ id. slice_get self.now.spaces.funcs idx ≡ Some id) }
-        ensures err { IfErr result (Tells (IndexCause self.now.spaces.funcs idx) offset) }
+        ensures err { IfErr result (Says (IndexCause self.now.spaces.funcs idx) offset) }
     {
         element_at(&self.spaces.funcs, "function", idx, offset)
     }
 
     /// The function type at that index of types. Refuses an index that is not below the length as
-    /// `OutOfBounds`, and a type of another sort as `WrongSort`.
+    /// `OutOfBounds`, and a type of another sort as `WrongSort`. It takes no memory.
     pub fn function_type_at(&self, idx: u32, offset: u64) -> Result<ComponentFuncTypeId, Error>
         ensures ok { IfOk result (λ id. slice_get self.now.spaces.types idx ≡ Some (any.Func id)) }
-        ensures err { IfErr result (Tells (SortCause is_func_id self.now.spaces.types idx) offset) }
+        ensures err { IfErr result (Says (SortCause is_func_id self.now.spaces.types idx) offset) }
     {
         func_type_at(&self.spaces.types, idx, offset)
     }
