@@ -1,8 +1,8 @@
 -- What stands in a component or a declared type that is being read.
-use Rattle.std.specs.Prelude.{ℕ, suc, max, ◌+◌, List, [], ◌∷◌, ◌++◌, length, Option, Some, None}
+use Rattle.std.specs.Prelude.{ℕ, suc, max, ◌+◌, List, [], ◌∷◌, ◌++◌, length}
 use Rattle.wcv_core.specs.Names.{Name}
 use Rattle.wcv_types.specs.Measure.{size, depth}
-use Rattle.wcv_types.specs.Tree.{Text, Tree, type_of, sort, Sort, is_nothing, is_value, is_resource, is_func, is_instance, is_component, is_type, created, referenced}
+use Rattle.wcv_types.specs.Tree.{Text, Tree, type_of, sort, Sort, is_nothing, is_value, is_resource, is_func, is_instance, is_component, is_type, created}
 
 abbrev pub Type_tree : Type 0
 Type_tree = Tree Name Name

@@ -1,5 +1,5 @@
 -- What an item does to a context. The rules are given the names that the item may need.
-use Rattle.std.specs.Prelude.{ℕ, List, [], ◌∷◌, map, Bool, true, false, cond, Option, Some, None, slice_get}
+use Rattle.std.specs.Prelude.{ℕ, [], map, Bool, true, false, cond, Option, Some, None, slice_get}
 use Rattle.std.specs.Option.{option_map, option_and_then}
 use Rattle.wcv_core.specs.Names.{Name, Place}
 use Rattle.wcv_syntax.specs.declared.component_type.ComponentValType.{ComponentValType}

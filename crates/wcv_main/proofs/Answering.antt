@@ -1,17 +1,14 @@
 -- From what the parts of a run did to what it answers.
-use Rattle.std.proofs.Common.{◌≡◌, ℕ, zero, suc, ◌+◌, ◌<◌, ◌≤◌, ◌⊎◌, inl, inr, List, [], ◌∷◌, ◌++◌, length, take, Option, Some, None, Bool, true, false, nat_lt, cond, IfSome, refl, sym, ap, ◌∙◌, subst, arith, length-append, ⊎_elim, append_assoc, slice_get, codes}
+use Rattle.std.proofs.Common.{◌≡◌, ℕ, ◌+◌, ◌<◌, ◌≤◌, ◌⊎◌, inl, inr, List, [], ◌++◌, length, Option, Some, None, IfSome, refl, sym, ap, ◌∙◌, subst, arith, length-append, ⊎_elim}
 use Rattle.std.proofs.lemmas.List.{append-nil}
 use Rattle.std.proofs.lemmas.Bool.{cases_lt}
-use Rattle.std.specs.Fmt.{decimal}
 use Rattle.std.proofs.lemmas.Bool.Decides.{nat_tests}
 use Rattle.std.specs.Io.KnownBytes.{Appends, Consumes, IsAtEnd}
 use Rattle.wcv_main.specs.declared.status.Status.{Status}
 use Rattle.wcv_main.specs.declared.status.Status.TheVariants as status
 use Rattle.wcv_core.specs.declared.error.ErrorKind.{ErrorKind}
-use Rattle.wcv_syntax.specs.Model.{Entry}
 use Rattle.wcv_lower.specs.Context.{Context}
-use Rattle.wcv_main.specs.Due.{Due, wrong_words, too_long, no_json, no_shape, sections, is_validate, limit, due_of_bytes, due_of, usage, Gives, accepted_text, refusal_text}
-use Rattle.wcv_main.specs.Report.{line}
+use Rattle.wcv_main.specs.Due.{Due, wrong_words, too_long, no_json, no_shape, sections, limit, due_of_bytes, due_of, usage, Gives, accepted_text, refusal_text}
 use Rattle.wcv_link.specs.Valid.{ValidTo, Refused}
 use Rattle.wcv_link.proofs.Decided.{valid_or_refused}
 use Rattle.wcv_main.specs.Pump.{AppendsFront}

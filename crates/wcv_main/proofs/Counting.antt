@@ -1,5 +1,5 @@
 -- The lengths of the index spaces of a state are those of the context that it stands for.
-use Rattle.std.proofs.Common.{◌≡◌, ℕ, List, [], ◌∷◌, length, map}
+use Rattle.std.proofs.Common.{◌≡◌, [], ◌∷◌, length}
 use Rattle.wcv_types.specs.Arena.{Arena}
 use Rattle.wcv_types.specs.Unfold.{trees, part_tree, slot_tree, value_slot}
 use Rattle.wcv_types.specs.declared.ids.Part.TheVariants as part
@@ -17,4 +17,4 @@ counted a s =
     let instances = length-mapped (λ i. part_tree ts (part.Instance i)) s.spaces.instances in
     let components = length-mapped (λ i. part_tree ts (part.Component i)) s.spaces.components in
     λ j. length s.spaces.core_types ∷ length s.spaces.core_funcs ∷ length s.spaces.core_tags ∷ length s.spaces.core_modules ∷ length s.spaces.core_instances
-        ∷ length s.spaces.core_memories ∷ length s.spaces.core_tables ∷ length s.spaces.core_globals ∷ types j ∷ funcs j ∷ values j ∷ instances j ∷ components j ∷ []
+    ∷ length s.spaces.core_memories ∷ length s.spaces.core_tables ∷ length s.spaces.core_globals ∷ types j ∷ funcs j ∷ values j ∷ instances j ∷ components j ∷ []

@@ -1,11 +1,11 @@
 -- What a run answers, and what it has then read and written.
-use Rattle.std.specs.Prelude.{ℕ, ◌≡◌, ◌+◌, ◌⊎◌, List, [], length, Option, Some, None, IfSome, ⊤}
+use Rattle.std.specs.Prelude.{ℕ, ◌≡◌, ◌⊎◌, List, Option, IfSome, ⊤}
 use Rattle.std.specs.Io.KnownBytes.{Appends}
 use Rattle.wcv_main.specs.declared.status.Status.{Status}
 use Rattle.wcv_main.specs.declared.status.Status.TheVariants as status
 use Rattle.wcv_main.specs.Pump.{AppendsFront}
 use Rattle.wcv_main.specs.Faults.{Rose}
-use Rattle.wcv_main.specs.Due.{limit, due_of, Gives}
+use Rattle.wcv_main.specs.Due.{due_of, Gives}
 
 -- a status that tells of no fault
 abbrev pub IsAnswer : Status → Type 0

@@ -5,7 +5,6 @@ use Rattle.wcv_syntax.specs.View.{entries}
 use Rattle.wcv_types.specs.Text.{type_text}
 use Rattle.wcv_types.proofs.SameText.{same_text}
 use Rattle.wcv_lower.specs.Context.{Context, lengths}
-use Rattle.wcv_state.specs.Contents.{context_of}
 use Rattle.wcv_state.specs.Shape.{root_tree}
 use Rattle.wcv_link.specs.Accepts.{Accepts}
 use Rattle.wcv_link.specs.Valid.{type_at_end}

@@ -1,9 +1,7 @@
-use Rattle.std.proofs.Common.{◌≡◌, ◌∙◌, ap, sym, subst, refl, rules, arith, IfSome, Option, Some, None, List, ℕ, false, true, cond, string_bytes}
-use Rattle.std.proofs.lemmas.Grind.{common_steps}
+use Rattle.std.proofs.Common.{◌≡◌, subst, refl, rules, IfSome, Option, Some, None, List, ℕ, false, true}
 use Rattle.wcv_main.specs.declared.status.Status.{Status}
 use Rattle.wcv_main.specs.declared.status.Status.TheVariants as status
-use Rattle.wcv_main.specs.Due.{Due, is_validate, due_of, due_of_bytes, usage, Gives}
-use Rattle.wcv_main.specs.Answers.{IsOfListing}
+use Rattle.wcv_main.specs.Due.{is_validate, due_of, due_of_bytes, usage, Gives}
 use Rattle.wcv_main.proofs.Answering.{nothing_cut, cuts_after, answers_after, of_listing_answers, same_due}
 use Rattle.wcv_main.proofs.top.run.Goals as goal
 
