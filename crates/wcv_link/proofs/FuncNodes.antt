@@ -1,5 +1,5 @@
 -- The node of a function type over primitives: its parts, its tree, its size and its depth.
-use Rattle.std.proofs.Common.{◌≡◌, ℕ, zero, suc, max, min, ◌+◌, ◌<◌, ◌≤◌, List, [], ◌∷◌, ◌++◌, length, map, Bool, true, false, ◌&&◌, Option, Some, None, refl, sym, ◌∙◌, ap, subst, arith}
+use Rattle.std.proofs.Common.{◌≡◌, ℕ, zero, suc, max, ◌+◌, ◌<◌, ◌≤◌, List, [], ◌∷◌, ◌++◌, length, map, Bool, true, false, ◌&&◌, Option, Some, None, refl, sym, ◌∙◌, ap, subst, arith}
 use Rattle.std.specs.Prelude.{All}
 use Rattle.std.specs.Option.{option_map}
 use Rattle.std.specs.List.{list_all}
@@ -17,9 +17,7 @@ use Rattle.wcv_types.specs.Tree.{Text, Parts, none, part, node, here, label, fun
 use Rattle.wcv_types.specs.Unfold.{Type_tree, Slots, value_slot, option_slot, field_slots, slots_of, slot_refs, parts_in, parts_of, slot_tree, slot_parts, trees, tree_of, capped, IsInfoOf}
 use Rattle.wcv_types.specs.declared.arena.Node.TheVariants as n
 use Rattle.wcv_types.specs.declared.ids.Part.{Part}
-use Rattle.wcv_types.specs.declared.info.TypeInfo.{TypeInfo}
 use Rattle.wcv_types.specs.declared.shapes.ComponentFuncType.{ComponentFuncType}
-use Rattle.wcv_types.specs.declared.shapes.ComponentValType.{ComponentValType as Value_shape}
 use Rattle.wcv_lower.specs.Growth.{value_tree, param_tree, result_tree, func_tree}
 use Rattle.wcv_link.specs.Shapes.{value_shape, param_shape, result_count, IsShapeOf}
 

@@ -1,27 +1,23 @@
 -- How a reading begins, goes on and ends.
-use Rattle.std.proofs.Common.{◌≡◌, ℕ, suc, List, [], ◌∷◌, length, map, refl, sym, ◌∙◌, ap, subst, arith, Some, false, ◌⊎◌, inl, inr}
+use Rattle.std.proofs.Common.{◌≡◌, ℕ, suc, List, [], ◌∷◌, length, map, refl, sym, ◌∙◌, ap, subst, arith, Some, inl, inr}
 use Rattle.std.specs.Prelude.{All}
 use Rattle.std.proofs.lemmas.List.Elements.{All-nil}
-use Rattle.wcv_core.specs.Names.{Name, number, base}
+use Rattle.wcv_core.specs.Names.{number, base}
 use Rattle.wcv_core.specs.Refusal.{error_kind, error_offset}
 use Rattle.wcv_core.specs.declared.error.Error.{Error}
-use Rattle.wcv_core.specs.declared.error.ErrorKind.{ErrorKind}
 use Rattle.wcv_core.specs.declared.features.WasmFeatures.{WasmFeatures}
-use Rattle.wcv_syntax.specs.Model.{Form, Entry}
+use Rattle.wcv_syntax.specs.Model.{Entry}
 use Rattle.wcv_types.specs.Arena.{Arena}
 use Rattle.wcv_types.specs.Rename.{UpToRenaming}
-use Rattle.wcv_types.specs.Tree.{Text, component_type}
+use Rattle.wcv_types.specs.Tree.{component_type}
 use Rattle.wcv_types.specs.Unfold.{trees}
 use Rattle.wcv_types.specs.declared.component_type.ComponentType.{ComponentType}
-use Rattle.wcv_types.specs.declared.ids.ResourceId.{ResourceId}
-use Rattle.wcv_types.specs.declared.item_map.ComponentItem.{ComponentItem}
 use Rattle.wcv_lower.specs.Context.{Type_tree, Context, lengths}
-use Rattle.wcv_lower.specs.Renamed.{ContextNames}
 use Rattle.wcv_lower.proofs.Occurring.{lengths-renamed}
 use Rattle.wcv_state.specs.Causes.{Cause, IsFree}
-use Rattle.wcv_state.specs.Contents.{Contents, context_of, entry_trees, EntryStands, StateStands, empty_state}
+use Rattle.wcv_state.specs.Contents.{Contents, context_of, entry_trees, EntryStands, empty_state}
 use Rattle.wcv_state.specs.Entering.{spent}
-use Rattle.wcv_state.specs.Promises.{IsGiven, Tells, Finished}
+use Rattle.wcv_state.specs.Promises.{IsGiven, Finished}
 use Rattle.wcv_state.specs.Shape.{path_of, root_tree}
 use Rattle.wcv_state.specs.declared.kind.ComponentKind.TheVariants.{Component}
 use Rattle.wcv_link.specs.Accepts.{Accepts}

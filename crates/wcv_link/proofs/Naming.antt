@@ -135,9 +135,6 @@ named_cause_back k c m form kind w h = subst (λ (X : Type 0). X) (same_cause k 
 pub named_free : (k : ℕ) (c m : Context) (form : Form) → NamedAs k c m → IsFree (Cause c form) → IsFree (Cause m form)
 named_free k c m form w free kind h = free kind (named_cause_back k c m form kind w h)
 
-pub named_free_back : (k : ℕ) (c m : Context) (form : Form) → NamedAs k c m → IsFree (Cause m form) → IsFree (Cause c form)
-named_free_back k c m form w free kind h = free kind (named_cause k c m form kind w h)
-
 -- ## Before the first item
 
 pub first_naming : Naming 0

@@ -1,17 +1,17 @@
 -- The names that occur in a context after an item.
-use Rattle.std.proofs.Common.{◌≡◌, ℕ, zero, suc, ◌+◌, ◌<◌, ◌≤◌, List, [], ◌∷◌, ◌++◌, length, map, Option, Some, None, Bool, true, false, cond, refl, sym, ◌∙◌, ap, subst, arith, length-append}
+use Rattle.std.proofs.Common.{◌≡◌, ℕ, zero, suc, ◌+◌, List, [], ◌∷◌, ◌++◌, length, map, Option, Some, None, Bool, true, false, cond, refl, ◌∙◌, ap, subst, arith, length-append}
 use Rattle.std.specs.Prelude.{slice_get}
 use Rattle.std.specs.Option.{option_map, option_and_then}
 use Rattle.wcv_core.specs.Names.{Name, number, stamp, base, at}
-use Rattle.wcv_syntax.specs.Model.{Func_form, Ref, func_ref, Form, func_type, import, export_func, unbuilt}
+use Rattle.wcv_syntax.specs.Model.{Func_form, Ref, func_ref, import, export_func}
 use Rattle.wcv_syntax.specs.declared.component_type.ComponentValType.{ComponentValType}
 use Rattle.wcv_syntax.specs.declared.component_type.ComponentValType.TheVariants.{Primitive, Ty}
 use Rattle.wcv_types.specs.Arena.{Arena}
 use Rattle.wcv_types.specs.Rename.{EachName, EachNameIn}
 use Rattle.wcv_types.specs.Standing.{Extends}
 use Rattle.wcv_types.specs.Tree.{Text, Sort, sort, is_nothing, is_value, is_resource, is_func, is_instance, is_component, is_type, node, Parts, none, part, here, fields, created, referenced}
-use Rattle.wcv_lower.specs.Context.{Type_tree, Context, Space, in_types, in_funcs, in_values, in_instances, in_components, push, type_entry, enter_as, enter, measured, add_import, add_export}
-use Rattle.wcv_lower.specs.Growth.{Names, value_tree, param_tree, result_tree, func_tree, is_func_sort, if_sort, type_at, written, grow}
+use Rattle.wcv_lower.specs.Context.{Type_tree, Context, Space, in_types, in_funcs, in_values, in_instances, in_components, push, type_entry, enter_as, measured, add_import, add_export}
+use Rattle.wcv_lower.specs.Growth.{Names, value_tree, param_tree, result_tree, func_tree, is_func_sort, if_sort, written, grow}
 use Rattle.wcv_lower.specs.Renamed.{Each, ContextNames}
 use Rattle.wcv_lower.proofs.Occurring.{context_names_map}
 use Rattle.wcv_state.specs.Promises.{IsGiven}

@@ -1,14 +1,13 @@
 -- An item that was read, and one that was refused.
-use Rattle.std.proofs.Common.{◌≡◌, ℕ, zero, suc, ◌+◌, ◌<◌, ◌≤◌, List, [], ◌∷◌, ◌++◌, length, Option, Some, None, Bool, true, false, refl, sym, ◌∙◌, ap, subst, arith, length-append, ◌⊎◌, inl, inr}
+use Rattle.std.proofs.Common.{◌≡◌, ℕ, zero, suc, ◌<◌, ◌≤◌, List, [], ◌∷◌, length, Option, Some, true, refl, sym, ◌∙◌, ap, subst, arith, length-append, inl, inr}
 use Rattle.std.specs.Prelude.{slice_get}
 use Rattle.std.specs.Option.{option_map}
 use Rattle.std.proofs.lemmas.Bool.{false≢true}
 use Rattle.std.proofs.lemmas.List.Elements.{All-push}
-use Rattle.wcv_core.specs.Names.{Name, number}
+use Rattle.wcv_core.specs.Names.{number}
 use Rattle.wcv_core.specs.declared.error.ErrorKind.{ErrorKind}
-use Rattle.wcv_core.specs.declared.error.ErrorKind.TheVariants as kinds
-use Rattle.wcv_syntax.specs.Built.{is_built, is_built_name, is_built_func}
-use Rattle.wcv_syntax.specs.Model.{Text, Func_form, Ref, func_ref, Form, func_type, import, export_func, unbuilt}
+use Rattle.wcv_syntax.specs.Built.{is_built_func}
+use Rattle.wcv_syntax.specs.Model.{Text, Func_form, Ref, Form, func_type, import, export_func}
 use Rattle.wcv_types.specs.Arena.{Arena}
 use Rattle.wcv_types.specs.Standing.{Stands, Extends, with_node}
 use Rattle.wcv_types.specs.Unfold.{trees, tree_of, tree_at}
@@ -21,15 +20,15 @@ use Rattle.wcv_types.specs.declared.shapes.ComponentEntityType.{ComponentEntityT
 use Rattle.wcv_types.specs.declared.shapes.ComponentFuncType.{ComponentFuncType}
 use Rattle.wcv_types.proofs.Grown.{extends_push, extends_trans, length-trees}
 use Rattle.wcv_lower.specs.Context.{Type_tree, Context, in_types, push, type_entry, add_export}
-use Rattle.wcv_lower.specs.Growth.{Names, func_tree, grow}
+use Rattle.wcv_lower.specs.Growth.{func_tree, grow}
 use Rattle.wcv_lower.specs.Renamed.{ContextNames}
-use Rattle.wcv_state.specs.Causes.{IsFree, Gives, most, FullCause, types_in, EntryCause, EntryCauseIf, FuncCause, FormCause, CallCause, LeftCause, Cause}
+use Rattle.wcv_state.specs.Causes.{IsFree, most, types_in, EntryCause, EntryCauseIf, FuncCause, CallCause, LeftCause, Cause}
 use Rattle.wcv_state.specs.Contents.{Contents, context_of, entity_tree, AnyStands, EntityStands, StateStands}
 use Rattle.wcv_state.specs.Entering.{with_type}
 use Rattle.wcv_state.specs.Promises.{IsGiven, Keeps, Grew, Exported, Entered, JoinCause, ExportCause}
 use Rattle.wcv_state.proofs.Fresh.{next_names, next_fresh}
 use Rattle.wcv_state.proofs.Keeping.{same_context, same_entity, state_stands, with_type_context}
-use Rattle.wcv_link.specs.Forms.{EntryNameCause, IsEntryName}
+use Rattle.wcv_link.specs.Forms.{IsEntryName}
 use Rattle.wcv_link.specs.Leads.{IsReady, Added, Read}
 use Rattle.wcv_link.specs.Naming.{IsCode}
 use Rattle.wcv_link.specs.Shapes.{IsShapeOf}

@@ -9,6 +9,7 @@ use Rattle.wcv_state.specs.Shape.{root_tree}
 use Rattle.wcv_link.specs.Valid.{ValidTo, type_at_end}
 use Rattle.wcv_link.specs.declared.driver.Accepted.{Accepted}
 
+-- the root is valid, and what is answered is what stands at its end
 pub record Accepts (es : List Entry) (a : Accepted) : Type 0 where
   -- the context at the root's end
   pub context : Context

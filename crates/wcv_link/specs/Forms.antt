@@ -2,7 +2,7 @@
 use Rattle.std.specs.Prelude.{ℕ, true, false, Option, Some, None, ◌≡◌, ◌⊎◌}
 use Rattle.wcv_core.specs.declared.error.ErrorKind.TheVariants as kind
 use Rattle.wcv_syntax.specs.Built.{is_built_name}
-use Rattle.wcv_syntax.specs.Model.{Text, Func_form, Ref, func_ref, Form, func_type, import, export_func, unbuilt}
+use Rattle.wcv_syntax.specs.Model.{Text, Func_form, func_ref, Form, func_type, import, export_func, unbuilt}
 use Rattle.wcv_state.specs.Causes.{Causes, Gives, IsFree, TextCause}
 
 -- the function type that an item makes

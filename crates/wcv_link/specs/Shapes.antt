@@ -1,5 +1,5 @@
 -- The node that a written function type makes.
-use Rattle.std.specs.Prelude.{ℕ, List, map, false, Option, Some, None, ◌≡◌}
+use Rattle.std.specs.Prelude.{ℕ, map, false, Option, Some, None, ◌≡◌}
 use Rattle.std.specs.Option.{option_map}
 use Rattle.wcv_core.specs.Names.{Name}
 use Rattle.wcv_core.specs.declared.primitive.PrimitiveValType.TheVariants as prim

@@ -48,7 +48,3 @@ Refused es end kind offset = RefusedFrom 0 start es end kind offset
 -- the type, under an identity, of the component whose context at its end is d
 abbrev pub type_at_end : Name → Context → Type_tree
 type_at_end i d = component_type i [] [] d.imports d.exports
-
--- the tree is the type of a valid root, up to renaming
-abbrev pub IsTypeOf : List Entry → Type_tree → Type 0
-IsTypeOf es t = (d : Context) × ValidTo es d × UpToRenaming t (type_at_end (base []) d)

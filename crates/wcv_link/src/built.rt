@@ -1,14 +1,14 @@
 // Which names and which function types are of a built form.
 ghost use Rattle.std.specs.Prelude.{◌≡◌, OnOk, IfErr};
-ghost use Rattle.std.specs.List.{list_all, list_any};
+ghost use Rattle.std.specs.List.{list_all};
 ghost use Rattle.wcv_syntax.specs.Built as built;
 ghost use Rattle.wcv_syntax.specs.View.{func_view};
 ghost use Rattle.wcv_state.specs.Causes.{TextCause, IsFree};
 ghost use Rattle.wcv_state.specs.Promises.{Tells};
 ghost use Rattle.wcv_link.specs.Forms.{EntryNameCause, IsEntryName};
 
-use crate::forms::unbuilt;
 use wcv_core::{Error, ErrorKind, PrimitiveValType, Text};
+use wcv_state::{is_built_name, unbuilt};
 use wcv_syntax::{ComponentFuncType, ComponentValType};
 
 /// The longest text of an item, in bytes.
@@ -27,26 +27,6 @@ pub fn check_text(text: &Text, offset: u64) -> Result<(), Error>
         ));
     }
     Ok(())
-}
-
-/// Whether the byte stands in names of other forms alone.
-fn is_mark(byte: u8) -> bool
-    ensures { result ≡ built.is_mark byte }
-{
-    byte == b'[' || byte == b':'
-}
-
-fn has_mark(bytes: &[u8]) -> bool
-    ensures { result ≡ list_any built.is_mark bytes.now }
-{
-    bytes.iter().any(|byte| is_mark(*byte))
-}
-
-/// Whether the text may be a plain name.
-fn is_built_name(text: &Text) -> bool
-    ensures { result ≡ built.is_built_name text.now }
-{
-    !has_mark(text.as_str().as_bytes())
 }
 
 /// Whether the name of an import or an export is plain and not too long.

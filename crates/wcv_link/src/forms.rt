@@ -2,27 +2,15 @@
 ghost use Rattle.std.specs.Prelude.{◌≡◌, Some, option_map, IfOk};
 ghost use Rattle.wcv_syntax.specs.Model.{func_ref, import, export_func};
 ghost use Rattle.wcv_syntax.specs.View.{func_view, type_view, name_view, import_view, export_view};
-ghost use Rattle.wcv_core.specs.Refusal.{error_kind, error_offset};
 ghost use Rattle.wcv_link.specs.Forms.{as_func, as_import, as_export};
 
 use std::alloc::Global;
-use wcv_core::{Error, ErrorKind, OutOfMemory, Text};
+use wcv_core::{OutOfMemory, Text};
+use wcv_state::plain_name;
 use wcv_syntax::{
     ComponentExport, ComponentExternName, ComponentExternalKind, ComponentFuncType,
     ComponentImport, ComponentType, ComponentTypeRef,
 };
-
-/// The refusal of a form that is not built yet.
-pub fn unbuilt(offset: u64) -> Error
-    ensures kind { error_kind result ≡ ErrorKind.Unbuilt }
-    ensures offset { error_offset result ≡ offset }
-{
-    Error::new(
-        ErrorKind::Unbuilt,
-        offset,
-        "the item is of a form that is not built",
-    )
-}
 
 /// The function type that a type item writes, where it is one and not async.
 pub fn func_of(ty: &ComponentType) -> Option<&ComponentFuncType>
@@ -32,16 +20,6 @@ pub fn func_of(ty: &ComponentType) -> Option<&ComponentFuncType>
         ComponentType::Func(func) => { if func.async_ { None } else { Some(func) } }
         _ => None,
     }
-}
-
-/// A name without anything beside it.
-fn plain_name(name: &ComponentExternName) -> Option<&Text>
-    ensures { option_map (λ n. n.now) result ≡ name_view name.now }
-{
-    if name.implements.is_some() || name.version_suffix.is_some() || name.external_id.is_some() {
-        return None;
-    }
-    Some(&name.name)
 }
 
 /// The name and the type's index of the import of a function.

@@ -9,11 +9,11 @@ ghost use Rattle.wcv_state.specs.Promises.{Tells};
 ghost use Rattle.wcv_link.specs.Leads.{IsReady, Added, Read, RefusesItem};
 
 use crate::built::{check_entry_name, is_built_func};
-use crate::forms::{export_of, func_export, func_import, func_of, import_of, unbuilt};
+use crate::forms::{export_of, func_export, func_import, func_of, import_of};
 use crate::params::{check_labels, check_limits};
 use crate::shapes::func_shape;
 use wcv_core::{Error, ErrorKind, OutOfMemory, Text};
-use wcv_state::ComponentState;
+use wcv_state::{ComponentState, unbuilt};
 use wcv_syntax::{
     ComponentExport, ComponentFuncType, ComponentImport, ComponentType, Item, Section,
 };

@@ -1,5 +1,5 @@
 -- Names that an arena did not give.
-use Rattle.std.proofs.Common.{◌≡◌, ℕ, List, [], ◌∷◌, length, refl, ap, ◌∙◌, arith, Bool, true, false, cond, eqb, eq-eqb, Some, None}
+use Rattle.std.proofs.Common.{◌≡◌, ℕ, [], ◌∷◌, length, refl, ap, ◌∙◌, arith, Bool, true, false, cond, eqb, eq-eqb, Some, None}
 use Rattle.std.specs.Prelude.{Option}
 use Rattle.std.proofs.lemmas.Bool.{eqb-true}
 use Rattle.wcv_core.specs.Names.{Name, Place, number, stamp, base, at}

@@ -1,14 +1,13 @@
 -- A state in an arena that grew stands for the same context; what calls keep.
-use Rattle.std.proofs.Common.{◌≡◌, ℕ, List, [], ◌∷◌, ◌++◌, length, map, refl, sym, ◌∙◌, ap, subst, arith, append-nil, append_assoc, Bool, ◌⊎◌, inl, inr}
+use Rattle.std.proofs.Common.{◌≡◌, ℕ, List, [], ◌∷◌, ◌++◌, map, refl, sym, ◌∙◌, ap, subst, append-nil, append_assoc, Bool, ◌⊎◌, inl, inr}
 use Rattle.std.specs.Prelude.{slice_get, Some, All}
 use Rattle.std.proofs.lemmas.Option.{slice_get_within, get_or_from_slice_get}
 use Rattle.std.proofs.lemmas.List.Elements.{All-head, All-tail, All-push, All-weaker, All-get_or}
 use Rattle.wcv_types.specs.Arena.{Arena}
 use Rattle.wcv_types.specs.Standing.{Stands, Extends}
-use Rattle.wcv_types.specs.Tree.{Text, type_of}
+use Rattle.wcv_types.specs.Tree.{Text}
 use Rattle.wcv_types.specs.Unfold.{trees, part_tree, slot_tree, value_slot}
 use Rattle.wcv_types.specs.declared.ids.ComponentAnyTypeId.{ComponentAnyTypeId}
-use Rattle.wcv_types.specs.declared.ids.ComponentAnyTypeId.TheVariants as any
 use Rattle.wcv_types.specs.declared.ids.ComponentFuncTypeId.{ComponentFuncTypeId}
 use Rattle.wcv_types.specs.declared.ids.Part.TheVariants as part
 use Rattle.wcv_types.specs.declared.info.TypeInfo.{TypeInfo}
@@ -19,9 +18,9 @@ use Rattle.wcv_types.specs.declared.shapes.ComponentValType.{ComponentValType}
 use Rattle.wcv_types.specs.declared.shapes.ComponentValType.TheVariants as value
 use Rattle.wcv_types.proofs.Each.{map-push}
 use Rattle.wcv_types.proofs.Grown.{extends_refl, extends_trans, stands_more, same_tree}
-use Rattle.wcv_lower.specs.Context.{Type_tree, Context, in_types, push, type_entry}
+use Rattle.wcv_lower.specs.Context.{Type_tree, in_types, push, type_entry}
 use Rattle.wcv_state.specs.Contents.{Contents, SpaceLists, context_in, context_of, any_part, entity_tree, entry_tree, entry_trees, AnyStands, FuncStands, ValueStands, EntityStands, EntryStands, StateStands}
-use Rattle.wcv_state.specs.Entering.{with_type, with_func, entered}
+use Rattle.wcv_state.specs.Entering.{with_type, entered}
 use Rattle.wcv_state.specs.Promises.{IsFront, KeepsEntries, Keeps}
 
 -- what holds of each element holds of the one at an index
@@ -229,6 +228,15 @@ with_type_context a s x t e =
     let p : map f (s.spaces.types ++ x ∷ []) ≡ map f s.spaces.types ++ type_entry t ∷ [] =
     map-push f s.spaces.types x ∙ ap (λ (u : Type_tree). map f s.spaces.types ++ type_entry u ∷ []) e in
     λ j. record (context_of a s) { types = p j }
+
+-- the arena grew, and then a type joined
+pub keeps_type : (a b : Arena) (s : Contents) (x : ComponentAnyTypeId) → Extends a b → StateStands a s → AnyStands b x → Keeps a b s (with_type s x)
+keeps_type a b s x g h p = keeps_trans a b b s s (with_type s x) (keeps_grown a b s g h) (keeps_with_type b s x (state_stands a b s g h) p)
+
+-- and the context after that
+pub grown_type_context : (a b : Arena) (s : Contents) (x : ComponentAnyTypeId) (t : Type_tree) → Extends a b → StateStands a s → part_tree (trees b.nodes) (any_part x) ≡ t →
+    context_of b (with_type s x) ≡ push in_types (type_entry t) (context_of a s)
+grown_type_context a b s x t g h e = with_type_context b s x t e ∙ ap (push in_types (type_entry t)) (same_context a b s g h)
 
 -- ## An entity that joins
 

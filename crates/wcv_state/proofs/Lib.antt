@@ -5,4 +5,5 @@ pub mod Keeping
 pub mod Looking
 pub mod Joining
 pub mod Refusing
+pub mod Starting
 pub mod Steps

@@ -1,5 +1,5 @@
 -- What the checks look at, over what the code keeps, is what the context has.
-use Rattle.std.proofs.Common.{◌≡◌, ℕ, suc, max, ◌+◌, ◌<◌, ◌≤◌, List, [], ◌∷◌, length, map, refl, sym, ◌∙◌, ap, subst, arith, Bool, true, false, ◌⊎◌, inl, inr, String, Some, None}
+use Rattle.std.proofs.Common.{◌≡◌, ℕ, ◌+◌, ◌≤◌, List, [], ◌∷◌, length, map, refl, sym, ◌∙◌, ap, subst, arith, Bool, true, false, ◌⊎◌, inl, inr, String, Some, None}
 use Rattle.std.specs.Prelude.{slice_get, Option}
 use Rattle.std.specs.BTreeSet.{BTreeSet, contains_text}
 use Rattle.std.specs.Option.{option_map}
@@ -25,7 +25,7 @@ use Rattle.wcv_types.proofs.Each.{length-mapped}
 use Rattle.wcv_types.proofs.Unfolding.{sort_stands}
 use Rattle.wcv_lower.specs.Context.{Type_tree, type_entry}
 use Rattle.wcv_lower.specs.Growth.{is_func_sort}
-use Rattle.wcv_state.specs.Causes.{Causes, Gives, IsFree, is_among, keys_of, most, FullCause, RoomCause, MeasureCause, IndexCause, IsOther, TypeIndexCause, NameCause}
+use Rattle.wcv_state.specs.Causes.{Causes, Gives, IsFree, is_among, keys_of, most, types_in, FullCause, RoomCause, MeasureCause, IndexCause, IsOther, TypeIndexCause, NameCause}
 use Rattle.wcv_state.specs.Contents.{Contents, SpaceLists, context_of, any_part, entity_tree, entry_trees, AnyStands, EntityStands, StateStands}
 use Rattle.wcv_state.specs.Entering.{RoomIn, MeasureIn, AdmitCause}
 use Rattle.wcv_state.specs.Labels.{AreKeys, LabelCause, IsNewLabel}
@@ -74,6 +74,9 @@ sort_same a s i k h =
     (ap (IsOther is_func_sort) (slice_get-map (entry_at a) s.spaces.types i) ∙ other_same a (slice_get s.spaces.types i) (λ x e. all_at (AnyStands a) s.spaces.types i x h.types e)))
 
 -- ## Limits
+
+pub types_in_same : (a : Arena) (s : Contents) → types_in (context_of a s) ≡ length s.spaces.core_types + length s.spaces.types
+types_in_same a s = ap (λ (n : ℕ). length s.spaces.core_types + n) (length-mapped (entry_at a) s.spaces.types)
 
 pub room_same : (a : Arena) (s : Contents) (x : ComponentEntityType) (k : ErrorKind) → EntityStands a x → RoomCause (context_of a s) (sort (entity_tree (trees a.nodes) x)) k ≡ RoomIn s.spaces x k
 room_same a s (entity.Func i) k h =

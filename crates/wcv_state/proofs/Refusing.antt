@@ -1,10 +1,9 @@
 -- What an error of a check tells of the call.
-use Rattle.std.proofs.Common.{◌≡◌, ℕ, List, length, sym, ap, subst, Bool, inl, inr, String}
+use Rattle.std.proofs.Common.{◌≡◌, ℕ, List, length, subst, Bool, inl, inr, String}
 use Rattle.std.specs.Prelude.{Option}
 use Rattle.std.specs.BTreeSet.{BTreeSet}
 use Rattle.std.specs.declared.alloc.Global.{Global}
 use Rattle.wcv_core.specs.declared.error.Error.{Error}
-use Rattle.wcv_core.specs.declared.error.ErrorKind.{ErrorKind}
 use Rattle.wcv_syntax.specs.View.{name_view, ref_view, import_view}
 use Rattle.wcv_syntax.specs.declared.name.ComponentImport.{ComponentImport}
 use Rattle.wcv_types.specs.Arena.{Arena}
@@ -12,7 +11,6 @@ use Rattle.wcv_types.specs.Tree.{Text}
 use Rattle.wcv_types.specs.Unfold.{trees}
 use Rattle.wcv_types.specs.declared.ids.ComponentAnyTypeId.{ComponentAnyTypeId}
 use Rattle.wcv_types.specs.declared.shapes.ComponentEntityType.{ComponentEntityType}
-use Rattle.wcv_lower.specs.Context.{Type_tree}
 use Rattle.wcv_state.specs.Causes.{keys_of, most, FullCause, CallCause}
 use Rattle.wcv_state.specs.Contents.{Contents, context_of, entity_tree, EntityStands, StateStands}
 use Rattle.wcv_state.specs.Entering.{FullIf, AdmitCause}

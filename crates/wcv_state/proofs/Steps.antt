@@ -1,5 +1,5 @@
 -- What the calls on a state are to the context that it stands for.
-use Rattle.std.proofs.Common.{◌≡◌, ℕ, ◌<◌, ◌≤◌, List, [], ◌∷◌, ◌++◌, length, refl, sym, ◌∙◌, ap, subst, arith, Bool, true, false, cond, ◌⊎◌, inl, inr, String, Some, None}
+use Rattle.std.proofs.Common.{◌≡◌, ℕ, ◌<◌, List, [], ◌∷◌, ◌++◌, length, refl, sym, ◌∙◌, ap, subst, arith, Bool, true, false, cond, ◌⊎◌, inl, inr, String, Some, None}
 use Rattle.std.specs.Prelude.{slice_get, Option}
 use Rattle.std.specs.BTreeSet.{BTreeSet}
 use Rattle.std.specs.Option.{option_map, option_and_then}
@@ -9,8 +9,8 @@ use Rattle.std.proofs.lemmas.Option.{slice_get-map}
 use Rattle.wcv_core.specs.declared.error.ErrorKind.{ErrorKind}
 use Rattle.wcv_core.specs.declared.error.ErrorKind.TheVariants as kind
 use Rattle.wcv_syntax.specs.Built.{is_built, is_built_name}
-use Rattle.wcv_syntax.specs.Model.{Form, Ref, func_ref, import, export_func, unbuilt}
-use Rattle.wcv_syntax.specs.View.{plain_name, name_view, ref_view, import_of, import_view, exported_func, export_of, export_view}
+use Rattle.wcv_syntax.specs.Model.{Form, Ref, func_ref, import, export_func}
+use Rattle.wcv_syntax.specs.View.{name_view, ref_view, import_of, import_view, exported_func, export_of, export_view}
 use Rattle.wcv_syntax.specs.declared.component_type.ComponentTypeRef.{ComponentTypeRef}
 use Rattle.wcv_syntax.specs.declared.component_type.ComponentTypeRef.TheVariants as ref
 use Rattle.wcv_syntax.specs.declared.instance.ComponentExternalKind.{ComponentExternalKind}
@@ -28,11 +28,10 @@ use Rattle.wcv_types.specs.declared.ids.Part.TheVariants as part
 use Rattle.wcv_types.specs.declared.info.TypeInfo.{TypeInfo}
 use Rattle.wcv_types.specs.declared.item_map.ComponentItem.{ComponentItem}
 use Rattle.wcv_types.specs.declared.shapes.ComponentEntityType.{ComponentEntityType}
-use Rattle.wcv_types.specs.declared.shapes.ComponentEntityType.TheVariants as entity
 use Rattle.wcv_types.proofs.Each.{length-mapped}
 use Rattle.wcv_lower.specs.Context.{Type_tree, Context, add_import, add_export}
-use Rattle.wcv_lower.specs.Growth.{Names, grow, is_func_sort, if_sort, written}
-use Rattle.wcv_state.specs.Causes.{Gives, IsFree, keys_of, most, FullCause, RoomCause, MeasureCause, IndexCause, NameCause, WrittenCause, EntryCause, EntryCauseIf, CallCause}
+use Rattle.wcv_lower.specs.Growth.{grow, is_func_sort, if_sort, written}
+use Rattle.wcv_state.specs.Causes.{IsFree, keys_of, most, FullCause, RoomCause, MeasureCause, IndexCause, NameCause, WrittenCause, EntryCause, EntryCauseIf, CallCause}
 use Rattle.wcv_state.specs.Contents.{Contents, SpaceLists, context_of, entity_tree, entry_tree, entry_trees, AnyStands, FuncStands, EntityStands, StateStands}
 use Rattle.wcv_state.specs.Entering.{with_entry, entered, entry_of, FullIf, AdmitCause}
 use Rattle.wcv_state.specs.Forms.{IsBuiltName, WrittenIn, WrittenCauseIn, ExportedIn, ExportedCauseIn}
@@ -238,7 +237,7 @@ entered_export check a s z name n x keys spaces exports info ez b h room agree f
       name = n;
       is_built = b.plain;
       entered = ap (λ (l : SpaceLists × List (Text × ComponentItem) × TypeInfo). context_of a (record z { spaces = l.0; exports = l.1; info = l.2; spent = false })) (λ j. (es j, ei j, em j)) ∙
-      export_joined a z name x false h ∙ ap (λ (m : Text). add_export m (entity_tree (trees a.nodes) x) (context_of a z)) (name_text name n b.plain);
+          export_joined a z name x false h ∙ ap (λ (m : Text). add_export m (entity_tree (trees a.nodes) x) (context_of a z)) (name_text name n b.plain);
       free = subst (λ (o : Option Text). IsFree (ExportCause check (context_of a z) o (entity_tree (trees a.nodes) x))) (sym b.plain) (export_free check a z keys n x agree h room free b.built);
       live = refl;
     })

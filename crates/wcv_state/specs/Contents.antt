@@ -1,5 +1,5 @@
 -- What contracts see of a state, and the context that it stands for.
-use Rattle.std.specs.Prelude.{ℕ, List, [], map, Bool, false, length, All}
+use Rattle.std.specs.Prelude.{List, [], map, Bool, false, length, All}
 use Rattle.wcv_core.specs.declared.core_types.CoreTypeId.{CoreTypeId}
 use Rattle.wcv_core.specs.declared.core_types.GlobalType.{GlobalType}
 use Rattle.wcv_core.specs.declared.core_types.MemoryType.{MemoryType}
@@ -9,7 +9,6 @@ use Rattle.wcv_types.specs.Arena.{Arena}
 use Rattle.wcv_types.specs.Tree.{Text, type_of}
 use Rattle.wcv_types.specs.Unfold.{part_tree, slot_tree, value_slot, trees}
 use Rattle.wcv_types.specs.Standing.{Stands}
-use Rattle.wcv_types.specs.declared.component_type.ComponentType.{ComponentType}
 use Rattle.wcv_types.specs.declared.ids.ComponentAnyTypeId.{ComponentAnyTypeId}
 use Rattle.wcv_types.specs.declared.ids.ComponentAnyTypeId.TheVariants as any
 use Rattle.wcv_types.specs.declared.ids.ComponentCoreInstanceTypeId.{ComponentCoreInstanceTypeId}

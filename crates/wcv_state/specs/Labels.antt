@@ -1,5 +1,5 @@
 -- A label that is to join a set of keys.
-use Rattle.std.specs.Prelude.{ℕ, List, true, false, ◌≡◌, ◌⊎◌, String}
+use Rattle.std.specs.Prelude.{List, true, false, ◌≡◌, ◌⊎◌, String}
 use Rattle.std.specs.BTreeSet.{BTreeSet, contains_text}
 use Rattle.std.specs.declared.alloc.Global.{Global}
 use Rattle.wcv_core.specs.Label.{is_label, lower_case}

@@ -1,5 +1,5 @@
 -- What the calls on a state promise.
-use Rattle.std.specs.Prelude.{ℕ, List, [], ◌∷◌, ◌++◌, Bool, true, false, Some, Option, None, length, slice_get, ◌≡◌, ◌≤◌, ◌<◌, ◌⊎◌}
+use Rattle.std.specs.Prelude.{ℕ, List, [], ◌++◌, Bool, true, false, Some, Option, None, length, slice_get, ◌≡◌, ◌<◌, ◌⊎◌}
 use Rattle.wcv_core.specs.Names.{Name, number, stamp, base, at}
 use Rattle.wcv_core.specs.Refusal.{error_kind, error_offset}
 use Rattle.wcv_core.specs.declared.error.Error.{Error}

@@ -1,5 +1,5 @@
 -- What the readers of a state answer.
-use Rattle.std.specs.Prelude.{ℕ, List, Bool, true, false, Option, Some, None, length, slice_get, ◌≡◌, ◌≤◌, ◌⊎◌}
+use Rattle.std.specs.Prelude.{ℕ, List, Bool, true, false, Option, Some, None, length, slice_get, ◌≡◌, ◌⊎◌}
 use Rattle.wcv_core.specs.declared.error.ErrorKind.TheVariants as kind
 use Rattle.wcv_types.specs.declared.ids.ComponentAnyTypeId.{ComponentAnyTypeId}
 use Rattle.wcv_types.specs.declared.ids.ComponentAnyTypeId.TheVariants as any

@@ -8,7 +8,10 @@ mod kind;
 mod labels;
 mod spaces;
 mod state;
+#[cfg(test)]
+mod tests;
 
+pub use forms::{is_built_name, plain_name, unbuilt};
 pub use kind::{ComponentKind, Space};
 pub use labels::check_label;
 pub use state::ComponentState;

@@ -22,8 +22,8 @@ use std::marker::Model;
 use wcv_core::{Error, ErrorKind, OutOfMemory, Text, WasmFeatures};
 use wcv_syntax::{ComponentExport, ComponentExternName, ComponentImport, ComponentTypeRef};
 use wcv_types::{
-    ComponentAnyTypeId, ComponentCoreTypeId, ComponentEntityType, ComponentFuncTypeId, ComponentItem,
-    ComponentType, ItemMap, Paths, TypeAlloc, TypeInfo,
+    ComponentAnyTypeId, ComponentCoreTypeId, ComponentEntityType, ComponentFuncTypeId,
+    ComponentItem, ComponentType, ItemMap, Paths, TypeAlloc, TypeInfo,
 };
 
 /// What stands in a component, or in a declared type, that is being read: its thirteen index spaces, its
@@ -130,11 +130,7 @@ fn copy_entry(
 }
 
 /// The entry at that position again.
-fn copy_at(
-    alloc: Global,
-    list: &ItemMap,
-    k: usize,
-) -> Result<(Text, ComponentItem), OutOfMemory>
+fn copy_at(alloc: Global, list: &ItemMap, k: usize) -> Result<(Text, ComponentItem), OutOfMemory>
     requires { k < length list.now }
     ensures { IfOk result (λ copy. slice_get list.now k ≡ Some copy) }
 {
@@ -206,7 +202,10 @@ impl ComponentState {
     pub fn instance_count(&self) -> usize
         ensures { result ≡ min (length self.now.spaces.core_instances + length self.now.spaces.instances) usize.MAX }
     {
-        both(self.spaces.core_instances.len(), self.spaces.instances.len())
+        both(
+            self.spaces.core_instances.len(),
+            self.spaces.instances.len(),
+        )
     }
 
     /// How many functions and core functions there are.

@@ -7,7 +7,6 @@ mod func_sort;
 mod ids;
 mod info;
 mod item_map;
-mod resource_sort;
 mod shapes;
 mod sorts;
 #[cfg(test)]

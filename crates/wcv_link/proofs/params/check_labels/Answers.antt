@@ -1,15 +1,13 @@
-use Rattle.std.proofs.Common.{◌≡◌, ◌++◌, ◌∷◌, [], ◌∙◌, sym, ap, subst, refl, true, false, take, map, string_bytes, rules, List, ◌+◌, ◌⊎◌}
+use Rattle.std.proofs.Common.{◌≡◌, ◌++◌, ◌∷◌, [], ◌∙◌, sym, ap, subst, true, false, take, string_bytes, List, ◌+◌, ◌⊎◌}
 use Rattle.std.proofs.lemmas.List.{take_more}
 use Rattle.std.proofs.lemmas.Result.{err_from_is_err_and}
-use Rattle.wcv_core.specs.Label.{is_label, lower_case}
-use Rattle.wcv_core.specs.Refusal.{error_kind}
 use Rattle.wcv_syntax.specs.View.{func_view}
 use Rattle.wcv_syntax.specs.declared.component_type.ComponentValType.{ComponentValType}
 use Rattle.wcv_types.specs.Tree.{Text}
 use Rattle.wcv_core.specs.declared.error.ErrorKind.TheVariants as kind
 use Rattle.wcv_state.specs.Causes.{Gives, is_among, has_repeat, keys_of, are_labels, FuncCause}
 use Rattle.wcv_link.proofs.Telling.{told}
-use Rattle.wcv_state.specs.Labels.{AreKeys, LabelCause}
+use Rattle.wcv_state.specs.Labels.{LabelCause}
 use Rattle.wcv_link.proofs.Repeats.{keys_of-push, keys_joined, are_labels-push, apart-push, names_fail}
 use Rattle.wcv_link.proofs.params.check_labels.Goals as goal
 

@@ -1,8 +1,6 @@
-use Rattle.std.proofs.Common.{◌≡◌, ◌<◌, true, rules}
+use Rattle.std.proofs.Common.{◌≡◌, true, rules}
 use Rattle.wcv_syntax.specs.Built.{is_built_func}
 use Rattle.wcv_syntax.specs.View.{func_view}
-use Rattle.wcv_state.specs.Causes.{types_in, most}
-use Rattle.wcv_state.specs.Contents.{context_of}
 use Rattle.wcv_link.proofs.Steps.{func_read}
 use Rattle.wcv_link.proofs.reading.read_func.Goals as goal
 

@@ -1,5 +1,5 @@
 use Rattle.wcv_link.proofs.Steps.{import_read}
-use Rattle.wcv_syntax.specs.Model.{import, func_ref}
+use Rattle.wcv_syntax.specs.Model.{func_ref}
 use Rattle.wcv_syntax.specs.View.{import_view}
 use Rattle.wcv_link.proofs.reading.read_func_import.Goals as goal
 

@@ -1,4 +1,4 @@
-use Rattle.std.proofs.Common.{rules, ◌≡◌, sym, ◌∙◌, ap, true, inr, string_bytes}
+use Rattle.std.proofs.Common.{rules, ◌≡◌, sym, ◌∙◌, ap, true, inr}
 use Rattle.std.specs.BTreeSet.{contains_text}
 use Rattle.wcv_core.specs.Label.{lower_case}
 use Rattle.wcv_state.proofs.labels.check_label.Goals as goal

@@ -1,8 +1,7 @@
-use Rattle.std.proofs.Common.{rules, refl, sym, ap, subst, ◌∙◌, true, false, ◌≡◌, ◌<◌, ℕ, length, string_bytes, inr}
+use Rattle.std.proofs.Common.{rules, refl, true, false, ◌≡◌, ◌<◌, length, string_bytes, inr}
 use Rattle.std.proofs.lemmas.Result.{err_from_is_err_and}
 use Rattle.wcv_syntax.specs.View.{name_view}
 use Rattle.wcv_state.specs.Causes.{keys_of, most}
-use Rattle.wcv_state.specs.Contents.{Contents, StateStands}
 use Rattle.wcv_state.specs.Entering.{entry_of}
 use Rattle.wcv_state.specs.Inside.{contents_of, lists, KeysAgree}
 use Rattle.wcv_state.proofs.Joining.{agree_live, list_keys}
@@ -18,9 +17,11 @@ pub returns-in_err-check_exports-clause-err : goal.returns-in_err-check_exports-
 returns-in_err-check_exports-clause-err c =
     let p = err_from_is_err_and c.from_residual-in_err-check_exports.result c.from_residual-in_err-check_exports.ensures.1 in
     let len : c.len.result ≡ length c.self.inside.exports = search rules in
-    rw (p.1, p.2)
-    (refl, export_tells_full c.args.types.now c.args.self.now (contents_of c.self.inside) c.self.view_is c.args.offset c.in_err-check_exports.field-0.0 c.args.check_limit (name_view c.args.name) c.in_ok-text.text.now c.in_ok-text.ensures.ok c.args.ty
-    c.len.result len c.in_err-check_exports.ensures.err)
+    rw (p.1, p.2) (
+      refl,
+      export_tells_full c.args.types.now c.args.self.now (contents_of c.self.inside) c.self.view_is c.args.offset c.in_err-check_exports.field-0.0 c.args.check_limit (name_view c.args.name) c.in_ok-text.text.now c.in_ok-text.ensures.ok c.args.ty
+          c.len.result len c.in_err-check_exports.ensures.err,
+    )
 
 pub returns-in_err-check_exports-clause-keeps : goal.returns-in_err-check_exports-clause-keeps
 returns-in_err-check_exports-clause-keeps c = keeps_marked c.args.types.now c.args.self.now (contents_of c.self.inside) true c.self.view_is c.requires.stands
@@ -29,9 +30,11 @@ pub returns-in_err-admitted-clause-err : goal.returns-in_err-admitted-clause-err
 returns-in_err-admitted-clause-err c =
     let p = err_from_is_err_and c.from_residual-in_err-admitted.result c.from_residual-in_err-admitted.ensures.1 in
     let k : KeysAgree c.self.inside = agree_live c.self.inside c.args.self.now c.self.invariant c.self.view_is c.requires.live in
-    rw (p.1, p.2)
-    (refl, export_tells_entry c.args.types.now c.args.self.now (contents_of c.self.inside) c.self.view_is c.args.offset c.in_err-admitted.field-0.0 c.args.check_limit (name_view c.args.name) c.in_ok-text.text.now c.in_ok-text.ensures.ok c.args.ty
-    c.self.inside.export_keys c.requires.entity k.exports c.in_err-admitted.ensures.err)
+    rw (p.1, p.2) (
+      refl,
+      export_tells_entry c.args.types.now c.args.self.now (contents_of c.self.inside) c.self.view_is c.args.offset c.in_err-admitted.field-0.0 c.args.check_limit (name_view c.args.name) c.in_ok-text.text.now c.in_ok-text.ensures.ok c.args.ty
+          c.self.inside.export_keys c.requires.entity k.exports c.in_err-admitted.ensures.err,
+    )
 
 pub returns-in_err-admitted-clause-keeps : goal.returns-in_err-admitted-clause-keeps
 returns-in_err-admitted-clause-keeps c = keeps_marked c.args.types.now c.args.self.now (contents_of c.self.inside) true c.self.view_is c.requires.stands

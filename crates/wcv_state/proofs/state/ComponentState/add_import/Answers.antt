@@ -1,12 +1,10 @@
-use Rattle.std.proofs.Common.{rules, refl, sym, ap, subst, ◌∙◌, true, false, ◌≡◌, ℕ, length, string_bytes, inr}
+use Rattle.std.proofs.Common.{rules, refl, sym, ap, subst, ◌∙◌, true, false, ◌≡◌, length, string_bytes, inr}
 use Rattle.std.proofs.lemmas.Result.{err_from_is_err_and}
-use Rattle.wcv_core.specs.Label.{lower_case}
 use Rattle.wcv_syntax.specs.View.{ref_view}
 use Rattle.wcv_state.specs.Causes.{keys_of}
 use Rattle.wcv_state.specs.Contents.{Contents, StateStands}
 use Rattle.wcv_state.specs.Entering.{entry_of}
 use Rattle.wcv_state.specs.Inside.{contents_of, lists, KeysAgree}
-use Rattle.wcv_state.specs.Labels.{AreKeys}
 use Rattle.wcv_state.specs.Promises.{Brings}
 use Rattle.wcv_state.proofs.Joining.{agree_live, list_keys}
 use Rattle.wcv_state.proofs.Keeping.{keeps_marked, keeps_import}

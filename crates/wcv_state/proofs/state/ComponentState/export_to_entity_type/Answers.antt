@@ -16,9 +16,11 @@ returns-in_err-entity-clause-err c =
     let p = err_from_is_err_and c.from_residual.result c.from_residual.ensures.1 in
     let funcs : c.deref.result.now ≡ c.args.self.now.spaces.funcs = c.deref.ensures.value ∙ ap (λ (z : Contents). z.spaces.funcs) c.self.view_is in
     let o : Option ℕ = exported_func c.args.export.now.kind c.args.export.now.index c.args.export.now.ty in
-    rw (p.1, p.2)
-    (refl, tells_more (ExportedCauseIn c.deref.result.now o) (ItemCause (context_of c.args.types.now c.args.self.now) o) c.args.offset c.in_err-entity.field-0.0
-    (λ k. exported_cause c.args.types.now c.args.self.now c.deref.result.now o k funcs) c.in_err-entity.ensures.err)
+    rw (p.1, p.2) (
+      refl,
+      tells_more (ExportedCauseIn c.deref.result.now o) (ItemCause (context_of c.args.types.now c.args.self.now) o) c.args.offset c.in_err-entity.field-0.0
+          (λ k. exported_cause c.args.types.now c.args.self.now c.deref.result.now o k funcs) c.in_err-entity.ensures.err,
+    )
 
 pub returns-in_err-entity-clause-keeps : goal.returns-in_err-entity-clause-keeps
 returns-in_err-entity-clause-keeps c = keeps_marked c.args.types.now c.args.self.now (contents_of c.self.inside) true c.self.view_is c.requires.stands
