@@ -22,9 +22,8 @@ fn a_function_type_joins_the_arena(rt: HostRuntime) -> Result<(), Fail> {
     assert!(rt; types.get(id).async_);
     assert_eq!(rt; id.info(&types).depth, 2);
     assert_eq!(rt; id.part_count(&types), 0);
-    let reference = types.alloc_resource_id()?;
+    assert_eq!(rt; types.alloc_resource_id()?.resource().index, 0);
     assert_eq!(rt; types.alloc_resource_id()?.resource().index, 1);
-    assert_eq!(rt; reference.info(&types).size, 1);
     Ok(())
 }
 
