@@ -1,5 +1,4 @@
-"""Makes the listings that are measured: those that a user's tool would write, and the largest that the
-program accepts now."""
+"""Makes the listings that are measured: those that a user's tool would write, and some of long texts."""
 import json
 
 PRIMITIVES = "bool s8 u8 s16 u16 s32 u32 s64 u64 f32 f64 char string".split()

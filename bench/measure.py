@@ -7,7 +7,6 @@ Times and memory are medians of RUNS runs, 5 if not given, in which the programs
 turns. Where valgrind is there, the instructions of one run are counted too: they do not depend on what
 else the machine does.
 """
-import itertools
 import os
 import re
 import shutil
@@ -84,13 +83,13 @@ def print_table(first, programs, listings, runs):
 def main(runs):
     print(f"{os.cpu_count()} processors, load {os.getloadavg()[0]:.1f} at the start, medians of {runs} runs. In brackets: times the bare parse.")
     ordinary = [(f"{n} MB", make_listings.ordinary(n * 1_000_000), n < 64) for n in (1, 8, 64)]
-    print_table("Listing", [("bare parse", PARSE), ("reading", READ)], ordinary, runs)
+    programs = [("bare parse", PARSE), ("reading", READ), ("validation", VALIDATE)]
+    print_table("Listing", programs, ordinary, runs)
     largest = [
-        ("as a tool writes it", itertools.islice(make_listings.ordinary(1_000_000), 1_000), True),
         ("long names", make_listings.long_names(), False),
         ("many parameters", make_listings.many_params(), False),
     ]
-    print_table("Valid listing of 1,000 items", [("bare parse", PARSE), ("reading", READ), ("validation", VALIDATE)], largest, runs)
+    print_table("Listing of long texts", programs, largest, runs)
     print(f"\nLoad {os.getloadavg()[0]:.1f} at the end.")
 
 
