@@ -28,7 +28,23 @@ def export_of(name, index):
     return {"export": {"name": name, "sort": "func", "index": index}}
 
 
-def ordinary(limit):
+WORDS = (
+    "account balance channel document element frame gateway handle index journal kernel ledger message node object "
+    "packet queue record session table update vector window yield archive buffer client driver engine filter graph"
+).split()
+
+
+def words_name(kind, k):
+    """A name of three words, its kind and a number: names that differ at their beginning."""
+    return "-".join((WORDS[k * 7 % 31], WORDS[k * 11 // 31 % 31], WORDS[k % 31], kind, f"n{k}"))
+
+
+def front_name(kind, k):
+    """A name with the same 36 bytes before its number as each other of its kind."""
+    return f"{kind}-function-with-the-long-number-n{k}"
+
+
+def ordinary(limit, name=words_name):
     """A function type, its import and an export of that in turn, some 110 bytes an item, until their
     lines have so many bytes. Each third item makes a type, and the other two make functions. With one
     parameter a function has the size 2, so the largest listing keeps below the limit on a component's size."""
@@ -36,9 +52,9 @@ def ordinary(limit):
     while size < limit - 120:
         group = k // 3
         item = (
-            func_type([[f"the-parameter-of-the-function-with-the-number-n{k}", PRIMITIVES[group % 13]]], None),
-            import_of(f"imported-function-with-the-number-n{k}", group),
-            export_of(f"exported-function-with-the-number-n{k}", 2 * group),
+            func_type([[name("parameter", k), PRIMITIVES[group % 13]]], None),
+            import_of(name("imported", k), group),
+            export_of(name("exported", k), 2 * group),
         )[k % 3]
         yield item
         size += len(json.dumps({"at": 31 + 23 * k, **item})) + 2

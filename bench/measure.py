@@ -85,6 +85,8 @@ def main(runs):
     ordinary = [(f"{n} MB", make_listings.ordinary(n * 1_000_000), n < 64) for n in (1, 8, 64)]
     programs = [("bare parse", PARSE), ("reading", READ), ("validation", VALIDATE)]
     print_table("Listing", programs, ordinary, runs)
+    fronts = [(f"{n} MB", make_listings.ordinary(n * 1_000_000, make_listings.front_name), n < 64) for n in (1, 8, 64)]
+    print_table("Listing of names with one front", programs, fronts, runs)
     largest = [
         ("long names", make_listings.long_names(), False),
         ("many parameters", make_listings.many_params(), False),
