@@ -1,3 +1,5 @@
+pub mod Adding
+pub mod Among
 pub mod Appending
 pub mod Names
 pub mod Words

@@ -1,6 +1,7 @@
 -- Labels: kebab-case names of the component model.
-use Rattle.std.specs.Prelude.{ℕ, List, [], ◌∷◌, Bool, true, false, ◌&&◌, ◌||◌, ◌==◌, map, if◌then◌else◌}
+use Rattle.std.specs.Prelude.{ℕ, List, [], ◌∷◌, Bool, false, ◌&&◌, ◌||◌, ◌==◌, map, if◌then◌else◌}
 use Rattle.std.specs.List.{list_all}
+use Rattle.std.specs.Str.{bytes_eq}
 use Rattle.std.specs.Char.{is_ascii_digit, is_ascii_lowercase, is_ascii_uppercase, is_ascii_alphabetic, to_ascii_lowercase}
 
 -- the byte stands before all of the first part
@@ -35,3 +36,8 @@ is_label text = begins_with_letter text && list_all is_word (words text)
 -- labels are compared with all letters in lower case
 abbrev pub lower_case : List ℕ → List ℕ
 lower_case text = map to_ascii_lowercase text
+
+-- the text is one of these
+abbrev pub is_among : List ℕ → List (List ℕ) → Bool
+is_among t [] = false
+is_among t (u ∷ us) = bytes_eq t u || is_among t us

@@ -5,3 +5,4 @@ pub mod Kebab
 pub mod Kinds
 pub mod Refusal
 pub mod Names
+pub mod LabelSet

@@ -1,6 +1,7 @@
 // Refusals: their kind, their place and their message.
 ghost use Rattle.std.specs.Prelude.{◌≡◌, Some};
 ghost use Rattle.wcv_core.specs.Kinds.{kind_name};
+ghost use Rattle.wcv_core.specs.Refusal.{error_message};
 
 use crate::memory::OutOfMemory;
 use arrayvec::ArrayString;
@@ -114,6 +115,8 @@ impl Error {
 }
 
 impl fmt::Display for Error {
+    ghost output = { λ e. Some (error_message e) };
+
     fn fmt<W: fmt::Write>(&self, f: &mut fmt::Formatter<W>) -> fmt::Result {
         f.write_str(self.message.as_str())
     }

@@ -8,6 +8,7 @@ mod excerpt;
 mod extern_kind;
 mod features;
 mod kebab;
+mod label_set;
 mod memory;
 mod primitive;
 #[cfg(test)]
@@ -25,6 +26,7 @@ pub use excerpt::Excerpt;
 pub use extern_kind::ExternKind;
 pub use features::WasmFeatures;
 pub use kebab::{KebabString, is_label};
+pub use label_set::LabelSet;
 pub use memory::OutOfMemory;
 pub use primitive::PrimitiveValType;
 pub use text::{Place, Text};

@@ -1,5 +1,5 @@
 // What no clause says, and each call once on its happy path.
-use crate::{Error, ErrorKind, Excerpt, KebabString, Place, Text, is_label};
+use crate::{Error, ErrorKind, Excerpt, KebabString, LabelSet, Place, Text, is_label};
 use std::test::Fail;
 
 #[test]
@@ -48,5 +48,22 @@ fn texts_and_messages_are_kept(rt: HostRuntime) -> Result<(), Fail> {
     );
     let lines = Excerpt("a\nb").to_string(rt.alloc())?;
     assert_eq!(rt; lines.as_str(), "a\u{fffd}b");
+    Ok(())
+}
+
+#[test]
+fn labels_of_one_list_differ_in_more_than_case(rt: HostRuntime) -> Result<(), Fail> {
+    let mut labels = LabelSet::new(rt.alloc());
+    for (text, wanted) in [
+        ("a-b", true),
+        ("a-B", false),
+        ("a-b", false),
+        ("a", true),
+        ("ab", true),
+        ("A-B", false),
+        ("b-a", true),
+    ] {
+        assert_eq!(rt; labels.insert(text)?, wanted, "{text}");
+    }
     Ok(())
 }

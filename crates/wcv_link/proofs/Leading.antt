@@ -16,7 +16,7 @@ use Rattle.wcv_lower.specs.Context.{Type_tree, Context, lengths}
 use Rattle.wcv_lower.proofs.Occurring.{lengths-renamed}
 use Rattle.wcv_state.specs.Causes.{Cause, IsFree}
 use Rattle.wcv_state.specs.Contents.{Contents, context_of, entry_trees, EntryStands, empty_state}
-use Rattle.wcv_state.specs.Entering.{spent}
+use Rattle.wcv_state.specs.Entering.{finished}
 use Rattle.wcv_state.specs.Promises.{IsGiven, Finished}
 use Rattle.wcv_state.specs.Shape.{path_of, root_tree}
 use Rattle.wcv_state.specs.declared.kind.ComponentKind.TheVariants.{Component}
@@ -110,7 +110,7 @@ root_named a s k m ty r named f =
 same_lengths : (k : ℕ) (c m : Context) → NamedAs k c m → lengths c ≡ lengths m
 same_lengths k c m w = lengths-renamed w.naming.resource_to w.naming.identity_to c ∙ ap lengths w.renamed
 
-pub leads_end : (s : Contents) (k : ℕ) (es left : List Entry) (end : ℕ) (x : Accepted) → Leads x.types s k es left end → left ≡ [] → x.state ≡ spent s → Finished s x.ty → x.nested.items ≡ [] → Accepts es x
+pub leads_end : (s : Contents) (k : ℕ) (es left : List Entry) (end : ℕ) (x : Accepted) → Leads x.types s k es left end → left ≡ [] → x.state ≡ finished s → Finished s x.ty → x.nested.items ≡ [] → Accepts es x
 leads_end s k es left end x l is es' f nested =
     let done : ValidTo es l.context = (l.reads l.context (subst (λ (xs : List Entry). Reads k l.context xs l.context) (sym is) refl), λ kind c. c) in
     let lens : lengths (context_of x.types x.state) ≡ lengths l.context =

@@ -1,32 +1,15 @@
 -- Lists of names that grow at the end, and the keys that the code keeps of them.
-use Rattle.std.proofs.Common.{◌≡◌, ℕ, suc, ◌+◌, ◌<◌, List, [], ◌∷◌, ◌++◌, length, get_or, take, drop, Bool, true, false, cond, ◌||◌, ◌&&◌, refl, sym, ◌∙◌, ap, arith, String, string_bytes, drop-cons, add-one, ◌⊎◌, inl, inr}
+use Rattle.std.proofs.Common.{◌≡◌, ℕ, suc, ◌+◌, ◌<◌, List, [], ◌∷◌, ◌++◌, length, get_or, take, drop, Bool, true, false, ◌||◌, ◌&&◌, refl, sym, ◌∙◌, ap, drop-cons, add-one, ◌⊎◌, inl, inr}
 use Rattle.std.specs.Str.{bytes_eq}
-use Rattle.std.specs.BTreeSet.{BTreeSet, UpdatesBy, contains_text}
-use Rattle.std.specs.Cmp.Lexicographic.{slice_cmp}
-use Rattle.std.specs.String.{string_cmp}
-use Rattle.std.specs.Ordering.{nat_cmp}
-use Rattle.std.specs.declared.alloc.Global.{Global}
 use Rattle.std.proofs.lemmas.List.{take-append-drop}
 use Rattle.std.proofs.lemmas.List.Folds.{list_all-append}
-use Rattle.std.proofs.lemmas.Map.Text.{btree_set_updates_text}
-use Rattle.std.proofs.lemmas.Slice.Eq.{bytes_eq-Decides}
 use Rattle.wcv_core.specs.Label.{is_label, lower_case}
+use Rattle.wcv_core.proofs.Among.{bytes_eq-sym, is_among-push}
 use Rattle.wcv_types.specs.Tree.{Text}
 use Rattle.wcv_core.specs.declared.error.ErrorKind.{ErrorKind}
 use Rattle.wcv_core.specs.declared.error.ErrorKind.TheVariants as kinds
 use Rattle.wcv_state.specs.Causes.{Gives, is_among, has_repeat, keys_of, are_labels}
 use Rattle.wcv_state.specs.Labels.{AreKeys, LabelCause}
-
-bytes_eq-sym : (a b : Text) → bytes_eq a b ≡ bytes_eq b a
-bytes_eq-sym a b = grind (arith, bytes_eq-Decides a b, bytes_eq-Decides b a)
-
-or_false : (a : Bool) → (a || false) ≡ a
-or_false true = refl
-or_false false = refl
-
-or_assoc : (a b c : Bool) → ((a || b) || c) ≡ (a || (b || c))
-or_assoc true b c = refl
-or_assoc false b c = refl
 
 -- (a or b) or (c or d), with the inner ones exchanged
 or_middle : (a b c d : Bool) → ((a || b) || (c || d)) ≡ ((a || c) || (b || d))
@@ -39,10 +22,6 @@ or_middle false false false d = refl
 or_right : (a b : Bool) → b ≡ true → (a || b) ≡ true
 or_right true b h = refl
 or_right false b h = h
-
-pub is_among-push : (t k : Text) (ks : List Text) → is_among t (ks ++ k ∷ []) ≡ (is_among t ks || bytes_eq t k)
-is_among-push t k [] = or_false (bytes_eq t k)
-is_among-push t k (l ∷ ks) = ap (λ (b : Bool). bytes_eq t l || b) (is_among-push t k ks) ∙ sym (or_assoc (bytes_eq t l) (is_among t ks) (bytes_eq t k))
 
 pub has_repeat-push : (k : Text) (ks : List Text) → has_repeat (ks ++ k ∷ []) ≡ (has_repeat ks || is_among k ks)
 has_repeat-push k [] = refl
@@ -64,18 +43,6 @@ has_repeat-again k (l ∷ ks) ls h = again (bytes_eq k l) refl h (has_repeat-aga
     again : (b : Bool) → bytes_eq k l ≡ b → (b || is_among k ks) ≡ true → (is_among k ks ≡ true → has_repeat (ks ++ k ∷ ls) ≡ true) → (is_among l (ks ++ k ∷ ls) || has_repeat (ks ++ k ∷ ls)) ≡ true
     again true e i f = ap (λ (b : Bool). b || has_repeat (ks ++ k ∷ ls)) (among ks (bytes_eq-sym l k ∙ e))
     again false e i f = or_right (is_among l (ks ++ k ∷ ls)) (has_repeat (ks ++ k ∷ ls)) (f i)
-
-pub keys_joined : (set set' : BTreeSet (String Global)) (ks : List Text) (k : Text) →
-    UpdatesBy string_cmp (λ q. slice_cmp nat_cmp k (string_bytes q)) set set' true → AreKeys set ks → AreKeys set' (ks ++ k ∷ [])
-keys_joined set set' ks k u a t =
-    btree_set_updates_text k set set' true u t ∙ ap (cond (bytes_eq k t) true) (a t) ∙ last (bytes_eq k t) (is_among t ks) ∙
-    ap (λ (b : Bool). is_among t ks || b) (bytes_eq-sym k t) ∙ sym (is_among-push t k ks)
-  where
-    last : (a b : Bool) → cond a true b ≡ (b || a)
-    last true true = refl
-    last true false = refl
-    last false true = refl
-    last false false = refl
 
 module _ {X : Type 0} where
   keys_of-append : (xs ys : List (Text × X)) → keys_of (xs ++ ys) ≡ keys_of xs ++ keys_of ys
@@ -112,13 +79,13 @@ module _ {X : Type 0} where
       has_repeat-again (lower_case x.0) (keys_of (take i xs)) (keys_of (drop (i + 1) xs)) a
 
   -- a name that may not join the first i is a cause of the whole list
-  pub names_fail : (set : BTreeSet (String Global)) (xs : List (Text × X)) (i : ℕ) (x : Text × X) (kind : ErrorKind) → i < length xs → x ≡ get_or xs i x → AreKeys set (keys_of (take i xs)) → LabelCause set x.0 kind
+  pub names_fail : (set : List Text) (xs : List (Text × X)) (i : ℕ) (x : Text × X) (kind : ErrorKind) → i < length xs → x ≡ get_or xs i x → AreKeys set (keys_of (take i xs)) → LabelCause set x.0 kind
       → Gives kinds.Name (are_labels xs ≡ false) kind ⊎ Gives kinds.Conflict (has_repeat (keys_of xs) ≡ true) kind
   names_fail set xs i x kind h e a (inl p) = inl (p.0, labels_fail xs i x h e p.1)
   names_fail set xs i x kind h e a (inr p) = inr (p.0, keys_repeat xs i x h e (sym (a (lower_case x.0)) ∙ p.1))
 
   -- one more name that may join
-  pub apart-push : (set : BTreeSet (String Global)) (xs : List (Text × X)) (x : Text × X) → AreKeys set (keys_of xs) → has_repeat (keys_of xs) ≡ false → contains_text set (lower_case x.0) ≡ false
+  pub apart-push : (set : List Text) (xs : List (Text × X)) (x : Text × X) → AreKeys set (keys_of xs) → has_repeat (keys_of xs) ≡ false → is_among (lower_case x.0) set ≡ false
       → has_repeat (keys_of (xs ++ x ∷ [])) ≡ false
   apart-push set xs x a h n =
       ap has_repeat (keys_of-push xs x) ∙ has_repeat-push (lower_case x.0) (keys_of xs) ∙

@@ -4,7 +4,6 @@ use Rattle.wcv_core.specs.Names.{Name, base, Place}
 use Rattle.wcv_core.specs.declared.error.ErrorKind.{ErrorKind}
 use Rattle.wcv_syntax.specs.Model.{Form, Entry}
 use Rattle.wcv_types.specs.Tree.{component_type}
-use Rattle.wcv_types.specs.Rename.{UpToRenaming}
 use Rattle.wcv_lower.specs.Context.{Type_tree, Context, empty, concrete}
 use Rattle.wcv_lower.specs.Growth.{Names, grow}
 use Rattle.wcv_state.specs.Causes.{Causes, Cause, IsFree}

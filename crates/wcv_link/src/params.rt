@@ -7,9 +7,8 @@ ghost use Rattle.wcv_state.specs.Promises.{Tells};
 
 use crate::built::check_text;
 use std::alloc::Global;
-use std::collections::BTreeSet;
-use wcv_core::{Error, ErrorKind};
-use wcv_state::check_label;
+use wcv_core::{Error, ErrorKind, LabelSet};
+use wcv_state::insert_label;
 use wcv_syntax::ComponentFuncType;
 
 /// The most parameters of a function.
@@ -47,10 +46,9 @@ pub fn check_labels(alloc: Global, func: &ComponentFuncType, offset: u64) -> Res
     ensures ok { OnOk result (IsFree (FuncCause (func_view func.now))) }
     ensures err { IfErr result (Tells (FuncCause (func_view func.now)) offset) }
 {
-    let mut keys: BTreeSet<String> = BTreeSet::new(alloc);
+    let mut keys = LabelSet::new(alloc);
     for param in &func.params {
-        let key = check_label(alloc, &keys, &param.0, offset)?;
-        keys.insert(key)?;
+        insert_label(&mut keys, &param.0, offset)?;
     }
     Ok(())
 }

@@ -1,15 +1,9 @@
 -- An entry joins a list, with its key.
-use Rattle.std.proofs.Common.{◌≡◌, List, [], ◌∷◌, ◌++◌, map, refl, sym, ◌∙◌, ap, Bool, true, false, cond, String, string_bytes, ◌||◌, arith, Some, None, subst}
+use Rattle.std.proofs.Common.{◌≡◌, List, [], ◌∷◌, ◌++◌, map, sym, ◌∙◌, ap, Bool, false, ◌||◌, Some, None, subst}
 use Rattle.std.specs.Prelude.{Option}
 use Rattle.std.specs.Str.{bytes_eq}
-use Rattle.std.proofs.lemmas.Slice.Eq.{bytes_eq-Decides}
-use Rattle.std.specs.BTreeSet.{BTreeSet, UpdatesBy}
-use Rattle.std.specs.Cmp.Lexicographic.{slice_cmp}
-use Rattle.std.specs.String.{string_cmp}
-use Rattle.std.specs.Ordering.{nat_cmp}
-use Rattle.std.proofs.lemmas.Map.Text.{btree_set_updates_text}
-use Rattle.std.specs.declared.alloc.Global.{Global}
 use Rattle.wcv_core.specs.Label.{lower_case}
+use Rattle.wcv_core.proofs.Among.{is_among-joined}
 use Rattle.wcv_types.specs.Arena.{Arena}
 use Rattle.wcv_types.specs.Tree.{Text, Sort}
 use Rattle.wcv_types.specs.Unfold.{trees, part_tree}
@@ -32,33 +26,9 @@ use Rattle.wcv_syntax.specs.declared.name.ComponentExternName.{ComponentExternNa
 
 -- ## Keys
 
-bytes_eq-sym : (a b : Text) → bytes_eq a b ≡ bytes_eq b a
-bytes_eq-sym a b = grind (arith, bytes_eq-Decides a b, bytes_eq-Decides b a)
-
-or_false : (b : Bool) → (b || false) ≡ b
-or_false true = refl
-or_false false = refl
-
-or_last : (a b : Bool) → (b || a) ≡ cond a true b
-or_last true true = refl
-or_last true false = refl
-or_last false true = refl
-or_last false false = refl
-
-or_assoc : (a b c : Bool) → (a || (b || c)) ≡ ((a || b) || c)
-or_assoc true b c = refl
-or_assoc false b c = refl
-
-is_among-push : (t n : Text) (ks : List Text) → is_among t (ks ++ n ∷ []) ≡ (is_among t ks || bytes_eq t n)
-is_among-push t n [] = or_false (bytes_eq t n)
-is_among-push t n (k ∷ ks) = ap (λ (b : Bool). bytes_eq t k || b) (is_among-push t n ks) ∙ or_assoc (bytes_eq t k) (is_among t ks) (bytes_eq t n)
-
--- a key that was inserted is the one more
-pub keys_joined : (keys keys' : BTreeSet (String Global)) (ks : List Text) (n : Text) →
-    UpdatesBy string_cmp (λ k. slice_cmp nat_cmp n (string_bytes k)) keys keys' true → AreKeys keys ks → AreKeys keys' (ks ++ n ∷ [])
-keys_joined keys keys' ks n u a t =
-    btree_set_updates_text n keys keys' true u t ∙ ap (cond (bytes_eq n t) true) (a t) ∙ sym (or_last (bytes_eq n t) (is_among t ks)) ∙
-    ap (λ (b : Bool). is_among t ks || b) (bytes_eq-sym n t) ∙ sym (is_among-push t n ks)
+-- a key that joined is the one more
+pub keys_joined : (set set' : List Text) (ks : List Text) (n : Text) → ((t : Text) → is_among t set' ≡ (bytes_eq t n || is_among t set)) → AreKeys set ks → AreKeys set' (ks ++ n ∷ [])
+keys_joined set set' ks n more a t = more t ∙ ap (λ (b : Bool). bytes_eq t n || b) (a t) ∙ is_among-joined t n ks
 
 -- the keys of a list with one more entry
 pub keys_of-push : (es : List (Text × ComponentItem)) (e : Text × ComponentItem) → keys_of (es ++ e ∷ []) ≡ keys_of es ++ lower_case e.0 ∷ []
@@ -74,12 +44,12 @@ name_is name None None (Some e) n h = cc
 pub name_text : (name : ComponentExternName) (n : Text) → name_view name ≡ Some n → name.name ≡ n
 name_text name n h = name_is name.name name.implements name.version_suffix name.external_id n h
 
--- the keys of a list to which an entry of that name and key joined
-pub list_keys : (keys : BTreeSet (String Global)) (es es' : List (Text × ComponentItem)) (name : ComponentExternName) (x : ComponentEntityType) (n key : Text) → name_view name ≡ Some n → key ≡ lower_case n →
-    es' ≡ es ++ entry_of name x ∷ [] → AreKeys keys (keys_of es ++ key ∷ []) → AreKeys keys (keys_of es')
-list_keys keys es es' name x n key b e l h =
-    let same : keys_of es ++ key ∷ [] ≡ keys_of es' =
-    ap (λ (t : Text). keys_of es ++ t ∷ []) (e ∙ sym (ap lower_case (name_text name n b))) ∙ sym (ap keys_of l ∙ keys_of-push es (entry_of name x)) in
+-- the keys of a list to which an entry of that name joined
+pub list_keys : (keys : List Text) (es es' : List (Text × ComponentItem)) (name : ComponentExternName) (x : ComponentEntityType) (n : Text) → name_view name ≡ Some n →
+    es' ≡ es ++ entry_of name x ∷ [] → AreKeys keys (keys_of es ++ lower_case n ∷ []) → AreKeys keys (keys_of es')
+list_keys keys es es' name x n b l h =
+    let same : keys_of es ++ lower_case n ∷ [] ≡ keys_of es' =
+    ap (λ (t : Text). keys_of es ++ lower_case t ∷ []) (sym (name_text name n b)) ∙ sym (ap keys_of l ∙ keys_of-push es (entry_of name x)) in
     subst (AreKeys keys) same h
 
 -- the keys agree while the state is not spent

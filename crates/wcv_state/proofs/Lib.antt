@@ -1,5 +1,4 @@
 pub mod CauseLaws
-pub mod Copying
 pub mod Fresh
 pub mod Keeping
 pub mod Looking

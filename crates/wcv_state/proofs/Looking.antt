@@ -1,9 +1,7 @@
 -- What the checks look at, over what the code keeps, is what the context has.
-use Rattle.std.proofs.Common.{◌≡◌, ℕ, ◌+◌, ◌≤◌, List, [], ◌∷◌, length, map, refl, sym, ◌∙◌, ap, subst, arith, Bool, true, false, ◌⊎◌, inl, inr, String, Some, None}
+use Rattle.std.proofs.Common.{◌≡◌, ℕ, ◌+◌, ◌≤◌, List, [], ◌∷◌, length, map, refl, sym, ◌∙◌, ap, subst, arith, Bool, true, false, ◌⊎◌, inl, inr, Some, None}
 use Rattle.std.specs.Prelude.{slice_get, Option}
-use Rattle.std.specs.BTreeSet.{BTreeSet, contains_text}
 use Rattle.std.specs.Option.{option_map}
-use Rattle.std.specs.declared.alloc.Global.{Global}
 use Rattle.std.proofs.lemmas.Bool.{false≢true}
 use Rattle.std.proofs.lemmas.Option.{slice_get-map, slice_get_within}
 use Rattle.wcv_core.specs.Label.{is_label, lower_case}
@@ -97,15 +95,15 @@ pub keys_same : (ts : List Type_tree) (es : List (Text × ComponentItem)) → ke
 keys_same ts [] = refl
 keys_same ts (e ∷ es) = ap (λ (ks : List Text). lower_case e.0 ∷ ks) (keys_same ts es)
 
-pub name_same : (ts : List Type_tree) (keys : BTreeSet (String Global)) (es : List (Text × ComponentItem)) (n : Text) (k : ErrorKind) → AreKeys keys (keys_of es) →
+pub name_same : (ts : List Type_tree) (keys : List Text) (es : List (Text × ComponentItem)) (n : Text) (k : ErrorKind) → AreKeys keys (keys_of es) →
     NameCause (entry_trees ts es) n k ≡ LabelCause keys n k
 name_same ts keys es n k h =
-    let taken : is_among (lower_case n) (keys_of (entry_trees ts es)) ≡ contains_text keys (lower_case n) =
+    let taken : is_among (lower_case n) (keys_of (entry_trees ts es)) ≡ is_among (lower_case n) keys =
     ap (is_among (lower_case n)) (keys_same ts es) ∙ sym (h (lower_case n)) in
     λ j. Gives kind.Name (is_label n ≡ false) k ⊎ Gives kind.Conflict (taken j ≡ true) k
 
 -- the causes of an entry, but for the length of its list
-pub admit_same : (a : Arena) (s : Contents) (keys : BTreeSet (String Global)) (es : List (Text × ComponentItem)) (n : Text) (x : ComponentEntityType) (k : ErrorKind) →
+pub admit_same : (a : Arena) (s : Contents) (keys : List Text) (es : List (Text × ComponentItem)) (n : Text) (x : ComponentEntityType) (k : ErrorKind) →
     AreKeys keys (keys_of es) → EntityStands a x →
     (NameCause (entry_trees (trees a.nodes) es) n k ⊎ (RoomCause (context_of a s) (sort (entity_tree (trees a.nodes) x)) k ⊎ MeasureCause (context_of a s) (entity_tree (trees a.nodes) x) k))
     ≡ AdmitCause keys s.spaces s.info n x (entity_tree (trees a.nodes) x) k
@@ -113,7 +111,7 @@ admit_same a s keys es n x k h p =
     either _ _ _ _ (name_same (trees a.nodes) keys es n k h) (either _ _ _ _ (room_same a s x k p) (measure_same a s (entity_tree (trees a.nodes) x) k))
 
 -- an entry is free of causes where each check found none
-pub admit_free : (keys : BTreeSet (String Global)) (s : SpaceLists) (info : TypeInfo) (n : Text) (x : ComponentEntityType) (t : Type_tree) →
+pub admit_free : (keys : List Text) (s : SpaceLists) (info : TypeInfo) (n : Text) (x : ComponentEntityType) (t : Type_tree) →
     IsNewLabel keys n → IsFree (RoomIn s x) → IsFree (MeasureIn info t) → IsFree (AdmitCause keys s info n x t)
 admit_free keys s info n x t l room measure k (inl (inl p)) = false≢true (sym p.1 ∙ l.label)
 admit_free keys s info n x t l room measure k (inl (inr p)) = false≢true (sym l.new_key ∙ p.1)

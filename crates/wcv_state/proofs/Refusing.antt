@@ -1,8 +1,6 @@
 -- What an error of a check tells of the call.
-use Rattle.std.proofs.Common.{◌≡◌, ℕ, List, length, subst, Bool, inl, inr, String}
+use Rattle.std.proofs.Common.{◌≡◌, ℕ, List, length, subst, Bool, inl, inr}
 use Rattle.std.specs.Prelude.{Option}
-use Rattle.std.specs.BTreeSet.{BTreeSet}
-use Rattle.std.specs.declared.alloc.Global.{Global}
 use Rattle.wcv_core.specs.declared.error.Error.{Error}
 use Rattle.wcv_syntax.specs.View.{name_view, ref_view, import_view}
 use Rattle.wcv_syntax.specs.declared.name.ComponentImport.{ComponentImport}
@@ -32,7 +30,7 @@ module _ (a : Arena) (s z : Contents) (same : z ≡ s) (offset : ℕ) (e : Error
         subst (λ (y : Contents). Tells (CallCause (context_of a y) (import_view i)) offset e) same (tells_more (FullCause most len) (CallCause (context_of a z) (import_view i)) offset e
         (λ k f. import_entry_refused a z i n x k b w (inr (inl (full_cause a z.imports k (subst (λ (m : ℕ). FullCause most m k) l f))))) t)
 
-    pub import_tells_entry : (x : ComponentEntityType) (keys : BTreeSet (String Global)) → Brings a z (ref_view i.ty) x → AreKeys keys (keys_of z.imports) →
+    pub import_tells_entry : (x : ComponentEntityType) (keys : List Text) → Brings a z (ref_view i.ty) x → AreKeys keys (keys_of z.imports) →
         Tells (AdmitCause keys z.spaces z.info n x (entity_tree (trees a.nodes) x)) offset e → Tells (CallCause (context_of a s) (import_view i)) offset e
     import_tells_entry x keys w agree t =
         subst (λ (y : Contents). Tells (CallCause (context_of a y) (import_view i)) offset e) same
@@ -46,7 +44,7 @@ module _ (a : Arena) (s z : Contents) (same : z ≡ s) (offset : ℕ) (e : Error
         (tells_more (FullIf check len) (ExportCause check (context_of a z) o (entity_tree (trees a.nodes) x)) offset e
         (λ k f. export_full_refused check a z o n (entity_tree (trees a.nodes) x) k b (subst (λ (m : ℕ). FullIf check m k) l f)) t)
 
-    pub export_tells_entry : (keys : BTreeSet (String Global)) → EntityStands a x → AreKeys keys (keys_of z.exports) → Tells (AdmitCause keys z.spaces z.info n x (entity_tree (trees a.nodes) x)) offset e →
+    pub export_tells_entry : (keys : List Text) → EntityStands a x → AreKeys keys (keys_of z.exports) → Tells (AdmitCause keys z.spaces z.info n x (entity_tree (trees a.nodes) x)) offset e →
         Tells (ExportCause check (context_of a s) o (entity_tree (trees a.nodes) x)) offset e
     export_tells_entry keys h agree t =
         subst (λ (y : Contents). Tells (ExportCause check (context_of a y) o (entity_tree (trees a.nodes) x)) offset e) same

@@ -1,9 +1,7 @@
 -- What the calls on a state are to the context that it stands for.
-use Rattle.std.proofs.Common.{◌≡◌, ℕ, ◌<◌, List, [], ◌∷◌, ◌++◌, length, refl, sym, ◌∙◌, ap, subst, arith, Bool, true, false, cond, ◌⊎◌, inl, inr, String, Some, None}
+use Rattle.std.proofs.Common.{◌≡◌, ℕ, ◌<◌, List, [], ◌∷◌, ◌++◌, length, refl, sym, ◌∙◌, ap, subst, arith, Bool, true, false, cond, ◌⊎◌, inl, inr, Some, None}
 use Rattle.std.specs.Prelude.{slice_get, Option}
-use Rattle.std.specs.BTreeSet.{BTreeSet}
 use Rattle.std.specs.Option.{option_map, option_and_then}
-use Rattle.std.specs.declared.alloc.Global.{Global}
 use Rattle.std.proofs.lemmas.Bool.{false≢true}
 use Rattle.std.proofs.lemmas.Option.{slice_get-map}
 use Rattle.wcv_core.specs.declared.error.ErrorKind.{ErrorKind}
@@ -101,7 +99,7 @@ exported_item a s xs o x h e w =
 
 -- ## Entries
 
-module _ (a : Arena) (z : Contents) (keys : BTreeSet (String Global)) (es : List (Text × ComponentItem)) (n : Text) (x : ComponentEntityType) (agree : AreKeys keys (keys_of es)) (h : EntityStands a x) where
+module _ (a : Arena) (z : Contents) (keys : List Text) (es : List (Text × ComponentItem)) (n : Text) (x : ComponentEntityType) (agree : AreKeys keys (keys_of es)) (h : EntityStands a x) where
   abbrev tree : Type_tree
   tree = entity_tree (trees a.nodes) x
 
@@ -163,7 +161,7 @@ import_free c n r t b w free entry k (inl p) = false≢true (sym p.1 ∙ b)
 import_free c n r t b w free entry k (inr (b', inl p)) = free k p
 import_free c n r t b w free entry k (inr (b', inr p)) = entry k (subst (λ (o : Option Type_tree). EntryCauseIf c c.imports n o k) w p)
 
-pub grew_import : (a : Arena) (s z : Contents) (i : ComponentImport) (n : Text) (x : ComponentEntityType) (keys : BTreeSet (String Global)) (spaces : SpaceLists) (imports : List (Text × ComponentItem)) (info : TypeInfo) →
+pub grew_import : (a : Arena) (s z : Contents) (i : ComponentImport) (n : Text) (x : ComponentEntityType) (keys : List Text) (spaces : SpaceLists) (imports : List (Text × ComponentItem)) (info : TypeInfo) →
     z ≡ s → IsBuiltName (name_view i.name) n → Brings a z (ref_view i.ty) x → length z.imports < most → AreKeys keys (keys_of z.imports) →
     IsFree (AdmitCause keys z.spaces z.info n x (entity_tree (trees a.nodes) x)) →
     spaces ≡ entered x z.spaces → imports ≡ z.imports ++ entry_of i.name x ∷ [] → info ≡ with_entry z.info (entity_tree (trees a.nodes) x) →
@@ -205,7 +203,7 @@ export_refused check c o n t k b f = subst (λ (p : Option Text). ExportCause ch
 pub export_full_refused : (check : Bool) (a : Arena) (s : Contents) (o : Option Text) (n : Text) (t : Type_tree) (k : ErrorKind) → IsBuiltName o n → FullIf check (length s.exports) k → ExportCause check (context_of a s) o t k
 export_full_refused check a s o n t k b f = export_refused check (context_of a s) o n t k b (inr (inl (f.0, full_cause a s.exports k f.1)))
 
-pub export_entry_refused : (check : Bool) (a : Arena) (s : Contents) (keys : BTreeSet (String Global)) (o : Option Text) (n : Text) (x : ComponentEntityType) (k : ErrorKind) →
+pub export_entry_refused : (check : Bool) (a : Arena) (s : Contents) (keys : List Text) (o : Option Text) (n : Text) (x : ComponentEntityType) (k : ErrorKind) →
     AreKeys keys (keys_of s.exports) → EntityStands a x → IsBuiltName o n → AdmitCause keys s.spaces s.info n x (entity_tree (trees a.nodes) x) k →
     ExportCause check (context_of a s) o (entity_tree (trees a.nodes) x) k
 export_entry_refused check a s keys o n x k agree h b f =
@@ -216,7 +214,7 @@ export_entry_refused check a s keys o n x k agree h b f =
     go (inl p) = inl p
     go (inr p) = inr (inr p)
 
-module _ (check : Bool) (a : Arena) (z : Contents) (keys : BTreeSet (String Global)) (n : Text) (x : ComponentEntityType) (agree : AreKeys keys (keys_of z.exports)) (h : EntityStands a x)
+module _ (check : Bool) (a : Arena) (z : Contents) (keys : List Text) (n : Text) (x : ComponentEntityType) (agree : AreKeys keys (keys_of z.exports)) (h : EntityStands a x)
     (room : check ≡ true → length z.exports < most) (free : IsFree (AdmitCause keys z.spaces z.info n x (entity_tree (trees a.nodes) x))) where
   join_free : IsFree (JoinCause check (context_of a z) n (entity_tree (trees a.nodes) x))
   join_free k (inl p) = admit_back a z keys z.exports n x agree h k free (inl p)
@@ -227,7 +225,7 @@ module _ (check : Bool) (a : Arena) (z : Contents) (keys : BTreeSet (String Glob
   export_free b k (inl p) = false≢true (sym p.1 ∙ b)
   export_free b k (inr p) = join_free k p.1
 
-pub entered_export : (check : Bool) (a : Arena) (s z : Contents) (name : ComponentExternName) (n : Text) (x : ComponentEntityType) (keys : BTreeSet (String Global)) (spaces : SpaceLists) (exports : List (Text × ComponentItem)) (info : TypeInfo) →
+pub entered_export : (check : Bool) (a : Arena) (s z : Contents) (name : ComponentExternName) (n : Text) (x : ComponentEntityType) (keys : List Text) (spaces : SpaceLists) (exports : List (Text × ComponentItem)) (info : TypeInfo) →
     z ≡ s → IsBuiltName (name_view name) n → EntityStands a x → (check ≡ true → length z.exports < most) → AreKeys keys (keys_of z.exports) →
     IsFree (AdmitCause keys z.spaces z.info n x (entity_tree (trees a.nodes) x)) →
     spaces ≡ entered x z.spaces → exports ≡ z.exports ++ entry_of name x ∷ [] → info ≡ with_entry z.info (entity_tree (trees a.nodes) x) →

@@ -1,7 +1,7 @@
 -- Why an item is refused. A cause is a kind of refusal that holds of a context and an item; growth is apart.
 use Rattle.std.specs.Prelude.{ℕ, suc, max, ◌+◌, List, [], ◌∷◌, map, Bool, true, false, ◌||◌, length, slice_get, Option, Some, None, ◌≡◌, ◌≤◌, ◌<◌, ◌⊎◌}
-use Rattle.std.specs.Str.{bytes_eq}
 use Rattle.std.specs.List.{list_all}
+pub use Rattle.wcv_core.specs.Label.{is_among}
 use Rattle.wcv_core.specs.Label.{is_label, lower_case}
 use Rattle.wcv_core.specs.declared.error.ErrorKind.{ErrorKind}
 use Rattle.wcv_core.specs.declared.error.ErrorKind.TheVariants as kind
@@ -26,11 +26,6 @@ abbrev pub IsFree : Causes → Type 0
 IsFree P = (k : ErrorKind) → P k → ⊥
 
 -- ## Names
-
--- the text stands in the list
-abbrev pub is_among : Text → List Text → Bool
-is_among t [] = false
-is_among t (u ∷ us) = bytes_eq t u || is_among t us
 
 -- a text stands twice in the list
 abbrev pub has_repeat : List Text → Bool

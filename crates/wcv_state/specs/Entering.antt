@@ -1,7 +1,5 @@
 -- What the checks of an entry look at, over what the code keeps.
-use Rattle.std.specs.Prelude.{ℕ, suc, max, ◌+◌, List, [], ◌∷◌, ◌++◌, Bool, true, length, String, ◌≡◌, ◌<◌, ◌⊎◌}
-use Rattle.std.specs.BTreeSet.{BTreeSet}
-use Rattle.std.specs.declared.alloc.Global.{Global}
+use Rattle.std.specs.Prelude.{ℕ, suc, max, ◌+◌, List, [], ◌∷◌, ◌++◌, Bool, true, length, ◌≡◌, ◌<◌, ◌⊎◌}
 use Rattle.wcv_core.specs.declared.error.ErrorKind.TheVariants as kind
 use Rattle.wcv_syntax.specs.declared.name.ComponentExternName.{ComponentExternName}
 use Rattle.wcv_types.specs.Measure.{size, depth}
@@ -51,6 +49,10 @@ with_func s i = record s { spaces = record s.spaces { funcs = s.spaces.funcs ++ 
 abbrev pub spent : Contents → Contents
 spent s = record s { spent = true }
 
+-- a state whose imports and exports went into the type of what was read
+abbrev pub finished : Contents → Contents
+finished s = record s { imports = []; exports = []; spent = true }
+
 -- ## Causes over what the code keeps
 
 -- no room for one more, where that is looked at
@@ -71,5 +73,5 @@ abbrev pub MeasureIn : TypeInfo → Type_tree → Causes
 MeasureIn info t k = Gives kind.Limit (most < info.size + size t) k ⊎ Gives kind.Limit (most_depth < max info.depth (suc (depth t))) k
 
 -- an entry of that name and type, but for the length of its list
-abbrev pub AdmitCause : BTreeSet (String Global) → SpaceLists → TypeInfo → Text → ComponentEntityType → Type_tree → Causes
+abbrev pub AdmitCause : List Text → SpaceLists → TypeInfo → Text → ComponentEntityType → Type_tree → Causes
 AdmitCause keys s info n x t k = LabelCause keys n k ⊎ (RoomIn s x k ⊎ MeasureIn info t k)

@@ -1,5 +1,5 @@
 // Entries that join the imports or the exports.
-ghost use Rattle.std.specs.Prelude.{◌≡◌, ◌<◌, true, List, [], ◌∷◌, ◌++◌, string_bytes, OnOk, OnErr, IfOk, IfErr};
+ghost use Rattle.std.specs.Prelude.{◌≡◌, ◌<◌, true, List, [], ◌∷◌, ◌++◌, OnOk, OnErr, IfOk, IfErr};
 ghost use Rattle.wcv_core.specs.Label.{lower_case};
 ghost use Rattle.wcv_core.specs.Refusal.{error_kind};
 ghost use Rattle.wcv_types.specs.Tree.{Text};
@@ -11,10 +11,9 @@ ghost use Rattle.wcv_state.specs.Inside.{lists};
 ghost use Rattle.wcv_state.specs.Labels.{AreKeys};
 ghost use Rattle.wcv_state.specs.Promises.{Tells};
 
-use crate::labels::check_label;
+use crate::labels::insert_label;
 use crate::spaces::{Spaces, both};
-use std::collections::BTreeSet;
-use wcv_core::{Error, ErrorKind, OutOfMemory, Text};
+use wcv_core::{Error, ErrorKind, LabelSet, OutOfMemory, Text};
 use wcv_syntax::ComponentExternName;
 use wcv_types::{ComponentEntityType, ComponentItem, ItemMap, TypeAlloc, TypeInfo, TypeSort};
 
@@ -95,33 +94,27 @@ fn measured(
     Ok(whole)
 }
 
-/// What an entry that may join a list brings: its key, and the size and the depth of what is made with it.
-#[derive(Drop)]
-pub struct Admitted {
-    pub key: String,
-    pub info: TypeInfo,
-}
-
-/// Whether an entry of that name and type may join a list with these keys.
+/// The name of an entry joins the keys of its list, where an entry of that name and type may join it. Gives
+/// the size and the depth of what is made with the entry.
 pub fn admit(
     spaces: &Spaces,
     info: TypeInfo,
-    keys: &BTreeSet<String>,
+    keys: &mut LabelSet,
     name: &Text,
     ty: &ComponentEntityType,
     types: &TypeAlloc,
     offset: u64,
-) -> Result<Admitted, Error>
+) -> Result<TypeInfo, Error>
     requires { EntityStands types.now ty.now }
-    ensures key { IfOk result (λ a. string_bytes a.key ≡ lower_case name.now) }
-    ensures info { IfOk result (λ a. a.info ≡ with_entry info (entity_tree (trees types.now.nodes) ty.now)) }
-    ensures ok { OnOk result (IsFree (AdmitCause keys.now (lists spaces.now) info name.now ty.now (entity_tree (trees types.now.nodes) ty.now))) }
-    ensures err { IfErr result (Tells (AdmitCause keys.now (lists spaces.now) info name.now ty.now (entity_tree (trees types.now.nodes) ty.now)) offset) }
+    ensures keys { OnOk result ((ks : List Text) → AreKeys keys.old ks → AreKeys keys.new (ks ++ lower_case name.now ∷ [])) }
+    ensures info { IfOk result (λ i. i ≡ with_entry info (entity_tree (trees types.now.nodes) ty.now)) }
+    ensures ok { OnOk result (IsFree (AdmitCause keys.old (lists spaces.now) info name.now ty.now (entity_tree (trees types.now.nodes) ty.now))) }
+    ensures err { IfErr result (Tells (AdmitCause keys.old (lists spaces.now) info name.now ty.now (entity_tree (trees types.now.nodes) ty.now)) offset) }
 {
-    let key = check_label(types.allocator(), keys, name, offset)?;
+    insert_label(keys, name, offset)?;
     check_room(spaces, ty, types, offset)?;
-    let info = measured(info, ty, types, offset)?;
-    Ok(Admitted { key, info })
+    let whole = measured(info, ty, types, offset)?;
+    Ok(whole)
 }
 
 /// The entity joins its space.
@@ -137,12 +130,10 @@ fn enter(spaces: &mut Spaces, ty: ComponentEntityType, types: &TypeAlloc) -> Res
     Ok(())
 }
 
-/// An entry under that key joins a list and its space. Whatever the answer, the list has its old entries.
+/// An entry joins a list and its space. Whatever the answer, the list has its old entries.
 pub fn join(
     spaces: &mut Spaces,
-    keys: &mut BTreeSet<String>,
     list: &mut ItemMap,
-    key: String,
     name: ComponentExternName,
     ty: ComponentEntityType,
     types: &TypeAlloc,
@@ -150,7 +141,6 @@ pub fn join(
     requires { EntityStands types.now ty }
     ensures spaces { OnOk result (lists spaces.new ≡ entered ty (lists spaces.old)) }
     ensures list { OnOk result (list.new ≡ list.old ++ entry_of name ty ∷ []) }
-    ensures keys { OnOk result ((ks : List Text) → AreKeys keys.old ks → AreKeys keys.new (ks ++ string_bytes key ∷ [])) }
     ensures kept { OnErr result (Partly (lists spaces.old) (lists spaces.new) list.old list.new name ty) }
 {
     enter(spaces, ty, types)?;
@@ -163,6 +153,5 @@ pub fn join(
             external_id: name.external_id,
         },
     ))?;
-    keys.insert(key)?;
     Ok(())
 }

@@ -13,5 +13,5 @@ mod tests;
 
 pub use forms::{is_built_name, plain_name, unbuilt};
 pub use kind::{ComponentKind, Space};
-pub use labels::check_label;
+pub use labels::insert_label;
 pub use state::ComponentState;

@@ -1,12 +1,11 @@
 // The state.
-ghost use Rattle.std.specs.Prelude.{◌≡◌, ◌+◌, ◌<◌, false, true, List, Some, length, slice_get, min, OnOk, OnErr, IfOk, IfErr};
-ghost use Rattle.wcv_core.specs.Refusal.{error_kind};
+ghost use Rattle.std.specs.Prelude.{◌≡◌, ◌+◌, ◌<◌, false, true, List, Some, length, slice_get, min, IsOk, OnOk, OnErr, IfOk, IfErr};
 ghost use Rattle.wcv_syntax.specs.View.{import_view, name_view, ref_view, exported_func};
 ghost use Rattle.wcv_types.specs.Unfold.{trees};
 ghost use Rattle.wcv_types.specs.declared.ids.ComponentAnyTypeId.TheVariants as any;
 ghost use Rattle.wcv_state.specs.Causes.{IndexCause};
 ghost use Rattle.wcv_state.specs.Contents.{empty_state, context_of, entity_tree, AnyStands, FuncStands, EntityStands, StateStands};
-ghost use Rattle.wcv_state.specs.Entering.{with_type, with_func, spent};
+ghost use Rattle.wcv_state.specs.Entering.{with_type, with_func, spent, finished};
 ghost use Rattle.wcv_state.specs.Forms.{IsBuiltName, UnbuiltName, WrittenIn, WrittenCauseIn, ExportedIn, ExportedCauseIn};
 ghost use Rattle.wcv_state.specs.Promises.{Keeps, Grew, Refuses, RefusesBy, Says, Tells, Brings, RefCause, Exported, ItemCause, Entered, ExportCause, Finished};
 ghost use Rattle.wcv_state.specs.Reading.{space_length, SortCause, is_func_id};
@@ -17,9 +16,9 @@ use crate::indices::{element_at, func_type_at};
 use crate::kind::{ComponentKind, Space};
 use crate::spaces::{Spaces, both};
 use std::alloc::Global;
-use std::collections::BTreeSet;
 use std::marker::Model;
-use wcv_core::{Error, ErrorKind, OutOfMemory, Text, WasmFeatures};
+use std::mem::replace;
+use wcv_core::{Error, ErrorKind, LabelSet, OutOfMemory, Text, WasmFeatures};
 use wcv_syntax::{ComponentExport, ComponentExternName, ComponentImport, ComponentTypeRef};
 use wcv_types::{
     ComponentAnyTypeId, ComponentCoreTypeId, ComponentEntityType, ComponentFuncTypeId,
@@ -38,8 +37,8 @@ pub struct ComponentState {
     spaces: Spaces,
     imports: ItemMap,
     exports: ItemMap,
-    import_keys: BTreeSet<String>,
-    export_keys: BTreeSet<String>,
+    import_keys: LabelSet,
+    export_keys: LabelSet,
     info: TypeInfo,
     spent: bool,
 }
@@ -103,55 +102,6 @@ fn exported(
     }
 }
 
-/// The text again, if it is there.
-fn copy_text(alloc: Global, text: &Option<Text>) -> Result<Option<Text>, OutOfMemory>
-    ensures { IfOk result (λ copy. copy ≡ text.now) }
-{
-    match text {
-        Some(text) => Ok(Some(Text::new(alloc, text.as_str())?)),
-        None => Ok(None),
-    }
-}
-
-/// The entry again.
-fn copy_entry(
-    alloc: Global,
-    entry: &(Text, ComponentItem),
-) -> Result<(Text, ComponentItem), OutOfMemory>
-    ensures { IfOk result (λ copy. copy ≡ entry.now) }
-{
-    let item = ComponentItem {
-        ty: entry.1.ty,
-        implements: copy_text(alloc, &entry.1.implements)?,
-        version_suffix: copy_text(alloc, &entry.1.version_suffix)?,
-        external_id: copy_text(alloc, &entry.1.external_id)?,
-    };
-    Ok((Text::new(alloc, entry.0.as_str())?, item))
-}
-
-/// The entry at that position again.
-fn copy_at(alloc: Global, list: &ItemMap, k: usize) -> Result<(Text, ComponentItem), OutOfMemory>
-    requires { k < length list.now }
-    ensures { IfOk result (λ copy. slice_get list.now k ≡ Some copy) }
-{
-    match list.get_index(k) {
-        Some(entry) => copy_entry(alloc, entry),
-        None => unreachable!(),
-    }
-}
-
-/// The same entries again.
-#[tactic(auto, using(crate::proofs::Copying::take_next))]
-fn copy_items(alloc: Global, list: &ItemMap) -> Result<ItemMap, OutOfMemory>
-    ensures { IfOk result (λ copy. copy ≡ list.now) }
-{
-    let mut copy = ItemMap::new(alloc);
-    for k in 0..list.len() {
-        copy.push(copy_at(alloc, list, k)?)?;
-    }
-    Ok(copy)
-}
-
 impl ComponentState {
     /// An empty state. It takes no memory.
     pub fn new(alloc: Global, kind: ComponentKind, features: WasmFeatures) -> ComponentState
@@ -163,8 +113,8 @@ impl ComponentState {
             spaces: Spaces::new(alloc),
             imports: ItemMap::new(alloc),
             exports: ItemMap::new(alloc),
-            import_keys: BTreeSet::new(alloc),
-            export_keys: BTreeSet::new(alloc),
+            import_keys: LabelSet::new(alloc),
+            export_keys: LabelSet::new(alloc),
             info: TypeInfo { size: 1, depth: 1 },
             spent: false,
         }
@@ -338,25 +288,17 @@ impl ComponentState {
         let name = built_name(&import.name, offset)?;
         let ty = written(&self.spaces.types, &import.ty, offset)?;
         check_count(self.imports.len(), "imports", offset)?;
-        let admitted = admit(
+        let info = admit(
             &self.spaces,
             self.info,
-            &self.import_keys,
+            &mut self.import_keys,
             name,
             &ty,
             types,
             offset,
         )?;
-        join(
-            &mut self.spaces,
-            &mut self.import_keys,
-            &mut self.imports,
-            admitted.key,
-            import.name,
-            ty,
-            types,
-        )?;
-        self.info = admitted.info;
+        join(&mut self.spaces, &mut self.imports, import.name, ty, types)?;
+        self.info = info;
         self.spent = false;
         Ok(())
     }
@@ -404,46 +346,37 @@ impl ComponentState {
         self.spent = true;
         let text = built_name(&name, offset)?;
         check_exports(check_limit, self.exports.len(), offset)?;
-        let admitted = admit(
+        let info = admit(
             &self.spaces,
             self.info,
-            &self.export_keys,
+            &mut self.export_keys,
             text,
             &ty,
             types,
             offset,
         )?;
-        join(
-            &mut self.spaces,
-            &mut self.export_keys,
-            &mut self.exports,
-            admitted.key,
-            name,
-            ty,
-            types,
-        )?;
-        self.info = admitted.info;
+        join(&mut self.spaces, &mut self.exports, name, ty, types)?;
+        self.info = info;
         self.spent = false;
         Ok(())
     }
 
-    /// The type of what was read: its imports and exports, in order, and no resources, as no built form makes
-    /// one. The state is spent, whatever the answer. Refuses for want of memory alone.
+    /// The type of what was read: its imports and exports, in order, which leave the state, and no resources,
+    /// as no built form makes one. The state is spent, and its index spaces stand. It refuses nothing and takes
+    /// no memory.
     pub fn finish(&mut self, types: &TypeAlloc, offset: u64) -> Result<ComponentType, Error>
         requires live { self.old.spent ≡ false }
         ensures ok { IfOk result (Finished self.old) }
-        ensures err { IfErr result (λ e. error_kind e ≡ ErrorKind.OutOfMemory) }
-        ensures after { self.new ≡ spent self.old }
+        ensures always { IsOk result }
+        ensures after { self.new ≡ finished self.old }
     {
         let _ = offset;
-        self.spent = true;
         let alloc = types.allocator();
-        let imports = copy_items(alloc, &self.imports)?;
-        let exports = copy_items(alloc, &self.exports)?;
+        self.spent = true;
         Ok(ComponentType {
             info: self.info,
-            imports,
-            exports,
+            imports: replace(&mut self.imports, ItemMap::new(alloc)),
+            exports: replace(&mut self.exports, ItemMap::new(alloc)),
             imported_resources: Paths::new(alloc),
             defined_resources: Paths::new(alloc),
         })

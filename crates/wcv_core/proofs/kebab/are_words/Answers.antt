@@ -1,4 +1,4 @@
-use Rattle.std.proofs.Common.{◌≡◌, ◌+◌, ◌≤◌, ◌&&◌, ◌∙◌, sym, ap, Bool, drop, refl}
+use Rattle.std.proofs.Common.{◌+◌, ◌&&◌, ◌∙◌, sym, ap, Bool, drop, refl}
 use Rattle.std.specs.List.{list_all}
 use Rattle.wcv_core.specs.Label.{words, is_word}
 use Rattle.wcv_core.proofs.Words.{words_from, words_rest, dash_within}

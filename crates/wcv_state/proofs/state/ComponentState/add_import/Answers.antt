@@ -1,4 +1,4 @@
-use Rattle.std.proofs.Common.{rules, refl, sym, ap, subst, ◌∙◌, true, false, ◌≡◌, length, string_bytes, inr}
+use Rattle.std.proofs.Common.{rules, refl, sym, ap, subst, ◌∙◌, true, false, ◌≡◌, length, inr}
 use Rattle.std.proofs.lemmas.Result.{err_from_is_err_and}
 use Rattle.wcv_syntax.specs.View.{ref_view}
 use Rattle.wcv_state.specs.Causes.{keys_of}
@@ -43,18 +43,18 @@ admit-requires c =
     let types : c.deref.result.now ≡ c.args.self.now.spaces.types = c.deref.ensures.value ∙ ap (λ (z : Contents). z.spaces.types) c.self.view_is in
     (brings_written c.args.types.now c.args.self.now c.deref.result.now (ref_view c.args.import.ty) c.in_ok-ty.ty c.requires.stands types c.in_ok-ty.ensures.ok).stands
 
-pub returns-in_err-admitted-clause-err : goal.returns-in_err-admitted-clause-err
-returns-in_err-admitted-clause-err c =
-    let p = err_from_is_err_and c.from_residual-in_err-admitted.result c.from_residual-in_err-admitted.ensures.1 in
+pub returns-in_err-info-clause-err : goal.returns-in_err-info-clause-err
+returns-in_err-info-clause-err c =
+    let p = err_from_is_err_and c.from_residual-in_err-info.result c.from_residual-in_err-info.ensures.1 in
     let k : KeysAgree c.self.inside = agree_live c.self.inside c.args.self.now c.self.invariant c.self.view_is c.requires.live in
     let stands : StateStands c.args.types.now (contents_of c.self.inside) = subst (StateStands c.args.types.now) (sym c.self.view_is) c.requires.stands in
     let w : Brings c.args.types.now (contents_of c.self.inside) (ref_view c.args.import.ty) c.in_ok-ty.ty =
     brings_written c.args.types.now (contents_of c.self.inside) c.deref.result.now (ref_view c.args.import.ty) c.in_ok-ty.ty stands c.deref.ensures.value c.in_ok-ty.ensures.ok in
     rw (p.1, p.2)
-    (refl, import_tells_entry c.args.types.now c.args.self.now (contents_of c.self.inside) c.self.view_is c.args.offset c.in_err-admitted.field-0.0 c.args.import c.in_ok-name.name.now c.in_ok-name.ensures.ok c.in_ok-ty.ty c.self.inside.import_keys w k.imports c.in_err-admitted.ensures.err)
+    (refl, import_tells_entry c.args.types.now c.args.self.now (contents_of c.self.inside) c.self.view_is c.args.offset c.in_err-info.field-0.0 c.args.import c.in_ok-name.name.now c.in_ok-name.ensures.ok c.in_ok-ty.ty c.self.inside.import_keys w k.imports c.in_err-info.ensures.err)
 
-pub returns-in_err-admitted-clause-keeps : goal.returns-in_err-admitted-clause-keeps
-returns-in_err-admitted-clause-keeps c = keeps_marked c.args.types.now c.args.self.now (contents_of c.self.inside) true c.self.view_is c.requires.stands
+pub returns-in_err-info-clause-keeps : goal.returns-in_err-info-clause-keeps
+returns-in_err-info-clause-keeps c = keeps_marked c.args.types.now c.args.self.now (contents_of c.self.inside) true c.self.view_is c.requires.stands
 
 pub join-requires : goal.join-requires
 join-requires c =
@@ -73,8 +73,8 @@ pub invariant_of-self-2 : goal.invariant_of-self-2
 invariant_of-self-2 c = λ live.
     let k : KeysAgree c.self.inside = agree_live c.self.inside c.args.self.now c.self.invariant c.self.view_is c.requires.live in
     record {
-      imports = list_keys c.join.new.keys c.self.inside.imports c.join.new.list c.args.import.name c.in_ok-ty.ty c.in_ok-name.name.now (string_bytes c.in_ok-admitted.admitted.key)
-          c.in_ok-name.ensures.ok.plain c.in_ok-admitted.ensures.key c.in_ok-join.ensures.list (c.in_ok-join.ensures.keys (keys_of c.self.inside.imports) k.imports);
+      imports = list_keys c.admit.new.keys c.self.inside.imports c.join.new.list c.args.import.name c.in_ok-ty.ty c.in_ok-name.name.now
+          c.in_ok-name.ensures.ok.plain c.in_ok-join.ensures.list (c.in_ok-info.ensures.keys (keys_of c.self.inside.imports) k.imports);
       exports = k.exports;
     }
 
@@ -85,13 +85,13 @@ returns-clause-ok c =
     let w : Brings c.args.types.now (contents_of c.self.inside) (ref_view c.args.import.ty) c.in_ok-ty.ty =
     brings_written c.args.types.now (contents_of c.self.inside) c.deref.result.now (ref_view c.args.import.ty) c.in_ok-ty.ty stands c.deref.ensures.value c.in_ok-ty.ensures.ok in
     let len : c.len.result ≡ length c.self.inside.imports = search rules in
-    grew_import c.args.types.now c.args.self.now (contents_of c.self.inside) c.args.import c.in_ok-name.name.now c.in_ok-ty.ty c.self.inside.import_keys (lists c.join.new.spaces) c.join.new.list c.in_ok-admitted.admitted.info
-    c.self.view_is c.in_ok-name.ensures.ok w (rw (← len) c.in_ok-check_count.ensures.ok) k.imports c.in_ok-admitted.ensures.ok c.in_ok-join.ensures.spaces c.in_ok-join.ensures.list c.in_ok-admitted.ensures.info
+    grew_import c.args.types.now c.args.self.now (contents_of c.self.inside) c.args.import c.in_ok-name.name.now c.in_ok-ty.ty c.self.inside.import_keys (lists c.join.new.spaces) c.join.new.list c.in_ok-info.info
+    c.self.view_is c.in_ok-name.ensures.ok w (rw (← len) c.in_ok-check_count.ensures.ok) k.imports c.in_ok-info.ensures.ok c.in_ok-join.ensures.spaces c.in_ok-join.ensures.list c.in_ok-info.ensures.info
 
 pub returns-clause-keeps : goal.returns-clause-keeps
 returns-clause-keeps c =
     let types : c.deref.result.now ≡ c.args.self.now.spaces.types = c.deref.ensures.value ∙ ap (λ (z : Contents). z.spaces.types) c.self.view_is in
     let w : Brings c.args.types.now c.args.self.now (ref_view c.args.import.ty) c.in_ok-ty.ty =
     brings_written c.args.types.now c.args.self.now c.deref.result.now (ref_view c.args.import.ty) c.in_ok-ty.ty c.requires.stands types c.in_ok-ty.ensures.ok in
-    keeps_import c.args.types.now c.args.self.now (contents_of c.self.inside) (entry_of c.args.import.name c.in_ok-ty.ty) (lists c.join.new.spaces) c.join.new.list c.in_ok-admitted.admitted.info false c.self.view_is c.requires.stands w.stands
+    keeps_import c.args.types.now c.args.self.now (contents_of c.self.inside) (entry_of c.args.import.name c.in_ok-ty.ty) (lists c.join.new.spaces) c.join.new.list c.in_ok-info.info false c.self.view_is c.requires.stands w.stands
     (inr c.in_ok-join.ensures.spaces) (inr c.in_ok-join.ensures.list)

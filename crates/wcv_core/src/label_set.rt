@@ -1,0 +1,69 @@
+// The labels of one list.
+ghost use Rattle.std.specs.Prelude.{◌≡◌, ◌||◌, List, [], ℕ, not, string_bytes, OnOk, OnErr, IfOk};
+ghost use Rattle.std.specs.Str.{bytes_eq};
+ghost use Rattle.wcv_core.specs.Label.{lower_case, is_among};
+ghost use Rattle.wcv_core.specs.LabelSet.{mixed};
+
+use crate::memory::OutOfMemory;
+use std::alloc::Global;
+use std::collections::BTreeSet;
+use std::marker::Model;
+
+/// Labels in lower case, each once: labels of one list differ in more than case. Contracts see it as the
+/// list of them, in no order that they tell.
+///
+/// A label stands behind a number that its bytes give, so that two labels are mostly told apart without a
+/// look at their bytes. Labels with one number, whoever chose them, are told apart by their bytes: a look-up
+/// among `n` labels never makes more than some `log n` comparisons.
+#[derive(Drop)]
+pub struct LabelSet {
+    labels: BTreeSet<(u64, String)>,
+    alloc: Global,
+}
+
+impl Model for LabelSet {
+    ghost use Rattle.std.specs.Prelude.{ℕ, List};
+    ghost use Rattle.wcv_core.specs.LabelSet.{texts, AreNumbered};
+
+    ghost Value = { List (List ℕ) };
+
+    ghost view = { λ s. texts s.labels.keys };
+
+    ghost invariant = { λ s. AreNumbered s.labels.keys };
+}
+
+/// The number that the bytes give.
+fn mix(text: &str) -> u64
+    ensures { result ≡ mixed text.now }
+{
+    let mut number = 0u64;
+    for b in text.as_bytes() {
+        number = number
+            .wrapping_mul(0x9e37_79b9_7f4a_7c15)
+            .wrapping_add(*b as u64);
+    }
+    number
+}
+
+impl LabelSet {
+    /// A set with no label. It takes no memory.
+    pub fn new(alloc: Global) -> LabelSet
+        ensures { result ≡ [] }
+    {
+        LabelSet {
+            labels: BTreeSet::new(alloc),
+            alloc,
+        }
+    }
+
+    /// Adds the label, in lower case. The answer is false exactly where the set has it already.
+    pub fn insert(&mut self, label: &str) -> Result<bool, OutOfMemory>
+        ensures added { IfOk result (λ added. added ≡ not (is_among (lower_case label.now) self.old)) }
+        ensures has { OnOk result ((t : List ℕ) → is_among t self.new ≡ (bytes_eq t (lower_case label.now) || is_among t self.old)) }
+        ensures err { OnErr result (self.new ≡ self.old) }
+    {
+        let text = label.to_ascii_lowercase(self.alloc)?;
+        let number = mix(text.as_str());
+        Ok(self.labels.insert((number, text))?)
+    }
+}
