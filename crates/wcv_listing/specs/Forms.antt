@@ -12,7 +12,7 @@ use Rattle.wcv_listing.specs.Reading.{both, named, has_only, is_text, index_in, 
 -- the forms of items
 abbrev pub form_names : List (List ℕ)
 form_names =
-    codes "core-type" ∷ codes "core-module" ∷ codes "core-instance" ∷ codes "type" ∷ codes "import" ∷ codes "export"
+    codes "type" ∷ codes "import" ∷ codes "export" ∷ codes "core-type" ∷ codes "core-module" ∷ codes "core-instance"
     ∷ codes "component" ∷ codes "instance" ∷ codes "alias" ∷ codes "start" ∷ codes "canon" ∷ []
 
 -- the primitives by their names

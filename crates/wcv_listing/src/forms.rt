@@ -1,13 +1,13 @@
 // The bodies of `type`, `import` and `export`.
 ghost use Rattle.std.specs.Prelude.{◌≡◌, Some, IfOk, option_map};
-ghost use Rattle.serde_json.specs.View.{view};
+ghost use Rattle.wcv_listing.specs.Seen.{view};
 ghost use Rattle.wcv_syntax.specs.View.{name_view, type_view, import_view, export_view};
 ghost use Rattle.wcv_listing.specs.Forms.{type_of, ref_of, import_of, export_of};
 ghost use Rattle.wcv_syntax.specs.Model.{func_ref};
 
 use crate::func::read_func;
-use crate::value::{has_only_keys, index_at, text_at};
-use serde_json::Value;
+use crate::value::{has_only_keys, index_at, member_at, text_at};
+use json::Value;
 use std::alloc::Global;
 use wcv_core::{OutOfMemory, Text};
 use wcv_syntax::{
@@ -17,13 +17,13 @@ use wcv_syntax::{
 
 /// The body of `type`.
 #[tactic(auto, using(crate::proofs::Made::type_made))]
-pub fn read_type(alloc: Global, value: &Value) -> Result<Option<ComponentType>, OutOfMemory>
+pub fn read_type(alloc: Global, value: &Value<'_>) -> Result<Option<ComponentType>, OutOfMemory>
     ensures { IfOk result (λ ty. option_map type_view ty ≡ type_of (view value.now)) }
 {
     if !has_only_keys(value, &["func"]) {
         return Ok(None);
     }
-    let Some(body) = value.get("func") else {
+    let Some(body) = member_at(value, "func") else {
         return Ok(None);
     };
     match read_func(alloc, body)? {
@@ -46,7 +46,7 @@ fn plain_name(alloc: Global, name: &str) -> Result<ComponentExternName, OutOfMem
 }
 
 // The index of a function type.
-fn read_func_ref(value: &Value) -> Option<u32>
+fn read_func_ref(value: &Value<'_>) -> Option<u32>
     ensures { option_map func_ref result ≡ ref_of (view value.now) }
 {
     if !has_only_keys(value, &["func"]) {
@@ -56,7 +56,7 @@ fn read_func_ref(value: &Value) -> Option<u32>
 }
 
 /// The body of `import`.
-pub fn read_import(alloc: Global, value: &Value) -> Result<Option<ComponentImport>, OutOfMemory>
+pub fn read_import(alloc: Global, value: &Value<'_>) -> Result<Option<ComponentImport>, OutOfMemory>
     ensures { IfOk result (λ import. option_map import_view import ≡ import_of (view value.now)) }
 {
     if !has_only_keys(value, &["name", "type"]) {
@@ -65,7 +65,7 @@ pub fn read_import(alloc: Global, value: &Value) -> Result<Option<ComponentImpor
     let Some(name) = text_at(value, "name") else {
         return Ok(None);
     };
-    let Some(index) = value.get("type").and_then(read_func_ref) else {
+    let Some(index) = member_at(value, "type").and_then(read_func_ref) else {
         return Ok(None);
     };
     let name = plain_name(alloc, name)?;
@@ -74,7 +74,7 @@ pub fn read_import(alloc: Global, value: &Value) -> Result<Option<ComponentImpor
 }
 
 /// The body of `export`.
-pub fn read_export(alloc: Global, value: &Value) -> Result<Option<ComponentExport>, OutOfMemory>
+pub fn read_export(alloc: Global, value: &Value<'_>) -> Result<Option<ComponentExport>, OutOfMemory>
     ensures { IfOk result (λ export. option_map export_view export ≡ export_of (view value.now)) }
 {
     if !has_only_keys(value, &["name", "sort", "index"]) {
