@@ -1,5 +1,6 @@
 // What bytes read as, against answers written by hand.
-use crate::read_listing;
+use crate::{ListingError, read_listing};
+use serde_json::Value;
 use std::alloc::Global;
 use std::fmt::Write;
 use std::test::Fail;
@@ -266,6 +267,48 @@ fn nesting_is_read_up_to_127(rt: HostRuntime) -> Result<(), Fail> {
         let text = root(rt.alloc(), item.as_str())?;
         let read = words(rt.alloc(), text.as_bytes())?;
         assert_eq!(rt; read.as_str(), wanted, "{levels}");
+    }
+    Ok(())
+}
+
+// Texts that one reader of JSON may take and another refuse. None of them is a listing.
+const TEXTS: [&str; 24] = [
+    "1e308",
+    "1e309",
+    "-1e309",
+    "[0,[1e999]]",
+    r#"{"a":{"b":-1e999}}"#,
+    r#"{"a":1e999,"a":1}"#,
+    "123456789012345678901234567890",
+    "-9223372036854775809",
+    "-0",
+    "1.",
+    ".5",
+    "+1",
+    "0x10",
+    "NaN",
+    "Infinity",
+    r#""\ud800""#,
+    r#""\ud83d\ude00""#,
+    r#""\x41""#,
+    "\"a\tb\"",
+    "'a'",
+    "[1,]",
+    "[1 2]",
+    "[] []",
+    "// a\n[]",
+];
+
+#[test]
+fn texts_are_json_where_serde_json_reads_them(rt: HostRuntime) -> Result<(), Fail> {
+    for text in TEXTS {
+        let read = Value::from_slice(rt.alloc(), text.as_bytes()).is_ok();
+        let wanted = match read_listing(rt.alloc(), text.as_bytes()) {
+            Err(ListingError::NotJson) => false,
+            Err(ListingError::BadShape { at: 0 }) => true,
+            _ => return Err(Fail::from("another answer")),
+        };
+        assert_eq!(rt; wanted, read, "{text}");
     }
     Ok(())
 }
