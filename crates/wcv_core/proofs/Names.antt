@@ -2,7 +2,7 @@
 use Rattle.std.proofs.Common.{◌≡◌, [], ◌∷◌, Bool, true, ◌&&◌, eq-eqb, refl, ap, subst, arith}
 use Rattle.std.specs.Cmp.{IsEquivalence, decided}
 use Rattle.std.proofs.lemmas.Bool.{eqb-true}
-use Rattle.wcv_core.specs.Names.{Place, Name, number, stamp, base, at, same_place, same}
+use Rattle.wcv_core.specs.Names.{Place, Name, number, stamp, base, at, stamped, aside, same_place, same}
 
 and_left : (a b : Bool) → (a && b) ≡ true → a ≡ true
 and_left a b h = grind arith
@@ -40,6 +40,8 @@ same-true (at p a) (at q b) h =
     let e : p ≡ q = same_place-true p q (and_left _ _ h) in
     let f : a ≡ b = same-true a b (and_right _ _ h) in
     (λ j. at (e j) (f j))
+same-true (stamped p) (stamped q) h = ap stamped (same_place-true p q h)
+same-true (aside a) (aside b) h = ap aside (same-true a b h)
 same-true _ _ h = cc
 
 pub same-refl : (a : Name) → same a a ≡ true
@@ -47,6 +49,8 @@ same-refl (number m) = eq-eqb m m refl
 same-refl (stamp m) = eq-eqb m m refl
 same-refl (base p) = same_place-refl p
 same-refl (at p a) = and_both _ _ (same_place-refl p) (same-refl a)
+same-refl (stamped p) = same_place-refl p
+same-refl (aside a) = same-refl a
 
 pub same-equal : (a b : Name) → a ≡ b → same a b ≡ true
 same-equal a b e = subst (λ (x : Name). same a x ≡ true) e (same-refl a)

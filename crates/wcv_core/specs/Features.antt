@@ -1,5 +1,6 @@
 -- The features by their names in Rust, and the bits that stand for them.
 use Rattle.std.specs.Prelude.{ℕ, List, [], ◌∷◌, codes}
+use Rattle.wcv_core.specs.declared.features.WasmFeatures.{WasmFeatures}
 
 abbrev pub feature_bits : List (List ℕ × ℕ)
 feature_bits =
@@ -12,3 +13,6 @@ feature_bits =
 -- the set that holds where a listing names none: the first six and CM_ASYNC
 abbrev pub default_bits : ℕ
 default_bits = 319
+
+abbrev pub default_features : WasmFeatures
+default_features = record { 0 = default_bits }

@@ -1,6 +1,4 @@
 // The features that a component may use.
-ghost use Rattle.wcv_core.specs.Features.{default_bits};
-
 use bitflags::{Flag, Flags, bitflag_items};
 
 /// A set of features. Those of `default` hold where a listing names none.
@@ -60,9 +58,9 @@ impl Flags for WasmFeatures {
 
 impl Default for WasmFeatures {
     ghost use Rattle.std.specs.Prelude.{◌≡◌};
-    ghost use Rattle.wcv_core.specs.Features.{default_bits};
+    ghost use Rattle.wcv_core.specs.Features.{default_features};
 
-    ghost is_default = { λ f. f.0 ≡ default_bits };
+    ghost is_default = { λ f. f ≡ default_features };
 
     /// The first six features and `cm-async`.
     fn default() -> WasmFeatures {
