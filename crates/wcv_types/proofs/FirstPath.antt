@@ -5,7 +5,7 @@ use Rattle.std.specs.Option.{option_map}
 use Rattle.std.proofs.lemmas.Bool.{false≢true}
 use Rattle.wcv_core.specs.Names.{Name, member}
 use Rattle.wcv_core.proofs.Names.{same-true, same-equal}
-use Rattle.wcv_types.specs.Tree.{Text, Head, nothing, primitive, resource, defined, func, instance, component, type_entity, here, label, import, export, Tree, node, Parts, none, part, head, first_part, rest_parts, exports, exports_in}
+use Rattle.wcv_types.specs.Tree.{Extern_name, Head, nothing, primitive, resource, defined, func, instance, component, type_entity, here, label, import, export, Tree, node, Parts, none, part, head, first_part, rest_parts, exports, exports_in}
 use Rattle.wcv_types.specs.Resources.{RefersTo}
 use Rattle.wcv_types.specs.Paths.{IsTypeOf, IsWayTo, Leads}
 use Rattle.wcv_types.specs.FirstPath.{or_else, refers, path_at, path_in, path_from, first_path}
@@ -15,7 +15,7 @@ use Rattle.wcv_types.proofs.Identity.{same_under}
 use Rattle.wcv_types.proofs.Lists.{some-inj}
 
 abbrev Entry : Type 0
-Entry = Text × Tree Name Name
+Entry = Extern_name × Tree Name Name
 
 -- the path leads on within what an entry holds
 abbrev pub Reaches : Name → List ℕ → Tree Name Name → Type 0
@@ -179,7 +179,7 @@ mutual
   path_at-none r (node (func i b) ps) h q w = not_reached r (node (func i b) ps) q (λ x. let e = x.0 in cc) (λ x. let e = x.0 in cc) w
   path_at-none r (node (component i ins outs) ps) h q w = not_reached r (node (component i ins outs) ps) q (λ x. let e = x.0 in cc) (λ x. let e = x.0 in cc) w
 
-  pub path_in-none : (r : Name) (k : ℕ) (ps : Parts Name Name) → path_in r k ps ≡ None → (j : ℕ) (q : List ℕ) (e : Text × Tree Name Name) → slice_get (exports_in ps) j ≡ Some e → Reaches r q e.1 → ⊥
+  pub path_in-none : (r : Name) (k : ℕ) (ps : Parts Name Name) → path_in r k ps ≡ None → (j : ℕ) (q : List ℕ) (e : Extern_name × Tree Name Name) → slice_get (exports_in ps) j ≡ Some e → Reaches r q e.1 → ⊥
   path_in-none r k none h j q e s w = none_of_none r j q e s w
   path_in-none r k (part (export n) t ps) h j q e s w =
       none_of_more r (n, t) (exports_in ps) (λ x y. path_at-none r t (no_first (path_at r t) (path_in r (suc k) ps) k h) x y)

@@ -18,22 +18,23 @@ use Rattle.wcv_types.specs.declared.ids.Part.TheVariants as p
 -- ## Growing
 
 pub extends_refl : (a : Arena) → Extends a a
-extends_refl a = record { more = []; nodes = sym (append-nil a.nodes); made = omega arith }
+extends_refl a = record { more = []; nodes = sym (append-nil a.nodes); resources = omega arith; stamps = omega arith }
 
 pub extends_trans : (a b c : Arena) → Extends a b → Extends b c → Extends a c
 extends_trans a b c p q = record {
   more = p.more ++ q.more;
   nodes = q.nodes ∙ ap (λ xs. xs ++ q.more) p.nodes ∙ append_assoc a.nodes p.more q.more;
-  made = omega (arith, p.made, q.made);
+  resources = omega (arith, p.resources, q.resources);
+  stamps = omega (arith, p.stamps, q.stamps);
 }
 
 -- one more node
 pub extends_push : (a : Arena) (x : Node) → Extends a (with_node a x)
-extends_push a x = record { more = x ∷ []; nodes = refl; made = omega arith }
+extends_push a x = record { more = x ∷ []; nodes = refl; resources = omega arith; stamps = omega arith }
 
 -- the nodes that stand behind the first k
 pub extends_cut : (a : Arena) (k : ℕ) (xs : List Node) → a.nodes ≡ take k a.nodes ++ xs → Extends (cut a k) a
-extends_cut a k xs e = record { more = xs; nodes = e; made = omega arith }
+extends_cut a k xs e = record { more = xs; nodes = e; resources = omega arith; stamps = omega arith }
 
 slice_get-left : (xs ys : List Node) (k : ℕ) (x : Node) → slice_get xs k ≡ Some x → slice_get (xs ++ ys) k ≡ Some x
 slice_get-left [] ys k x h = cc
@@ -45,7 +46,7 @@ pub node_stays : (a b : Arena) (k : ℕ) (x : Node) → Extends a b → slice_ge
 node_stays a b k x e h = ap (λ (ns : List Node). slice_get ns k) e.nodes ∙ slice_get-left a.nodes e.more k x h
 
 pub stands_more : (a b : Arena) (q : Part) → Extends a b → Stands a q → Stands b q
-stands_more a b (p.Resource r) e s = record { resource = omega (arith, e.made, s.resource); stamp = omega (arith, e.made, s.stamp) }
+stands_more a b (p.Resource r) e s = record { resource = omega (arith, e.resources, s.resource); stamp = omega (arith, e.stamps, s.stamp) }
 stands_more a b (p.Func i) e s = (s.0, node_stays a b i.index (n.Func s.0) e s.1)
 stands_more a b (p.Defined i) e s = absurd s
 stands_more a b (p.Instance i) e s = absurd s
@@ -165,12 +166,12 @@ take_push xs x k h = grind (arith, common_steps)
 cut_push : (a : Arena) (x : Node) (k : ℕ) → k ≤ length a.nodes → cut (with_node a x) k ≡ cut a k
 cut_push a x k h =
     let e : take k (a.nodes ++ x ∷ []) ≡ take k a.nodes = take_push a.nodes x k h in
-    λ j. record { nodes = e j; made = a.made }
+    λ j. record a { nodes = e j }
 
 cut_last : (a : Arena) (x : Node) (k : ℕ) → k ≡ length a.nodes → cut (with_node a x) k ≡ a
 cut_last a x k h =
     let e : take k (a.nodes ++ x ∷ []) ≡ a.nodes = subst (λ (j : ℕ). take j (a.nodes ++ x ∷ []) ≡ a.nodes) (sym h) (take-append_seam a.nodes (x ∷ [])) in
-    λ j. record { nodes = e j; made = a.made }
+    λ j. record a { nodes = e j }
 
 fits_before : (a : Arena) (x y : Node) (k : ℕ) → AllFit a → k < length a.nodes → slice_get (a.nodes ++ x ∷ []) k ≡ Some y → Fits (cut (with_node a x) k) y
 fits_before a x y k f h s =
@@ -197,8 +198,8 @@ fits_more a b x e same f = record {
   info = subst (λ (xs : List Node). IsInfoOf (info_of x) (tree_of (trees xs) x)) (sym same) f.info;
 }
 
-pub all_fit_more : (a : Arena) (made : ℕ) → a.made ≤ made → AllFit a → AllFit (record a { made = made })
-all_fit_more a made h f k x s =
-    let b : Arena = record { nodes = take k a.nodes; made = made } in
-    let e : Extends (cut a k) b = record { more = []; nodes = sym (append-nil (take k a.nodes)); made = h } in
+pub all_fit_more : (a : Arena) (resources stamps : ℕ) → a.resources ≤ resources → a.stamps ≤ stamps → AllFit a → AllFit (record a { resources = resources; stamps = stamps })
+all_fit_more a resources stamps h h' f k x s =
+    let b : Arena = record { nodes = take k a.nodes; resources = resources; stamps = stamps } in
+    let e : Extends (cut a k) b = record { more = []; nodes = sym (append-nil (take k a.nodes)); resources = h; stamps = h' } in
     fits_more (cut a k) b x e refl (f k x s)

@@ -19,6 +19,5 @@ pub mod Examples
 pub mod Grown
 pub mod Unfolding
 pub mod Slots
-pub mod Below
 pub mod Naming
 pub mod Fitting

@@ -3,7 +3,7 @@ use Rattle.std.proofs.Common.{◌≡◌, List, Bool, true, false, cond, refl, in
 use Rattle.std.specs.Prelude.{Contains, All}
 use Rattle.std.proofs.lemmas.List.Elements.{All-cons, All-nil, All-contains}
 use Rattle.wcv_core.specs.Names.{Name}
-use Rattle.wcv_types.specs.Tree.{Text, Head, instance, component, import, export, Tree, Parts, none, part, first_part, rest_parts, imports_in, exports_in, is_type, sort_at}
+use Rattle.wcv_types.specs.Tree.{Extern_name, Head, instance, component, import, export, Tree, Parts, none, part, first_part, rest_parts, imports_in, exports_in, is_type, sort_at}
 use Rattle.wcv_types.specs.Resources.{owns, Free, FreeIn}
 
 -- what holds of each part
@@ -11,22 +11,22 @@ abbrev pub EachPart : (Tree Name Name → Type 0) → Parts Name Name → Type 0
 EachPart P none = Unit {0}
 EachPart P (part k t ps) = P t × EachPart P ps
 
-each-exports : (P : Tree Name Name → Type 0) (ps : Parts Name Name) → EachPart P ps → All (λ (e : Text × Tree Name Name). P e.1) (exports_in ps)
+each-exports : (P : Tree Name Name → Type 0) (ps : Parts Name Name) → EachPart P ps → All (λ (e : Extern_name × Tree Name Name). P e.1) (exports_in ps)
 each-exports P none e = All-nil _
-each-exports P (part (export n) t ps) e = All-cons (λ (e : Text × Tree Name Name). P e.1) (n, t) (exports_in ps) e.0 (each-exports P ps e.1)
+each-exports P (part (export n) t ps) e = All-cons (λ (e : Extern_name × Tree Name Name). P e.1) (n, t) (exports_in ps) e.0 (each-exports P ps e.1)
 each-exports P (part _ t ps) e = each-exports P ps e.1
 
-each-imports : (P : Tree Name Name → Type 0) (ps : Parts Name Name) → EachPart P ps → All (λ (e : Text × Tree Name Name). P e.1) (imports_in ps)
+each-imports : (P : Tree Name Name → Type 0) (ps : Parts Name Name) → EachPart P ps → All (λ (e : Extern_name × Tree Name Name). P e.1) (imports_in ps)
 each-imports P none e = All-nil _
-each-imports P (part (import n) t ps) e = All-cons (λ (e : Text × Tree Name Name). P e.1) (n, t) (imports_in ps) e.0 (each-imports P ps e.1)
+each-imports P (part (import n) t ps) e = All-cons (λ (e : Extern_name × Tree Name Name). P e.1) (n, t) (imports_in ps) e.0 (each-imports P ps e.1)
 each-imports P (part _ t ps) e = each-imports P ps e.1
 
 -- what holds of each part holds of an export, and of an import
-pub at_export : (P : Tree Name Name → Type 0) (ps : Parts Name Name) → EachPart P ps → (n : Text) (t : Tree Name Name) → Contains (exports_in ps) (n, t) → P t
-at_export P ps e n t c = All-contains (λ (e : Text × Tree Name Name). P e.1) (exports_in ps) (n, t) (each-exports P ps e) c
+pub at_export : (P : Tree Name Name → Type 0) (ps : Parts Name Name) → EachPart P ps → (n : Extern_name) (t : Tree Name Name) → Contains (exports_in ps) (n, t) → P t
+at_export P ps e n t c = All-contains (λ (e : Extern_name × Tree Name Name). P e.1) (exports_in ps) (n, t) (each-exports P ps e) c
 
-pub at_import : (P : Tree Name Name → Type 0) (ps : Parts Name Name) → EachPart P ps → (n : Text) (t : Tree Name Name) → Contains (imports_in ps) (n, t) → P t
-at_import P ps e n t c = All-contains (λ (e : Text × Tree Name Name). P e.1) (imports_in ps) (n, t) (each-imports P ps e) c
+pub at_import : (P : Tree Name Name → Type 0) (ps : Parts Name Name) → EachPart P ps → (n : Extern_name) (t : Tree Name Name) → Contains (imports_in ps) (n, t) → P t
+at_import P ps e n t c = All-contains (λ (e : Extern_name × Tree Name Name). P e.1) (imports_in ps) (n, t) (each-imports P ps e) c
 
 pub each-free : (r : Name) (ps qs : Parts Name Name) → (FreeIn r ps → FreeIn r qs) → EachPart (λ t. Free r t → FreeIn r qs) ps
 each-free r none qs w = tt
@@ -43,8 +43,8 @@ owns-type (component i ins outs) e r = cc
 owns-type _ e r = refl
 
 -- the entries are parts
-abbrev pub ArePartsOf : List (Text × Tree Name Name) → Parts Name Name → Type 1
-ArePartsOf xs ps = (P : Tree Name Name → Type 0) → EachPart P ps → (n : Text) (t : Tree Name Name) → Contains xs (n, t) → P t
+abbrev pub ArePartsOf : List (Extern_name × Tree Name Name) → Parts Name Name → Type 1
+ArePartsOf xs ps = (P : Tree Name Name → Type 0) → EachPart P ps → (n : Extern_name) (t : Tree Name Name) → Contains xs (n, t) → P t
 
 pub two : {A B : Type 0} (h : A → B) (c : Bool) (x y : A) (x' y' : B) → h x ≡ x' → h y ≡ y' → h (cond c x y) ≡ cond c x' y'
 two h true x y x' y' p q = p

@@ -5,12 +5,12 @@ use Rattle.std.specs.Option.{option_map}
 use Rattle.std.specs.Fmt.{decimal}
 use Rattle.std.proofs.lemmas.List.Elements.{All-head, All-tail}
 use Rattle.wcv_core.specs.Names.{Name, same}
-use Rattle.wcv_types.specs.Tree.{Text, Head, nothing, primitive, resource, defined, func, instance, component, type_entity, Former, named, record_of, variant_of, list_of, map_of, tuple_of, option_of, result_of, own_of, borrow_of, future_of, stream_of, fixed_list_of, flags_of, enum_of, here, label, import, export, Tree, node, Parts, none, part, head, created, referenced}
+use Rattle.wcv_types.specs.Tree.{Text, Extern_name, Head, nothing, primitive, resource, defined, func, instance, component, type_entity, Former, named, record_of, variant_of, list_of, map_of, tuple_of, option_of, result_of, own_of, borrow_of, future_of, stream_of, fixed_list_of, flags_of, enum_of, here, label, import, export, Tree, node, Parts, none, part, head, created, referenced}
 use Rattle.wcv_types.specs.Rename.{rename, rename_head, rename_parts, rename_paths, HeadNames, EachName, EachNameIn, UpToRenaming}
 use Rattle.wcv_types.specs.Identity.{Identity, of_node, of_reference, identity_at, same_identity, rename_identity}
 use Rattle.wcv_types.specs.Positions.{is_there}
 use Rattle.wcv_types.specs.Quoting.{quoted}
-use Rattle.wcv_types.specs.Text.{Written, nothing_written, node_number, resource_number, mention_head, mention, entity_text, entry_text, positions_text, path_text, listed, param_text, params_text, payload_text, case_texts, mentions, own_texts, entry_texts, path_texts, first_text, second_text, defined_text, instance_text, component_text, form_text, with_resource, with_each, with_paths, with_resources, line_text, with_line, line_if, has_line, write, write_parts, entry_line, write_entries, path_line, write_paths, write_component, type_text}
+use Rattle.wcv_types.specs.Text.{Written, nothing_written, node_number, resource_number, mention_head, mention, entity_text, name_text, entry_text, positions_text, path_text, listed, param_text, params_text, payload_text, case_texts, mentions, own_texts, entry_texts, path_texts, first_text, second_text, defined_text, instance_text, component_text, form_text, with_resource, with_each, with_paths, with_resources, line_text, with_line, line_if, has_line, write, write_parts, entry_line, write_entries, path_line, write_paths, write_component, type_text}
 use Rattle.wcv_types.proofs.Identity.{same_under, IdentityKept, KnownKept, same_kept, kept_identity, identity-same}
 use Rattle.wcv_types.proofs.Each.{Each, push_each, map-push, length-mapped, position_under, there_under}
 
@@ -103,10 +103,10 @@ module _ (f back : Name → Name) (g g_back : Name → Name) where
   entity-same w (resource r s) t k e = ap (λ (x : Text). codes "value " ++ x) (mention-same w t k e)
   entity-same w (defined i x) t k e = ap (λ (y : Text). codes "value " ++ y) (mention-same w t k e)
 
-  entry-same : (w : Written) (word n : Text) (t : Tree Name Name) → Whole w → Has t → entry_text (W w) word n (rename f g t) ≡ entry_text w word n t
+  entry-same : (w : Written) (word : Text) (n : Extern_name) (t : Tree Name Name) → Whole w → Has t → entry_text (W w) word n (rename f g t) ≡ entry_text w word n t
   entry-same w word n t k e =
-      ap (λ (h : Head Name Name). word ++ quoted n ++ codes " " ++ entity_text (W w) h (rename f g t)) (head-same t) ∙
-      ap (λ (x : Text). word ++ quoted n ++ codes " " ++ x) (entity-same w (head t) t k e)
+      ap (λ (h : Head Name Name). word ++ quoted n.name ++ codes " " ++ entity_text (W w) h (rename f g t) ++ name_text n) (head-same t) ∙
+      ap (λ (x : Text). word ++ quoted n.name ++ codes " " ++ x ++ name_text n) (entity-same w (head t) t k e)
 
   path-same : (w : Written) (word : Text) (r : Name) (path : List ℕ) → Whole w → R r → path_text (W w) word (f r) path ≡ path_text w word r path
   path-same w word r path k e = ap (λ (x : Text). word ++ x ++ codes " [" ++ positions_text [] path ++ codes "]") (resource_number-same w r k e)
@@ -356,7 +356,7 @@ module _ (f back : Name → Name) (g g_back : Name → Name) where
 
   -- ## The whole text
 
-  entry_line-same : (w : Written) (word n : Text) (t : Tree Name Name) → Whole w → Has t →
+  entry_line-same : (w : Written) (word : Text) (n : Extern_name) (t : Tree Name Name) → Whole w → Has t →
       (entry_line (write (W w) (rename f g t)) word n (rename f g t) ≡ W (entry_line (write w t) word n t)) × Whole (entry_line (write w t) word n t)
   entry_line-same w word n t k e =
       let p = write-same w t k e in

@@ -2,7 +2,7 @@
 use Rattle.std.specs.Prelude.{ℕ, suc, List, [], ◌∷◌, Bool, false, cond, Option, Some, None}
 use Rattle.std.specs.Option.{option_map}
 use Rattle.wcv_core.specs.Names.{Name, same, member}
-use Rattle.wcv_types.specs.Tree.{Text, Head, resource, instance, type_entity, export, Tree, node, Parts, none, part, head, first_part, rest_parts}
+use Rattle.wcv_types.specs.Tree.{Extern_name, Head, resource, instance, type_entity, export, Tree, node, Parts, none, part, head, first_part, rest_parts}
 
 -- the first that is there
 abbrev pub or_else : {X : Type 0} → Option X → Option X → Option X
@@ -27,10 +27,10 @@ abbrev mutual
   path_in r k (part _ t ps) = path_in r k ps
 
 -- among entries of which the first has position k
-abbrev pub path_from : Name → ℕ → List (Text × Tree Name Name) → Option (List ℕ)
+abbrev pub path_from : Name → ℕ → List (Extern_name × Tree Name Name) → Option (List ℕ)
 path_from r k [] = None
 path_from r k (e ∷ es) = or_else (option_map (λ p. k ∷ p) (path_at r e.1)) (path_from r (suc k) es)
 
 -- the first path to the resource among the entries
-abbrev pub first_path : Name → List (Text × Tree Name Name) → Option (List ℕ)
+abbrev pub first_path : Name → List (Extern_name × Tree Name Name) → Option (List ℕ)
 first_path r es = path_from r 0 es

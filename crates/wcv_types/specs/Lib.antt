@@ -15,3 +15,5 @@ pub mod Arena
 pub mod Info
 pub mod Unfold
 pub mod Standing
+pub mod Entities
+pub mod ComponentTrees

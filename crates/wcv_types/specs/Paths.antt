@@ -1,7 +1,7 @@
 -- Paths that lead to a resource in a list of entries.
 use Rattle.std.specs.Prelude.{ℕ, List, [], ◌∷◌, false, slice_get, Some, ◌≡◌}
 use Rattle.wcv_core.specs.Names.{Name}
-use Rattle.wcv_types.specs.Tree.{Text, Tree, is_instance, is_type, sort, head, exports, referenced}
+use Rattle.wcv_types.specs.Tree.{Extern_name, Tree, is_instance, is_type, sort, head, exports, referenced}
 use Rattle.wcv_types.specs.Resources.{owns, RefersTo}
 
 -- the entry is a type whose resource is r
@@ -13,7 +13,7 @@ abbrev pub IsWayTo : Name → Tree Name Name → Type 0
 IsWayTo r t = (sort t ≡ is_instance) × (owns (head t) r ≡ false)
 
 -- each position names an entry of the list found so far, and at the end stands a type whose resource is r
-abbrev pub Leads : List ℕ → Name → List (Text × Tree Name Name) → Type 0
+abbrev pub Leads : List ℕ → Name → List (Extern_name × Tree Name Name) → Type 0
 Leads [] r es = ⊥
-Leads (k ∷ []) r es = (e : Text × Tree Name Name) × (slice_get es k ≡ Some e) × IsTypeOf r e.1
-Leads (k ∷ j ∷ p) r es = (e : Text × Tree Name Name) × (slice_get es k ≡ Some e) × IsWayTo r e.1 × Leads (j ∷ p) r (exports e.1)
+Leads (k ∷ []) r es = (e : Extern_name × Tree Name Name) × (slice_get es k ≡ Some e) × IsTypeOf r e.1
+Leads (k ∷ j ∷ p) r es = (e : Extern_name × Tree Name Name) × (slice_get es k ≡ Some e) × IsWayTo r e.1 × Leads (j ∷ p) r (exports e.1)

@@ -13,13 +13,13 @@ use Rattle.wcv_types.specs.declared.ids.Part.TheVariants as p
 use Rattle.wcv_types.specs.declared.shapes.ComponentFuncType.{ComponentFuncType}
 
 -- the arena gave the resource and the stamp
-pub record ReferenceStands (made : ℕ) (r : AliasableResourceId) : Type 0 where
-  pub resource : r.resource.index < made
-  pub stamp : r.stamp < made
+pub record ReferenceStands (a : Arena) (r : AliasableResourceId) : Type 0 where
+  pub resource : r.resource.index < a.resources
+  pub stamp : r.stamp < a.stamps
 
 -- the part is of the arena: a reference to a resource that it made, or a node of that sort
 abbrev pub Stands : Arena → Part → Type 0
-Stands a (p.Resource r) = ReferenceStands a.made r
+Stands a (p.Resource r) = ReferenceStands a r
 Stands a (p.Func i) = (s : ComponentFuncType) × (slice_get a.nodes i.index ≡ Some (n.Func s))
 Stands a (p.Defined i) = ⊥
 Stands a (p.Instance i) = ⊥
@@ -40,7 +40,7 @@ pub record Fits (a : Arena) (x : Node) : Type 0 where
 
 -- the arena with its first k nodes alone
 abbrev pub cut : Arena → ℕ → Arena
-cut a k = record { nodes = take k a.nodes; made = a.made }
+cut a k = record a { nodes = take k a.nodes }
 
 -- each node fits those before it
 abbrev pub AllFit : Arena → Type 0
@@ -48,13 +48,14 @@ AllFit a = (k : ℕ) (x : Node) → slice_get a.nodes k ≡ Some x → Fits (cut
 
 -- the arena with one more node
 abbrev pub with_node : Arena → Node → Arena
-with_node a x = record { nodes = a.nodes ++ x ∷ []; made = a.made }
+with_node a x = record a { nodes = a.nodes ++ x ∷ [] }
 
 -- the arena only grew
 pub record Extends (a b : Arena) : Type 0 where
   pub more : List Node
   pub nodes : b.nodes ≡ a.nodes ++ more
-  pub made : a.made ≤ b.made
+  pub resources : a.resources ≤ b.resources
+  pub stamps : a.stamps ≤ b.stamps
 
 -- what stood stands, and its tree is the same
 pub record KeepsTrees (a b : Arena) : Type 0 where

@@ -4,7 +4,7 @@ use Rattle.std.specs.Fmt.{decimal}
 use Rattle.wcv_core.specs.Names.{Name, same}
 use Rattle.wcv_core.specs.declared.primitive.PrimitiveValType.{PrimitiveValType}
 use Rattle.wcv_core.specs.declared.primitive.PrimitiveValType.TheVariants as prim
-use Rattle.wcv_types.specs.Tree.{Text, Former, named, record_of, variant_of, list_of, map_of, tuple_of, option_of, result_of, own_of, borrow_of, future_of, stream_of, fixed_list_of, flags_of, enum_of, Head, nothing, primitive, resource, defined, func, instance, component, type_entity, here, label, import, export, Tree, node, Parts, none, part, head, rest_parts, created, referenced}
+use Rattle.wcv_types.specs.Tree.{Text, Extern_name, Former, named, record_of, variant_of, list_of, map_of, tuple_of, option_of, result_of, own_of, borrow_of, future_of, stream_of, fixed_list_of, flags_of, enum_of, Head, nothing, primitive, resource, defined, func, instance, component, type_entity, here, label, import, export, Tree, node, Parts, none, part, head, rest_parts, created, referenced}
 use Rattle.wcv_types.specs.Identity.{Identity, of_node, of_reference, identity_at, same_identity}
 use Rattle.wcv_types.specs.Positions.{position_of, is_there}
 use Rattle.wcv_types.specs.Quoting.{quoted}
@@ -69,9 +69,18 @@ entity_text w (instance i own) t = codes "instance " ++ mention w t
 entity_text w (component i ins outs) t = codes "component " ++ mention w t
 entity_text w h t = codes "value " ++ mention w t
 
+-- a text that a name says beside it, behind a word, where it is there
+abbrev pub beside_text : Text → Option Text → Text
+beside_text word None = []
+beside_text word (Some t) = word ++ quoted t
+
+-- what a name says beside it
+abbrev pub name_text : Extern_name → Text
+name_text n = beside_text (codes " implements ") n.implements ++ beside_text (codes " suffix ") n.version_suffix ++ beside_text (codes " id ") n.external_id
+
 -- an entry, behind a word that says whether it is an import
-abbrev pub entry_text : Written → Text → Text → Tree Name Name → Text
-entry_text w word n t = word ++ quoted n ++ codes " " ++ entity_text w (head t) t
+abbrev pub entry_text : Written → Text → Extern_name → Tree Name Name → Text
+entry_text w word n t = word ++ quoted n.name ++ codes " " ++ entity_text w (head t) t ++ name_text n
 
 -- the positions of a path, joined by commas
 abbrev pub positions_text : Text → List ℕ → Text
@@ -248,7 +257,7 @@ abbrev mutual
 -- ## The whole text
 
 -- a line of the whole text for an entry
-abbrev pub entry_line : Written → Text → Text → Tree Name Name → Written
+abbrev pub entry_line : Written → Text → Extern_name → Tree Name Name → Written
 entry_line w word n t = record w { text = w.text ++ entry_text w word n t ++ codes "\n" }
 
 -- each entry in order, behind the lines of the nodes that it mentions

@@ -1,10 +1,22 @@
 -- Type trees of components. R is the type of resources, I that of identities and stamps.
-use Rattle.std.specs.Prelude.{ℕ, List, [], ◌∷◌, Bool}
+use Rattle.std.specs.Prelude.{ℕ, List, [], ◌∷◌, Bool, Option, None}
 use Rattle.wcv_core.specs.declared.primitive.PrimitiveValType.{PrimitiveValType}
 
 -- the bytes of a text
 abbrev pub Text : Type 0
 Text = List ℕ
+
+-- the whole name of an import or an export
+pub record Extern_name : Type 0 where
+  pub name : Text
+  -- the interface that the entry implements, the rest of its version, and an id from outside
+  pub implements : Option Text
+  pub version_suffix : Option Text
+  pub external_id : Option Text
+
+-- one with nothing beside it
+abbrev pub plain_name : Text → Extern_name
+plain_name n = record { name = n; implements = None; version_suffix = None; external_id = None }
 
 -- how a defined value type is formed from its parts
 pub data Former : Type 0 where
@@ -39,7 +51,7 @@ pub data Role : Type 0 where
   here : Role
   -- a field, a case or a parameter
   label : Text → Role
-  import export : Text → Role
+  import export : Extern_name → Role
 
 -- a node and its parts, each in its role
 mutual
@@ -78,16 +90,16 @@ abbrev pub func_type : {R I : Type 0} → I → Bool → List (Text × Tree R I)
 func_type i async params result = node (func i async) (fields params (part here result none))
 
 -- imports or exports, before other parts
-abbrev pub entries : {R I : Type 0} → (Text → Role) → List (Text × Tree R I) → Parts R I → Parts R I
+abbrev pub entries : {R I : Type 0} → (Extern_name → Role) → List (Extern_name × Tree R I) → Parts R I → Parts R I
 entries role [] rest = rest
 entries role (e ∷ es) rest = part (role e.0) e.1 (entries role es rest)
 
 -- an instance, from its own resources and its exports
-abbrev pub instance_type : {R I : Type 0} → I → List R → List (Text × Tree R I) → Tree R I
+abbrev pub instance_type : {R I : Type 0} → I → List R → List (Extern_name × Tree R I) → Tree R I
 instance_type i owned es = node (instance i owned) (entries export es none)
 
 -- a component, from its imported and its defined resources, its imports and its exports
-abbrev pub component_type : {R I : Type 0} → I → List (R × List ℕ) → List (R × List ℕ) → List (Text × Tree R I) → List (Text × Tree R I) → Tree R I
+abbrev pub component_type : {R I : Type 0} → I → List (R × List ℕ) → List (R × List ℕ) → List (Extern_name × Tree R I) → List (Extern_name × Tree R I) → Tree R I
 component_type i imported made ins outs = node (component i imported made) (entries import ins (entries export outs none))
 
 -- ## Views
@@ -120,23 +132,23 @@ abbrev pub sort : {R I : Type 0} → Tree R I → Sort
 sort t = sort_at (head t)
 
 -- the parts that are exports
-abbrev pub exports_in : {R I : Type 0} → Parts R I → List (Text × Tree R I)
+abbrev pub exports_in : {R I : Type 0} → Parts R I → List (Extern_name × Tree R I)
 exports_in none = []
 exports_in (part (export n) t ps) = (n, t) ∷ exports_in ps
 exports_in (part _ t ps) = exports_in ps
 
 -- the parts that are imports
-abbrev pub imports_in : {R I : Type 0} → Parts R I → List (Text × Tree R I)
+abbrev pub imports_in : {R I : Type 0} → Parts R I → List (Extern_name × Tree R I)
 imports_in none = []
 imports_in (part (import n) t ps) = (n, t) ∷ imports_in ps
 imports_in (part _ t ps) = imports_in ps
 
 -- the exports by name, in order
-abbrev pub exports : {R I : Type 0} → Tree R I → List (Text × Tree R I)
+abbrev pub exports : {R I : Type 0} → Tree R I → List (Extern_name × Tree R I)
 exports t = exports_in (parts t)
 
 -- the imports by name, in order
-abbrev pub imports : {R I : Type 0} → Tree R I → List (Text × Tree R I)
+abbrev pub imports : {R I : Type 0} → Tree R I → List (Extern_name × Tree R I)
 imports t = imports_in (parts t)
 
 -- the first part, or nothing

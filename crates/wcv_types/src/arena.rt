@@ -1,7 +1,7 @@
 // The arena of types.
 ghost use Rattle.std.specs.Prelude.{◌≡◌, suc, ◌+◌, List, [], ◌∷◌, length, slice_get, Some, All, OnOk, OnErr, IfOk};
 ghost use Rattle.wcv_types.specs.Unfold.{place, rank, parts_of, tree_at, tree_of, trees, unfolded};
-ghost use Rattle.wcv_types.specs.Standing.{Stands, StandsBefore, Fits, AllFit, KeepsTrees, with_node};
+ghost use Rattle.wcv_types.specs.Standing.{Stands, StandsBefore, Fits, KeepsTrees, with_node};
 
 use crate::ids::{AliasableResourceId, ResourceId};
 use crate::shapes::ComponentFuncType;
@@ -17,11 +17,12 @@ pub enum Node {
 }
 
 /// An arena of types, in which parts stand before the whole. Contracts see it as its nodes and the
-/// number of resources that it made.
+/// numbers of resources and of stamps that it gave.
 #[derive(Drop)]
 pub struct TypeAlloc {
     pub(crate) nodes: Vec<Node>,
     resources: Vec<ResourceId>,
+    stamps: Vec<ResourceId>,
     features: WasmFeatures,
     alloc: Global,
 }
@@ -33,19 +34,20 @@ impl Model for TypeAlloc {
 
     ghost Value = { Arena };
 
-    ghost view = { λ a. record { nodes = a.nodes.items; made = length a.resources.items } };
+    ghost view = { λ a. record { nodes = a.nodes.items; resources = length a.resources.items; stamps = length a.stamps.items } };
 
-    ghost invariant = { λ a. AllFit (record { nodes = a.nodes.items; made = length a.resources.items }) };
+    ghost invariant = { λ a. AllFit (record { nodes = a.nodes.items; resources = length a.resources.items; stamps = length a.stamps.items }) };
 }
 
 impl TypeAlloc {
     /// An arena with no node.
     pub fn new(alloc: Global, features: WasmFeatures) -> TypeAlloc
-        ensures { result ≡ record { nodes = []; made = 0 } }
+        ensures { result ≡ record { nodes = []; resources = 0; stamps = 0 } }
     {
         TypeAlloc {
             nodes: Vec::new(alloc),
             resources: Vec::new(alloc),
+            stamps: Vec::new(alloc),
             features,
             alloc,
         }
@@ -56,26 +58,21 @@ impl TypeAlloc {
         self.alloc
     }
 
-    /// A resource and a stamp that stood nowhere.
+    /// A resource and a stamp that stood nowhere. Where memory is wanting nothing changes.
     pub fn alloc_resource_id(&mut self) -> Result<AliasableResourceId, OutOfMemory>
-        ensures made { OnOk result (self.new ≡ record self.old { made = self.old.made + 1 }) }
-        ensures last { IfOk result (λ id. id ≡ record { resource = record { index = self.old.made }; stamp = self.old.made }) }
+        ensures made { OnOk result (self.new ≡ record self.old { resources = self.old.resources + 1; stamps = self.old.stamps + 1 }) }
+        ensures last { IfOk result (λ id. id ≡ record { resource = record { index = self.old.resources }; stamp = self.old.stamps }) }
         ensures err { OnErr result (self.new ≡ self.old) }
     {
         let index = self.resources.len() as u64;
+        let stamp = self.stamps.len() as u64;
         let resource = ResourceId { index };
         self.resources.push(resource)?;
-        Ok(AliasableResourceId {
-            resource,
-            stamp: index,
-        })
-    }
-
-    /// Tells a proof that each node fits those before it.
-    pub fn learn(&self)
-        ensures { AllFit self.now }
-    {
-        let _ = &self.nodes;
+        if self.stamps.push(resource).is_err() {
+            let _ = self.resources.pop();
+            return Err(OutOfMemory);
+        }
+        Ok(AliasableResourceId { resource, stamp })
     }
 
     /// The node.

@@ -23,7 +23,7 @@ ghost use Rattle.wcv_types.specs.Replacing.{Replacement, new_resource, changed, 
 ghost use Rattle.wcv_types.specs.Resources.{Free, substitute, Admits};
 ghost use Rattle.wcv_types.specs.Seen.{Within, seen};
 ghost use Rattle.wcv_types.specs.Text.{type_text};
-ghost use Rattle.wcv_types.specs.Tree.{Text, Tree};
+ghost use Rattle.wcv_types.specs.Tree.{Extern_name, Tree};
 
 pub use arena::{Node, TypeAlloc};
 pub use component_type::{ComponentType, Paths};
@@ -128,10 +128,10 @@ pub fn renaming_keeps_what_is_free()
 
 /// The first path to a resource leads to it.
 pub fn the_first_path_leads_to_its_resource()
-    ensures { (r : Name) (entries : List (Text × Tree Name Name)) (p : List ℕ) → first_path r entries ≡ Some p → Leads p r entries }
+    ensures { (r : Name) (entries : List (Extern_name × Tree Name Name)) (p : List ℕ) → first_path r entries ≡ Some p → Leads p r entries }
 {}
 
 /// Where there is no first path, no path leads to the resource.
 pub fn there_is_a_first_path()
-    ensures { (r : Name) (entries : List (Text × Tree Name Name)) → first_path r entries ≡ None → (p : List ℕ) → Leads p r entries → ⊥ }
+    ensures { (r : Name) (entries : List (Extern_name × Tree Name Name)) → first_path r entries ≡ None → (p : List ℕ) → Leads p r entries → ⊥ }
 {}

@@ -8,13 +8,13 @@ use Rattle.wcv_types.proofs.func_sort.ComponentFuncTypeIdNodeSort.store.Goals as
 
 pub invariant_of-types : goal.invariant_of-types
 invariant_of-types c =
-    subst (λ (xs : List Node). AllFit (record { nodes = xs; made = length c.types.inside.resources.items })) (sym c.in_err-push.ensures.items) c.types.invariant
+    subst (λ (xs : List Node). AllFit (record { nodes = xs; resources = length c.types.inside.resources.items; stamps = length c.types.inside.stamps.items })) (sym c.in_err-push.ensures.items) c.types.invariant
 
 pub invariant_of-types-2 : goal.invariant_of-types-2
 invariant_of-types-2 c =
-    let a : Arena = record { nodes = c.types.inside.nodes.items; made = length c.types.inside.resources.items } in
-    let b : Arena = record { nodes = c.push.new.self.items; made = length c.types.inside.resources.items } in
-    let e : b ≡ with_node a (n.Func c.args.shape) = ap (λ (xs : List Node). record { nodes = xs; made = length c.types.inside.resources.items }) c.in_ok-push.ensures.items in
+    let a : Arena = record { nodes = c.types.inside.nodes.items; resources = length c.types.inside.resources.items; stamps = length c.types.inside.stamps.items } in
+    let b : Arena = record { nodes = c.push.new.self.items; resources = length c.types.inside.resources.items; stamps = length c.types.inside.stamps.items } in
+    let e : b ≡ with_node a (n.Func c.args.shape) = ap (λ (xs : List Node). record { nodes = xs; resources = length c.types.inside.resources.items; stamps = length c.types.inside.stamps.items }) c.in_ok-push.ensures.items in
     all_fit_push a b (n.Func c.args.shape) e c.types.invariant
     (subst (λ (x : Arena). Fits x (n.Func c.args.shape)) (sym c.types.view_is) c.requires)
 
