@@ -3,3 +3,4 @@ pub mod Among
 pub mod Appending
 pub mod Names
 pub mod Words
+pub mod Places

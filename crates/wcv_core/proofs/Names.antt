@@ -4,10 +4,10 @@ use Rattle.std.specs.Cmp.{IsEquivalence, decided}
 use Rattle.std.proofs.lemmas.Bool.{eqb-true}
 use Rattle.wcv_core.specs.Names.{Place, Name, number, stamp, base, at, stamped, aside, same_place, same}
 
-and_left : (a b : Bool) → (a && b) ≡ true → a ≡ true
+pub and_left : (a b : Bool) → (a && b) ≡ true → a ≡ true
 and_left a b h = grind arith
 
-and_right : (a b : Bool) → (a && b) ≡ true → b ≡ true
+pub and_right : (a b : Bool) → (a && b) ≡ true → b ≡ true
 and_right a b h = grind arith
 
 and_both : (a b : Bool) → a ≡ true → b ≡ true → (a && b) ≡ true

@@ -6,9 +6,9 @@ use Rattle.std.proofs.lemmas.Bool.{false≢true}
 use Rattle.wcv_core.specs.Names.{Name, member}
 use Rattle.wcv_core.proofs.Names.{same-true, same-equal}
 use Rattle.wcv_types.specs.Tree.{Extern_name, Head, nothing, primitive, resource, defined, func, instance, component, type_entity, here, label, import, export, Tree, node, Parts, none, part, head, first_part, rest_parts, exports, exports_in}
-use Rattle.wcv_types.specs.Resources.{RefersTo}
+use Rattle.wcv_types.specs.Resources.{RefersTo, refers}
 use Rattle.wcv_types.specs.Paths.{IsTypeOf, IsWayTo, Leads}
-use Rattle.wcv_types.specs.FirstPath.{or_else, refers, path_at, path_in, path_from, first_path}
+use Rattle.wcv_types.specs.FirstPath.{or_else, path_at, path_in, path_from, first_path}
 use Rattle.wcv_types.specs.Rename.{rename, rename_head, rename_parts, HeadNames, EachName, EachNameIn}
 use Rattle.wcv_types.proofs.Commute.{owns-renamed}
 use Rattle.wcv_types.proofs.Identity.{same_under}
@@ -201,7 +201,7 @@ first_path-none r es h (k ∷ p) w = let b = leads-begins r es k p w in path_fro
 -- ## Under a renaming that has a way back
 
 module _ (f back g : Name → Name) (Q : Name → Type 0) where
-  refers-renamed : (r : Name) (h : Head Name Name) → back (f r) ≡ r → HeadNames (λ q. back (f q) ≡ q) Q h → refers (f r) (rename_head f g h) ≡ refers r h
+  pub refers-renamed : (r : Name) (h : Head Name Name) → back (f r) ≡ r → HeadNames (λ q. back (f q) ≡ q) Q h → refers (f r) (rename_head f g h) ≡ refers r h
   refers-renamed r (resource q s) e n = same_under f back r q e n.0
   refers-renamed r nothing e n = refl
   refers-renamed r (primitive p) e n = refl
@@ -240,3 +240,12 @@ module _ (f back g : Name → Name) (Q : Name → Type 0) where
     path_in-renamed r k (part (import m) t ps) e n = path_in-renamed r k ps e n.1
     path_in-renamed r k (part (label m) t ps) e n = path_in-renamed r k ps e n.1
     path_in-renamed r k (part here t ps) e n = path_in-renamed r k ps e n.1
+
+  -- so among entries
+  pub path_from-renamed : (r : Name) (k : ℕ) (es : List Entry) → back (f r) ≡ r → ((e : Entry) → EachName (λ q. back (f q) ≡ q) Q e.1) →
+      path_from (f r) k (map (λ (e : Entry). (e.0, rename f g e.1)) es) ≡ path_from r k es
+  path_from-renamed r k [] e n = refl
+  path_from-renamed r k (x ∷ es) e n =
+      let a : path_at (f r) (rename f g x.1) ≡ path_at r x.1 = path_at-renamed r x.1 e (n x) in
+      let b : path_from (f r) (suc k) (map (λ (y : Entry). (y.0, rename f g y.1)) es) ≡ path_from r (suc k) es = path_from-renamed r (suc k) es e n in
+      λ j. or_else (option_map (λ p. k ∷ p) (a j)) (b j)

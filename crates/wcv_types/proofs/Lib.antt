@@ -15,6 +15,7 @@ pub mod Seen
 pub mod SameText
 pub mod Named
 pub mod FirstPath
+pub mod IsFree
 pub mod Examples
 pub mod Grown
 pub mod Unfolding

@@ -1,18 +1,14 @@
 -- The first path to a resource, depth first, entries in order.
 use Rattle.std.specs.Prelude.{ℕ, suc, List, [], ◌∷◌, Bool, false, cond, Option, Some, None}
 use Rattle.std.specs.Option.{option_map}
-use Rattle.wcv_core.specs.Names.{Name, same, member}
-use Rattle.wcv_types.specs.Tree.{Extern_name, Head, resource, instance, type_entity, export, Tree, node, Parts, none, part, head, first_part, rest_parts}
+use Rattle.wcv_core.specs.Names.{Name, member}
+use Rattle.wcv_types.specs.Tree.{Extern_name, instance, type_entity, export, Tree, node, Parts, none, part, head, first_part, rest_parts}
+use Rattle.wcv_types.specs.Resources.{refers}
 
 -- the first that is there
 abbrev pub or_else : {X : Type 0} → Option X → Option X → Option X
 or_else None o = o
 or_else (Some x) o = Some x
-
--- the node is a reference to the resource
-abbrev pub refers : Name → Head Name Name → Bool
-refers r (resource q s) = same r q
-refers r _ = false
 
 -- within what an entry holds, and among exports of which the first has position k
 abbrev mutual

@@ -1,6 +1,6 @@
 -- The free resources of a tree, and replacing them.
-use Rattle.std.specs.Prelude.{Bool, false, ◌||◌, cond, ◌≡◌, ◌⊎◌}
-use Rattle.wcv_core.specs.Names.{Name, member}
+use Rattle.std.specs.Prelude.{Bool, false, not, ◌&&◌, ◌||◌, cond, ◌≡◌, ◌⊎◌}
+use Rattle.wcv_core.specs.Names.{Name, same, member}
 use Rattle.wcv_types.specs.Tree.{Head, resource, instance, component, Tree, node, Parts, none, part, firsts}
 
 -- whether a node owns the resource
@@ -22,6 +22,23 @@ abbrev mutual
   pub FreeIn : {I : Type 0} → Name → Parts Name I → Type 0
   FreeIn r none = ⊥
   FreeIn r (part k t ps) = Free r t ⊎ FreeIn r ps
+
+-- ## Whether it is free
+
+-- the node itself is a reference to the resource
+abbrev pub refers : {I : Type 0} → Name → Head Name I → Bool
+refers r (resource q s) = same r q
+refers r _ = false
+
+abbrev mutual
+  pub is_free : {I : Type 0} → Name → Tree Name I → Bool
+  is_free r (node h ps) = refers r h || (not (owns h r) && is_free_in r ps)
+
+  pub is_free_in : {I : Type 0} → Name → Parts Name I → Bool
+  is_free_in r none = false
+  is_free_in r (part k t ps) = is_free r t || is_free_in r ps
+
+-- ## Replacing
 
 -- u, but for the resources that the node owns
 abbrev pub spare : {I : Type 0} → Head Name I → (Name → Name) → Name → Name
