@@ -45,7 +45,7 @@ or_assoc true b c = refl
 or_assoc false b c = refl
 
 -- it is not so, or it is
-not_so : (b : Bool) → (b ≡ true → ⊥) → b ≡ false
+pub not_so : (b : Bool) → (b ≡ true → ⊥) → b ≡ false
 not_so true h = absurd (h refl)
 not_so false h = refl
 

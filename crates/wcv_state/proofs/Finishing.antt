@@ -3,11 +3,12 @@ use Rattle.std.proofs.Common.{◌≡◌, List, [], map, refl, sym, ◌∙◌, ap
 use Rattle.std.specs.Prelude.{ℕ, Option, All}
 use Rattle.std.specs.Option.{option_map}
 use Rattle.std.proofs.lemmas.List.Elements.{All-nil}
-use Rattle.wcv_core.specs.Names.{Name}
+use Rattle.wcv_core.specs.Names.{Name, number}
 use Rattle.wcv_core.specs.declared.core_types.ValType.{ValType}
 use Rattle.wcv_types.specs.Arena.{Arena}
 use Rattle.wcv_types.specs.ComponentTrees.{resource_path, component_tree, ResourceStands, ComponentStands}
 use Rattle.wcv_types.specs.Entities.{entry_trees, EntryStands}
+use Rattle.wcv_types.specs.Paths.{Leads}
 use Rattle.wcv_types.specs.Tree.{component_type}
 use Rattle.wcv_types.specs.Unfold.{trees}
 use Rattle.wcv_types.specs.declared.component_type.ComponentType.{ComponentType}
@@ -47,5 +48,9 @@ module _ (a : Arena) (s : Contents) (h : StateStands a s) where
       exports = subst (All (EntryStands a)) (sym exports) (h.side exporting);
       imported = subst (All (λ (p : ResourceId × List ℕ). ResourceStands a p.0)) (sym (imported ∙ h.imported)) (All-nil _);
       defined = subst (All (λ (p : ResourceId × List ℕ). ResourceStands a p.0)) (sym defined) (All-nil _);
+    };
+    lead = record {
+      imported = subst (All (λ (p : ResourceId × List ℕ). Leads p.1 (number p.0.index) (entry_trees (trees a.nodes) ty.imports))) (sym (imported ∙ h.imported)) (All-nil _);
+      defined = subst (All (λ (p : ResourceId × List ℕ). Leads p.1 (number p.0.index) (entry_trees (trees a.nodes) ty.exports))) (sym defined) (All-nil _);
     };
   }
