@@ -1,0 +1,84 @@
+-- The lines of entries and of paths.
+use Rattle.std.proofs.Common.{◌≡◌, List, ◌++◌, ℕ, codes, refl, sym, ◌∙◌, ap, subst, append_assoc}
+use Rattle.wcv_core.specs.Names.{Name}
+use Rattle.wcv_types.specs.Arena.{Arena}
+use Rattle.wcv_types.specs.Entities.{any_part, entity_tree, entry_name, EntityStands, EntryStands}
+use Rattle.wcv_types.specs.Quoting.{quoted}
+use Rattle.wcv_types.specs.Standing.{Stands, identity_of}
+use Rattle.wcv_types.specs.Text.{Written, node_number, mention, mention_head, entity_text, name_text, entry_text, entry_line, path_text, path_line, with_resource}
+use Rattle.wcv_types.specs.Tree.{Text, Head, head}
+use Rattle.wcv_types.specs.Unfold.{Type_tree, tree_at, trees}
+use Rattle.wcv_types.specs.declared.arena.Node.TheVariants as n
+use Rattle.wcv_types.specs.declared.ids.Part.{Part}
+use Rattle.wcv_types.specs.declared.ids.Part.TheVariants as p
+use Rattle.wcv_types.specs.declared.item_map.ComponentItem.{ComponentItem}
+use Rattle.wcv_types.specs.declared.shapes.ComponentEntityType.{ComponentEntityType}
+use Rattle.wcv_types.specs.declared.shapes.ComponentEntityType.TheVariants as entity
+use Rattle.wcv_types.specs.declared.shapes.ComponentValType.TheVariants as v
+use Rattle.wcv_types.proofs.Unfolding.{head_in}
+use Rattle.wcv_text.specs.Mentions.{entity_said}
+use Rattle.wcv_text.specs.Numbers.{written, Shows, Appends}
+use Rattle.wcv_text.specs.declared.numbers.Numbers.{Numbers}
+
+-- ## Entities by ids
+
+-- a type that stands is mentioned by the number of its line
+mention_is : (a : Arena) (w : Written) (q : Part) → Stands a q → mention w (tree_at a q) ≡ node_number w (identity_of q)
+mention_is a w (p.Resource r) s = refl
+mention_is a w (p.Func i) s = ap (mention_head w) (head_in a.nodes i.index (n.Func s.0) s.1)
+mention_is a w (p.Defined i) s = absurd s
+mention_is a w (p.Instance i) s = absurd s
+mention_is a w (p.Component i) s = absurd s
+mention_is a w (p.Module i) s = absurd s
+mention_is a w (p.CoreInstance i) s = absurd s
+mention_is a w (p.Core i) s = absurd s
+
+entity_is : (a : Arena) (w : Written) (x : ComponentEntityType) → EntityStands a x → entity_text w (head (entity_tree (trees a.nodes) x)) (entity_tree (trees a.nodes) x) ≡ entity_said w x
+entity_is a w (entity.Func i) s =
+    let t : Type_tree = tree_at a (p.Func i) in
+    ap (λ (h : Head Name Name). entity_text w h t) (head_in a.nodes i.index (n.Func s.0) s.1) ∙ ap (λ (x : Text). codes "func " ++ x) (mention_is a w (p.Func i) s)
+entity_is a w (entity.Value (v.Primitive q)) s = refl
+entity_is a w (entity.Value (v.Ty i)) s = absurd s
+entity_is a w (entity.Ty c r) s =
+    let e : mention w (tree_at a (any_part c)) ≡ node_number w (identity_of (any_part c)) = mention_is a w (any_part c) s.0 in
+    let e' : mention w (tree_at a (any_part r)) ≡ node_number w (identity_of (any_part r)) = mention_is a w (any_part r) s.1 in
+    λ j. codes "type " ++ e j ++ codes " of " ++ e' j
+entity_is a w (entity.Module i) s = absurd s
+entity_is a w (entity.Instance i) s = absurd s
+entity_is a w (entity.Component i) s = absurd s
+
+-- ## Lines
+
+-- an entry, by ids
+abbrev pub entry_said : Text → Text × ComponentItem → Written → Text
+entry_said word e w = word ++ quoted e.0 ++ codes " " ++ entity_said w e.1.ty ++ name_text (entry_name e) ++ codes "\n"
+
+-- the line of an entry is appended
+pub entry_shown : (a : Arena) (numbers : Numbers) (before text next word : Text) (w : Written) (e : Text × ComponentItem) → EntryStands a e → Appends numbers text next (entry_said word e) →
+    Shows numbers before text w → Shows numbers before next (entry_line w word (entry_name e) (entity_tree (trees a.nodes) e.1.ty))
+entry_shown a numbers before text next word w e s said h =
+    let t : Type_tree = entity_tree (trees a.nodes) e.1.ty in
+    let line : entry_said word e (written numbers w.text) ≡ entry_text w word (entry_name e) t ++ codes "\n" =
+    ap (entry_said word e) (sym h.numbers_are) ∙ ap (λ (x : Text). word ++ quoted e.0 ++ codes " " ++ x ++ name_text (entry_name e) ++ codes "\n") (sym (entity_is a w e.1.ty s)) in
+    record {
+      text_is = said w.text ∙ ap (λ (x : Text). text ++ x) line ∙ ap (λ (x : Text). x ++ (entry_text w word (entry_name e) t ++ codes "\n")) h.text_is ∙ regroup before w.text (entry_text w word (entry_name e) t);
+      numbers_are = ap (λ (z : Written). record z { text = w.text ++ entry_text w word (entry_name e) t ++ codes "\n" }) h.numbers_are;
+    }
+  where
+    regroup : (b x l : Text) → (b ++ x) ++ (l ++ codes "\n") ≡ b ++ (x ++ l ++ codes "\n")
+    regroup b x l = simp append_assoc
+
+-- the line of a resource and its path is appended
+pub path_shown : (old new : Numbers) (before text next word : Text) (w : Written) (r : Name) (path : List ℕ) →
+    ((x : Text) → written new x ≡ with_resource (written old x) r) → ((x : Text) → next ≡ text ++ (path_text (written new x) word r path ++ codes "\n")) →
+    Shows old before text w → Shows new before next (path_line (with_resource w r) word r path)
+path_shown old new before text next word w r path given said h =
+    let u : Written = written new w.text in
+    let same : with_resource w r ≡ u = ap (λ (z : Written). with_resource z r) h.numbers_are ∙ sym (given w.text) in
+    subst (λ (z : Written). Shows new before next (path_line z word r path)) (sym same) (record {
+      text_is = said w.text ∙ ap (λ (x : Text). x ++ (path_text u word r path ++ codes "\n")) h.text_is ∙ regroup before w.text (path_text u word r path);
+      numbers_are = refl;
+    })
+  where
+    regroup : (b x l : Text) → (b ++ x) ++ (l ++ codes "\n") ≡ b ++ (x ++ l ++ codes "\n")
+    regroup b x l = simp append_assoc

@@ -1,0 +1,99 @@
+-- The own line of a node.
+use Rattle.std.proofs.Common.{◌≡◌, ℕ, List, [], ◌∷◌, ◌++◌, length, refl, sym, ◌∙◌, ap, subst, append_assoc, Bool, true, false, cond, Option, Some, None}
+use Rattle.std.specs.Prelude.{slice_get}
+use Rattle.std.proofs.lemmas.List.Elements.{All-get_or}
+use Rattle.std.proofs.lemmas.Option.{get_or_from_slice_get, slice_get_within}
+use Rattle.wcv_core.specs.Names.{Name}
+use Rattle.wcv_types.specs.Arena.{Arena}
+use Rattle.wcv_types.specs.Identity.{Identity}
+use Rattle.wcv_types.specs.Standing.{StandsBefore, Unfolds, identity_of}
+use Rattle.wcv_types.specs.Text.{Written, line_text, line_if, with_line, with_resource, with_each, with_paths, with_resources, has_line, write, write_parts}
+use Rattle.wcv_types.specs.Tree.{Text, Head, nothing, primitive, resource, defined, func, instance, component, type_entity, Parts, head, parts}
+use Rattle.wcv_types.specs.Unfold.{Type_tree, leaf, at, both, Slots, slot_parts, parts_in, parts_at, rank, slots_at, trees, tree_at}
+use Rattle.wcv_types.specs.declared.ids.Part.{Part}
+use Rattle.wcv_text.specs.Nodes.{form_of, own_line, write_all}
+use Rattle.wcv_text.specs.Numbers.{written, Shows}
+use Rattle.wcv_text.specs.declared.numbers.Numbers.{Numbers}
+
+-- ## Numbers of resources leave the lines alone
+
+resource_keeps : (w : Written) (r : Name) → (with_resource w r).nodes ≡ w.nodes
+resource_keeps w r = go _
+  where
+    go : (b : Bool) → (cond b w (record w { resources = w.resources ++ r ∷ [] })).nodes ≡ w.nodes
+    go true = refl
+    go false = refl
+
+each_keeps : (w : Written) (rs : List Name) → (with_each w rs).nodes ≡ w.nodes
+each_keeps w [] = refl
+each_keeps w (r ∷ rs) = each_keeps (with_resource w r) rs ∙ resource_keeps w r
+
+paths_keep : (w : Written) (ps : List (Name × List ℕ)) → (with_paths w ps).nodes ≡ w.nodes
+paths_keep w [] = refl
+paths_keep w (p ∷ ps) = paths_keep (with_resource w p.0) ps ∙ resource_keeps w p.0
+
+pub resources_keep : (w : Written) (h : Head Name Name) → (with_resources w h).nodes ≡ w.nodes
+resources_keep w (resource r s) = resource_keeps w r
+resources_keep w (instance i own) = each_keeps w own
+resources_keep w (component i ins outs) = paths_keep (with_paths w ins) outs ∙ paths_keep w ins
+resources_keep w nothing = refl
+resources_keep w (primitive p) = refl
+resources_keep w (defined i k) = refl
+resources_keep w (func i b) = refl
+resources_keep w type_entity = refl
+
+-- ## The line
+
+-- the line of a type is appended
+pub line_shown : (old mid new : Numbers) (before text next : Text) (w : Written) (number : ℕ) (q : Part) (t : Type_tree) →
+    number ≡ length (written old []).nodes → ((x : Text) → written mid x ≡ with_resources (written old x) (head t)) →
+    ((x : Text) → next ≡ text ++ line_text number (form_of (written mid x) t)) →
+    ((x : Text) → written new x ≡ record (written mid x) { nodes = (written mid x).nodes ++ identity_of q ∷ [] }) →
+    Shows old before text w → Shows new before next (own_line q t w)
+line_shown old mid new before text next w number q t count given said added h =
+    let x : Text = w.text in
+    let u : Written = written mid x in
+    let same : with_resources w (head t) ≡ u = ap (λ (z : Written). with_resources z (head t)) h.numbers_are ∙ sym (given x) in
+    let here : number ≡ length u.nodes = count ∙ sym (ap (λ (z : Written). length z.nodes) (given x) ∙ ap length (resources_keep (written old x) (head t))) in
+    subst (λ (z : Written). Shows new before next (with_line z (identity_of q) (head t) (parts t))) (sym same) (record {
+      text_is = said x ∙ ap (λ (k : ℕ). text ++ line_text k (form_of u t)) here ∙ ap (λ (y : Text). y ++ line_text (length u.nodes) (form_of u t)) h.text_is ∙
+          append_assoc before x (line_text (length u.nodes) (form_of u t));
+      numbers_are = sym (added (x ++ line_text (length u.nodes) (form_of u t)));
+    })
+
+-- ## Parts before the whole
+
+-- a part of a type stands before it
+pub part_before : (a : Arena) (q r : Part) (k : ℕ) → Unfolds a q → slice_get (parts_at a q) k ≡ Some r → StandsBefore a (rank q) r
+part_before a q r k u h =
+    let P : Part → Type 0 = StandsBefore a (rank q) in
+    subst P (get_or_from_slice_get (parts_at a q) k r r h) (All-get_or P (parts_at a q) k r (slice_get_within (parts_at a q) k r h) u.before)
+
+slots_written : (a : Arena) (w : Written) (ss : Slots) → write_parts w (slot_parts (trees a.nodes) ss) ≡ write_all a w (parts_in ss)
+slots_written a w [] = refl
+slots_written a w ((r, leaf None) ∷ ss) = slots_written a w ss
+slots_written a w ((r, leaf (Some p)) ∷ ss) = slots_written a w ss
+slots_written a w ((r, at q) ∷ ss) = slots_written a (write w (tree_at a q)) ss
+slots_written a w ((r, both c q) ∷ ss) = slots_written a (write (write w (tree_at a c)) (tree_at a q)) ss
+
+module _ (a : Arena) (q : Part) (w : Written) (u : Unfolds a q) where
+  abbrev t : Type_tree
+  t = tree_at a q
+
+  abbrev ps : Parts Name Name
+  ps = slot_parts (trees a.nodes) (slots_at a.nodes q)
+
+  -- what is written where the type has a line, and where it has none
+  either : write w t ≡ cond (has_line w (Some (identity_of q))) w (line_if (write_parts w ps) (Some (identity_of q)) (head t) ps)
+  either = ap (write w) u.tree ∙ ap (λ (i : Option Identity). cond (has_line w i) w (line_if (write_parts w ps) i (head t) ps)) u.known
+
+  -- a type that has a line is written already
+  pub write_old : has_line w (Some (identity_of q)) ≡ true → write w t ≡ w
+  write_old h = either ∙ ap (λ (b : Bool). cond b w (line_if (write_parts w ps) (Some (identity_of q)) (head t) ps)) h
+
+  -- one that has none gets it after its parts
+  pub write_new : has_line w (Some (identity_of q)) ≡ false → write w t ≡ own_line q t (write_all a w (parts_at a q))
+  write_new h =
+      either ∙ ap (λ (b : Bool). cond b w (line_if (write_parts w ps) (Some (identity_of q)) (head t) ps)) h ∙
+      ap (λ (v : Written). with_line (with_resources v (head t)) (identity_of q) (head t) ps) (slots_written a w (slots_at a.nodes q)) ∙
+      ap (λ (rs : Parts Name Name). with_line (with_resources (write_all a w (parts_at a q)) (head t)) (identity_of q) (head t) rs) (sym (ap parts u.tree))

@@ -1,0 +1,48 @@
+-- The text of a whole component type.
+use Rattle.std.proofs.Common.{◌≡◌, List, [], ◌∷◌, ℕ, codes, map, refl, sym, ◌∙◌, ap, append-nil}
+use Rattle.wcv_core.specs.Names.{Name}
+use Rattle.wcv_types.specs.Arena.{Arena}
+use Rattle.wcv_types.specs.ComponentTrees.{resource_path, root_tree}
+use Rattle.wcv_types.specs.Entities.{entry_tree, entry_trees}
+use Rattle.wcv_types.specs.Text.{Written, nothing_written, write_entries, write_paths, type_text}
+use Rattle.wcv_types.specs.Tree.{Text, Parts, none, import, export, entries}
+use Rattle.wcv_types.specs.Unfold.{Type_tree, trees}
+use Rattle.wcv_types.specs.declared.component_type.ComponentType.{ComponentType}
+use Rattle.wcv_types.specs.declared.ids.ResourceId.{ResourceId}
+use Rattle.wcv_types.specs.declared.item_map.ComponentItem.{ComponentItem}
+use Rattle.wcv_text.specs.Entries.{write_entry, write_list, write_path, write_path_list}
+use Rattle.wcv_text.specs.Numbers.{written, Shows}
+use Rattle.wcv_text.specs.declared.numbers.Numbers.{Numbers}
+
+imports_written : (ts : List Type_tree) (w : Written) (es : List (Text × ComponentItem)) (rest : Parts Name Name) →
+    write_entries w (entries import (entry_trees ts es) rest) ≡ write_entries (write_list (codes "import ") ts es w) rest
+imports_written ts w [] rest = refl
+imports_written ts w (e ∷ es) rest = imports_written ts (write_entry (codes "import ") (entry_tree ts e) w) es rest
+
+exports_written : (ts : List Type_tree) (w : Written) (es : List (Text × ComponentItem)) → write_entries w (entries export (entry_trees ts es) none) ≡ write_list (codes "export ") ts es w
+exports_written ts w [] = refl
+exports_written ts w (e ∷ es) = exports_written ts (write_entry (codes "export ") (entry_tree ts e) w) es
+
+paths_written : (word : Text) (w : Written) (ps : List (ResourceId × List ℕ)) → write_paths word w (map resource_path ps) ≡ write_path_list word ps w
+paths_written word w [] = refl
+paths_written word w (p ∷ ps) = paths_written word (write_path word p w) ps
+
+-- imports, exports, imported and then defined resources
+abbrev pub all_written : List Type_tree → ComponentType → Written
+all_written ts ty =
+    write_path_list (codes "defined ") ty.defined_resources
+    (write_path_list (codes "imported ") ty.imported_resources (write_list (codes "export ") ts ty.exports (write_list (codes "import ") ts ty.imports nothing_written)))
+
+pub all_said : (a : Arena) (ty : ComponentType) → type_text (root_tree a ty) ≡ (all_written (trees a.nodes) ty).text
+all_said a ty =
+    let ts : List Type_tree = trees a.nodes in
+    let listed : write_entries nothing_written (entries import (entry_trees ts ty.imports) (entries export (entry_trees ts ty.exports) none)) ≡ write_list (codes "export ") ts ty.exports (write_list (codes "import ") ts ty.imports nothing_written) =
+    imports_written ts nothing_written ty.imports (entries export (entry_trees ts ty.exports) none) ∙ exports_written ts (write_list (codes "import ") ts ty.imports nothing_written) ty.exports in
+    ap (λ (w : Written). w.text)
+    (ap (λ (w : Written). write_paths (codes "defined ") (write_paths (codes "imported ") w (map resource_path ty.imported_resources)) (map resource_path ty.defined_resources)) listed ∙
+    ap (λ (w : Written). write_paths (codes "defined ") w (map resource_path ty.defined_resources)) (paths_written (codes "imported ") _ ty.imported_resources) ∙
+    paths_written (codes "defined ") _ ty.defined_resources)
+
+-- nothing is written yet
+pub nothing_shown : (numbers : Numbers) (before : Text) → written numbers [] ≡ nothing_written → Shows numbers before before nothing_written
+nothing_shown numbers before h = record { text_is = sym (append-nil before); numbers_are = sym h }

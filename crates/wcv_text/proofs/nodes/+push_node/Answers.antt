@@ -1,0 +1,61 @@
+use Rattle.std.proofs.Common.{◌≡◌, ◌∙◌, ◌<◌, [], ap, sym, subst, take, take_all, Some, false, true, arith, rules, string_bytes}
+use Rattle.std.proofs.lemmas.Result.{on_ok_weaker}
+use Rattle.wcv_types.specs.Arena.{Arena}
+use Rattle.wcv_types.specs.Standing.{Stands, StandsBefore, identity_of}
+use Rattle.wcv_types.specs.Text.{has_line, write}
+use Rattle.wcv_types.specs.Unfold.{parts_at, rank, tree_at}
+use Rattle.wcv_types.specs.declared.ids.Part.{Part}
+use Rattle.wcv_text.specs.Nodes.{write_all}
+use Rattle.wcv_text.specs.Numbers.{written, Shows}
+use Rattle.wcv_text.proofs.Folds.{fold_step}
+use Rattle.wcv_text.proofs.Lines.{part_before, write_old, write_new}
+use Rattle.wcv_text.proofs.Older.{older_own, older_then, still_none}
+use Rattle.wcv_text.proofs.nodes.+push_node.Goals as goal
+
+pub returns-then-has_line-clause-shows : goal.returns-then-has_line-clause-shows
+returns-then-has_line-clause-shows t c = λ before w h.
+    let there : has_line w (Some (identity_of c.args.part)) ≡ true = ap (λ v. has_line v (Some (identity_of c.args.part))) h.numbers_are ∙
+    sym (ap (λ i. has_line (written c.args.numbers.now []) (Some i)) c.identity_of.ensures) ∙ sym c.has_line.ensures ∙ c.if-has_line.true in
+    subst (Shows c.args.numbers.now before (string_bytes c.args.text.now)) (sym (write_old c.args.types.now c.args.part w c.unfolds.ensures there)) h
+
+pub push_node-requires : goal.push_node-requires
+push_node-requires t c =
+    let s : StandsBefore c.args.types.now (rank c.args.part) c.part_at.result = part_before c.args.types.now c.args.part c.part_at.result c.loop-k.k c.unfolds.ensures c.part_at.ensures in
+    let smaller : rank c.part_at.result < rank c.args.part = s.before in
+    let stands : Stands c.args.types.now c.part_at.result = s.stands in
+    search rules
+
+pub loop-k-preserved : goal.loop-k-preserved
+loop-k-preserved t c =
+    let a : Arena = c.args.types.now in
+    let q : Part = c.args.part in
+    let r : Part = c.part_at.result in
+    let s : StandsBefore a (rank q) r = part_before a q r c.loop-k.k c.unfolds.ensures c.part_at.ensures in
+    let below : rank r < rank q = s.before in
+    record {
+      shows = λ before w h. subst (Shows c.push_node.new.numbers before (string_bytes c.push_node.new.text)) (sym (fold_step (λ v p. write v (tree_at a p)) w (parts_at a q) c.loop-k.k r c.part_at.ensures))
+          (c.in_ok-push_node.ensures.shows before _ (c.loop-k.invariant.shows before w h));
+      no_line = still_none r q c.loop-k.numbers c.push_node.new.numbers below c.in_ok-push_node.ensures.older c.loop-k.invariant.no_line;
+      older = older_then (rank q) (rank r) (rank q) c.args.numbers.now c.loop-k.numbers c.push_node.new.numbers (omega arith) (omega arith) c.loop-k.invariant.older c.in_ok-push_node.ensures.older;
+    }
+
+pub returns-clause-shows : goal.returns-clause-shows
+returns-clause-shows t c =
+    let a : Arena = c.args.types.now in
+    let q : Part = c.args.part in
+    let all : take c.loop-k.k (parts_at a q) ≡ parts_at a q = take_all c.loop-k.k (parts_at a q) (omega arith) in
+    let none : has_line (written c.args.numbers.now []) (Some (identity_of q)) ≡ false = sym (ap (λ i. has_line (written c.args.numbers.now []) (Some i)) c.identity_of.ensures) ∙ sym c.has_line.ensures ∙ c.if-has_line.false in
+    on_ok_weaker c.push_line.result
+    (λ line before w h.
+    let absent : has_line w (Some (identity_of q)) ≡ false = ap (λ v. has_line v (Some (identity_of q))) h.numbers_are ∙ none in
+    let parts_shown = subst (λ qs. Shows c.loop-k.numbers before (string_bytes c.loop-k.text) (write_all a w qs)) all (c.loop-k.invariant.shows before w h) in
+    subst (Shows c.push_line.new.numbers before (string_bytes c.push_line.new.text)) (sym (write_new a q w c.unfolds.ensures absent)) (line before _ parts_shown))
+    c.push_line.ensures.shows
+
+pub returns-clause-older : goal.returns-clause-older
+returns-clause-older t c =
+    let q : Part = c.args.part in
+    on_ok_weaker c.push_line.result
+    (λ added. older_then (rank q) (rank q) (rank q) c.args.numbers.now c.loop-k.numbers c.push_line.new.numbers (omega arith) (omega arith) c.loop-k.invariant.older
+    (older_own c.args.types.now q c.loop-k.numbers c.push_line.new.numbers c.requires added))
+    c.push_line.ensures.added

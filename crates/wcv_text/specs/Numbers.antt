@@ -1,0 +1,29 @@
+-- What has been written, beside the text.
+use Rattle.std.specs.Prelude.{◌++◌, map, ◌≡◌}
+use Rattle.wcv_core.specs.Names.{Name, number}
+use Rattle.wcv_types.specs.Text.{Written}
+use Rattle.wcv_types.specs.Tree.{Text}
+use Rattle.wcv_types.specs.declared.ids.ResourceId.{ResourceId}
+use Rattle.wcv_text.specs.Identity.{known}
+use Rattle.wcv_text.specs.declared.numbers.Numbers.{Numbers}
+
+-- the resource as trees have it
+abbrev pub name_of : ResourceId → Name
+name_of r = number r.index
+
+-- what has been written, with that text
+abbrev pub written : Numbers → Text → Written
+written n text = record { nodes = map known n.nodes; resources = map name_of n.resources; text = text }
+
+-- the text stands behind what stood there before, and the numbers are those that were given
+pub record Shows (numbers : Numbers) (before text : Text) (w : Written) : Type 0 where
+  pub text_is : text ≡ before ++ w.text
+  pub numbers_are : w ≡ written numbers w.text
+
+-- where the text showed what was written so far, it now shows what the step makes of that
+abbrev pub Writes : Numbers → Text → Numbers → Text → (Written → Written) → Type 0
+Writes numbers text more next step = (before : Text) (w : Written) → Shows numbers before text w → Shows more before next (step w)
+
+-- a piece of a line is appended, which says the same whatever text stands before it
+abbrev pub Appends : Numbers → Text → Text → (Written → Text) → Type 0
+Appends numbers text next piece = (t : Text) → next ≡ text ++ piece (written numbers t)

@@ -1,0 +1,58 @@
+// The lines of resources and their paths.
+ghost use Rattle.std.specs.Prelude.{◌≡◌, ◌++◌, [], string_bytes, OnOk};
+ghost use Rattle.wcv_types.specs.Text.{positions_text};
+ghost use Rattle.wcv_text.specs.Entries.{write_path, write_path_list};
+ghost use Rattle.wcv_text.specs.Numbers.{Writes};
+
+use crate::mentions::separator_at;
+use crate::numbers::Numbers;
+use std::alloc::AllocError;
+use std::fmt::Write;
+use wcv_types::{Paths, ResourceId};
+
+/// Appends positions with commas between them.
+fn push_positions(text: &mut String, positions: &[u64]) -> Result<(), AllocError>
+    ensures { OnOk result (string_bytes text.new ≡ string_bytes text.old ++ positions_text [] positions.now) }
+{
+    for (index, position) in positions.iter().enumerate() {
+        let before = separator_at(",", index);
+        write!(text, "{before}{position}")?;
+    }
+    Ok(())
+}
+
+/// Appends the line of a resource and its path behind a word. The resource gets a number where it has none.
+fn push_path(
+    text: &mut String,
+    numbers: &mut Numbers,
+    word: &str,
+    resource: ResourceId,
+    positions: &[u64],
+) -> Result<(), AllocError>
+    ensures { OnOk result (Writes numbers.old (string_bytes text.old) numbers.new (string_bytes text.new) (write_path word.now (resource, positions.now))) }
+{
+    let number = numbers.resource(resource)?;
+    write!(text, "{word}r{number} [")?;
+    push_positions(text, positions)?;
+    text.push_str("]\n")
+}
+
+/// Appends the lines of resources and their paths behind one word.
+pub fn push_paths(
+    text: &mut String,
+    numbers: &mut Numbers,
+    word: &str,
+    paths: &Paths,
+) -> Result<(), AllocError>
+    ensures { OnOk result (Writes numbers.old (string_bytes text.old) numbers.new (string_bytes text.new) (write_path_list word.now paths.now)) }
+{
+    for k in 0..paths.len() {
+        match paths.get_index(k) {
+            Some((resource, place)) => {
+                push_path(text, numbers, word, *resource, place.positions())?
+            }
+            None => unreachable!(),
+        }
+    }
+    Ok(())
+}
