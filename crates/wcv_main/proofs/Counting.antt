@@ -5,7 +5,8 @@ use Rattle.wcv_types.specs.Unfold.{trees, part_tree, slot_tree, value_slot}
 use Rattle.wcv_types.specs.declared.ids.Part.TheVariants as part
 use Rattle.wcv_types.proofs.Each.{length-mapped}
 use Rattle.wcv_lower.specs.Context.{type_entry, lengths}
-use Rattle.wcv_state.specs.Contents.{Contents, any_part, context_of}
+use Rattle.wcv_state.specs.Contents.{Contents, context_of}
+use Rattle.wcv_types.specs.Entities.{any_part}
 use Rattle.wcv_main.specs.Report.{space_lengths}
 
 pub counted : (a : Arena) (s : Contents) → lengths (context_of a s) ≡ space_lengths s.spaces

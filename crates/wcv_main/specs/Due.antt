@@ -1,17 +1,21 @@
 -- What is due for the words and the bytes of a run, where nothing fails.
-use Rattle.std.specs.Prelude.{ℕ, ◌≡◌, ◌⊎◌, List, [], ◌∷◌, ◌++◌, length, Bool, false, nat_lt, if◌then◌else◌, codes}
+use Rattle.std.specs.Prelude.{ℕ, ◌≡◌, ◌⊎◌, List, [], ◌∷◌, ◌++◌, length, Bool, false, nat_lt, if◌then◌else◌, codes, Option, Some}
+use Rattle.std.specs.Option.{option_map}
 use Rattle.std.specs.Str.{bytes_eq}
 use Rattle.std.specs.Fmt.{decimal}
 use Rattle.wcv_core.specs.Kinds.{kind_name}
 use Rattle.wcv_core.specs.Names.{base}
 use Rattle.wcv_core.specs.declared.error.ErrorKind.{ErrorKind}
-use Rattle.wcv_syntax.specs.Model.{Entry}
+use Rattle.wcv_core.specs.declared.features.WasmFeatures.{WasmFeatures}
+use Rattle.wcv_syntax.specs.Model.{Items}
+use Rattle.wcv_syntax.specs.View.{items_of}
 use Rattle.wcv_types.specs.Text.{type_text}
 use Rattle.wcv_listing.specs.Listing.{Reading, not_json, bad_shape, listed, reading_of}
 use Rattle.wcv_main.specs.declared.status.Status.{Status}
 use Rattle.wcv_main.specs.declared.status.Status.TheVariants as status
-use Rattle.wcv_lower.specs.Context.{Context, lengths}
-use Rattle.wcv_link.specs.Valid.{ValidTo, Refused, type_at_end}
+use Rattle.wcv_lower.specs.Context.{Type_tree, Context, lengths}
+use Rattle.wcv_lower.specs.Ending.{type_at_end}
+use Rattle.wcv_link.specs.Valid.{ValidTo, Refused}
 use Rattle.wcv_main.specs.Report.{line, report}
 
 -- the outcome of a run, in the order in which it is looked for
@@ -21,8 +25,8 @@ pub data Due : Type 0 where
   no_json : Due
   -- JSON that is no listing, with a position
   no_shape : ℕ → Due
-  -- a listing, by its items and the offset of its end
-  sections : List Entry → ℕ → Due
+  -- a listing, by its features, its items and the offset of its end
+  sections : WasmFeatures → Items → ℕ → Due
 
 -- the one command that is built is the word `validate`
 abbrev pub is_validate : List (List ℕ) → Bool
@@ -33,7 +37,7 @@ is_validate (word ∷ more ∷ words) = false
 abbrev pub due_of_reading : Reading → Due
 due_of_reading not_json = no_json
 due_of_reading (bad_shape at) = no_shape at
-due_of_reading (listed l) = sections l.entries l.end
+due_of_reading (listed l) = sections l.features (items_of l.entries) l.end
 
 -- the most bytes of a listing
 abbrev pub limit : ℕ
@@ -45,12 +49,16 @@ due_of_bytes bytes = if nat_lt limit (length bytes) then too_long else due_of_re
 abbrev pub due_of : List (List ℕ) → List ℕ → Due
 due_of words bytes = if is_validate words then due_of_bytes bytes else wrong_words
 
+-- so where the source may not tell its bytes: other words have their outcome whatever the bytes are
+abbrev pub due_over : List (List ℕ) → Option (List ℕ) → Option Due
+due_over words left = if is_validate words then option_map due_of_bytes left else Some wrong_words
+
 abbrev pub usage : List ℕ
 usage = line (codes "usage: wcv validate, wcv link TURNS or wcv make N")
 
--- the report of a valid root: the lengths of its index spaces, and its type
-abbrev pub accepted_text : Context → List ℕ
-accepted_text d = report (lengths d) ++ type_text (type_at_end (base []) d)
+-- the report of a valid root: the lengths of its index spaces, and its type at the end
+abbrev pub accepted_text : Context → Type_tree → List ℕ
+accepted_text d t = report (lengths d) ++ type_text t
 
 -- the two lines of a refusal; the words of the message are not promised
 abbrev pub refusal_text : ErrorKind → ℕ → List ℕ → List ℕ
@@ -61,12 +69,12 @@ abbrev pub GivesRefusalText : ErrorKind → ℕ → List ℕ → Type 0
 GivesRefusalText kind offset text = (message : List ℕ) × (text ≡ refusal_text kind offset message)
 
 -- the root is valid: its report
-abbrev pub GivesReport : List Entry → Status → List ℕ → Type 0
-GivesReport es s text = (d : Context) × ValidTo es d × (s ≡ status.Done) × (text ≡ accepted_text d)
+abbrev pub GivesReport : WasmFeatures → Items → Status → List ℕ → Type 0
+GivesReport features is s text = (d : Context) × (t : Type_tree) × ValidTo features is d × (type_at_end (base []) d ≡ Some t) × (s ≡ status.Done) × (text ≡ accepted_text d t)
 
 -- the root is refused: a kind that is a cause at the place of refusal, and its offset
-abbrev pub GivesRefusal : List Entry → ℕ → Status → List ℕ → Type 0
-GivesRefusal es end s text = (kind : ErrorKind) × (offset : ℕ) × Refused es end kind offset × (s ≡ status.Refused) × GivesRefusalText kind offset text
+abbrev pub GivesRefusal : WasmFeatures → Items → ℕ → Status → List ℕ → Type 0
+GivesRefusal features is end s text = (kind : ErrorKind) × (offset : ℕ) × Refused features is end kind offset × (s ≡ status.Refused) × GivesRefusalText kind offset text
 
 -- this status with this text is due
 abbrev pub Gives : Due → Status → List ℕ → Type 0
@@ -74,4 +82,4 @@ Gives wrong_words s text = (s ≡ status.Words) × (text ≡ usage)
 Gives too_long s text = (s ≡ status.TooLong) × (text ≡ line (codes "listing is longer than 67108864 bytes"))
 Gives no_json s text = (s ≡ status.Listing) × (text ≡ line (codes "bad listing: not JSON"))
 Gives (no_shape at) s text = (s ≡ status.Listing) × (text ≡ line (codes "bad listing at " ++ decimal at))
-Gives (sections es end) s text = GivesReport es s text ⊎ GivesRefusal es end s text
+Gives (sections features is end) s text = GivesReport features is s text ⊎ GivesRefusal features is end s text

@@ -9,8 +9,6 @@ mod report;
 mod status;
 mod steady;
 mod steady_run;
-#[cfg(test)]
-mod tests;
 mod top;
 mod words;
 

@@ -2,10 +2,11 @@
 ghost use Rattle.std.specs.Prelude.{◌≡◌, ◌≢◌, ◌+◌, ◌≤◌, ◌<◌, ◌⊎◌, ◌++◌, List, [], false, length, string_bytes, IfOk};
 ghost use Rattle.std.specs.Io.KnownBytes.{Appends, IsAtEnd};
 ghost use Rattle.wcv_core.specs.Refusal.{error_kind, error_offset};
-ghost use Rattle.wcv_syntax.specs.Model.{Entry};
-ghost use Rattle.wcv_syntax.specs.View.{entries};
+ghost use Rattle.wcv_core.specs.declared.features.WasmFeatures.{WasmFeatures};
+ghost use Rattle.wcv_syntax.specs.Model.{Items};
+ghost use Rattle.wcv_syntax.specs.View.{items_view};
 ghost use Rattle.wcv_types.specs.Text.{type_text};
-ghost use Rattle.wcv_state.specs.Shape.{root_tree};
+ghost use Rattle.wcv_types.specs.ComponentTrees.{root_tree};
 ghost use Rattle.wcv_link.specs.Accepts.{Accepts};
 ghost use Rattle.wcv_main.specs.Faults.{Rose};
 ghost use Rattle.wcv_main.specs.Pump.{GivesAtMost, GivesExactly};
@@ -19,7 +20,7 @@ use crate::report::push_report;
 use crate::status::Status;
 use crate::words::Words;
 use std::alloc::{AllocError, Global};
-use wcv_core::{Error, ErrorKind, WasmFeatures};
+use wcv_core::{Error, ErrorKind};
 use wcv_link::{Accepted, validate_sections};
 use wcv_listing::{Listing, ListingError, read_listing};
 use wcv_state::{ComponentState, Space};
@@ -62,7 +63,7 @@ fn space_lengths(state: &ComponentState) -> [u64; 13]
 
 /// The report of a valid root.
 fn report_text(alloc: Global, accepted: &Accepted) -> Result<String, AllocError>
-    requires { (es : List Entry) × Accepts es accepted.now }
+    requires { (features : WasmFeatures) × ((is : Items) × Accepts features is accepted.now) }
     ensures { IfOk result (λ text. string_bytes text ≡ report (lengths_of_spaces accepted.now.state.spaces) ++ type_text (root_tree accepted.now.types accepted.now.ty)) }
 {
     let mut text = String::new(alloc);
@@ -88,10 +89,10 @@ fn refusal_text(alloc: Global, error: &Error) -> Result<String, AllocError>
 fn answer_listing(alloc: Global, listing: &Listing) -> Result<(Status, String), AllocError>
     ensures kind { IfOk result (λ answer. IsOfListing answer.0) }
     ensures short { IfOk result (λ answer. answer.0 ≢ Status.TooLong) }
-    ensures due { IfOk result (λ answer. Gives (sections (entries listing.now.items.items) listing.now.end) answer.0 (string_bytes answer.1)) }
+    ensures due { IfOk result (λ answer. Gives (sections listing.now.features (items_view listing.now.items.items) listing.now.end) answer.0 (string_bytes answer.1)) }
 {
     let items: &[Item] = &listing.items;
-    match validate_sections(alloc, WasmFeatures::default(), items, listing.end) {
+    match validate_sections(alloc, listing.features, items, listing.end) {
         Ok(accepted) => {
             let text = report_text(alloc, &accepted)?;
             Ok((Status::Done, text))

@@ -1,13 +1,11 @@
 use Rattle.std.proofs.Common.{◌≡◌, ◌++◌, ◌∙◌, List, [], ℕ, ap, sym, subst, inl, refl, string_bytes}
-use Rattle.wcv_core.specs.Names.{base}
 use Rattle.wcv_syntax.specs.declared.item.Item.{Item}
-use Rattle.wcv_syntax.specs.View.{entries}
+use Rattle.wcv_syntax.specs.View.{items_view}
+use Rattle.wcv_types.specs.ComponentTrees.{root_tree}
 use Rattle.wcv_types.specs.Text.{type_text}
 use Rattle.wcv_types.proofs.SameText.{same_text}
 use Rattle.wcv_lower.specs.Context.{Context, lengths}
-use Rattle.wcv_state.specs.Shape.{root_tree}
 use Rattle.wcv_link.specs.Accepts.{Accepts}
-use Rattle.wcv_link.specs.Valid.{type_at_end}
 use Rattle.wcv_link.specs.declared.driver.Accepted.{Accepted}
 use Rattle.wcv_main.specs.declared.status.Status.TheVariants as status
 use Rattle.wcv_main.specs.Due.{GivesReport, accepted_text}
@@ -17,14 +15,15 @@ use Rattle.wcv_main.proofs.top.answer_listing.Goals as goal
 
 pub returns-in_ok-text-in-Ok-clause-due : goal.returns-in_ok-text-in-Ok-clause-due
 returns-in_ok-text-in-Ok-clause-due c =
-    let es = entries c.deref-items.result.now in
+    let features = c.args.listing.now.features in
+    let is = items_view c.deref-items.result.now in
     let a : Accepted = c.in-Ok.accepted in
-    let h : Accepts es a = c.in-Ok.ensures.ok in
+    let h : Accepts features is a = c.in-Ok.ensures.ok in
     let d : Context = h.context in
     let counts : space_lengths a.state.spaces ≡ lengths d = sym (counted a.types a.state) ∙ h.spaces in
     let written : string_bytes c.in_ok-text-in-Ok.text ≡ report (space_lengths a.state.spaces) ++ type_text (root_tree a.types a.ty) = c.in_ok-text-in-Ok.ensures in
-    let whole : string_bytes c.in_ok-text-in-Ok.text ≡ accepted_text d =
+    let whole : string_bytes c.in_ok-text-in-Ok.text ≡ accepted_text d h.ty =
     written ∙ ap (λ (ns : List ℕ). report ns ++ type_text (root_tree a.types a.ty)) counts ∙
-    ap (λ (t : List ℕ). report (lengths d) ++ t) (same_text (root_tree a.types a.ty) (type_at_end (base []) d) h.type_is) in
+    ap (λ (t : List ℕ). report (lengths d) ++ t) (same_text (root_tree a.types a.ty) h.ty h.type_is) in
     inl
-    (subst (λ (items : List Item). GivesReport (entries items) status.Done (string_bytes c.in_ok-text-in-Ok.text)) c.deref-items.ensures.value (d, h.valid, refl, whole))
+    (subst (λ (items : List Item). GivesReport features (items_view items) status.Done (string_bytes c.in_ok-text-in-Ok.text)) c.deref-items.ensures.value (d, h.ty, h.valid, h.typed, refl, whole))

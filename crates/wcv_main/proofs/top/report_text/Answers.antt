@@ -1,6 +1,6 @@
 use Rattle.std.proofs.Common.{◌≡◌, ◌++◌, [], ◌∙◌, List, ℕ, ap, string_bytes, rules}
 use Rattle.wcv_types.specs.Text.{type_text}
-use Rattle.wcv_state.specs.Shape.{root_tree}
+use Rattle.wcv_types.specs.ComponentTrees.{root_tree}
 use Rattle.wcv_main.specs.Report.{report, space_lengths}
 use Rattle.wcv_main.proofs.top.report_text.Goals as goal
 
