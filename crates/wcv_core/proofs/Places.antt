@@ -1,5 +1,5 @@
 -- Places inside others.
-use Rattle.std.proofs.Common.{◌≡◌, ℕ, [], ◌∷◌, Bool, true, false, ◌&&◌, eqb, refl, sym, ◌∙◌, ap, subst, eq-eqb}
+use Rattle.std.proofs.Common.{◌≡◌, ℕ, [], ◌∷◌, true, false, ◌&&◌, eqb, refl, sym, ◌∙◌, eq-eqb}
 use Rattle.std.proofs.lemmas.Bool.{eqb-true}
 use Rattle.wcv_core.specs.Names.{Place, deeper, under}
 use Rattle.wcv_core.proofs.Names.{and_left, and_right}

@@ -1,11 +1,10 @@
 -- Reading on: what holds as far as some position, and of the rest.
-use Rattle.std.proofs.Common.{◌≡◌, ℕ, suc, ◌<◌, ◌≤◌, refl, sym, ◌∙◌, ap, subst, arith, Some, inl, inr, ◌⊎◌}
-use Rattle.std.specs.Prelude.{Option}
+use Rattle.std.proofs.Common.{◌≡◌, ℕ, suc, ◌<◌, ◌≤◌, refl, sym, ◌∙◌, ap, subst, arith, Some, inl, inr}
 use Rattle.std.specs.Option.{option_map}
-use Rattle.wcv_core.specs.Names.{Name, Place, deeper}
+use Rattle.wcv_core.specs.Names.{Place, deeper}
 use Rattle.wcv_core.specs.declared.error.ErrorKind.{ErrorKind}
 use Rattle.wcv_syntax.specs.Model.{Form, Items, no_items, next_item}
-use Rattle.wcv_lower.specs.Checks.{Checks, Cause, IsFree}
+use Rattle.wcv_lower.specs.Checks.{IsFree}
 use Rattle.wcv_lower.specs.Context.{Context, Scope}
 use Rattle.wcv_lower.specs.Growth.{grow, checks}
 use Rattle.wcv_lower.specs.Names.{Names, Under, AreRenamed}
@@ -32,8 +31,15 @@ module _ (names : Names) (w : Place) (sc : Scope) where
       let free' : IsFree (checks sc c f') = subst (λ (z : Context). IsFree (checks sc z f')) x.1 (subst (λ (z : Form). IsFree (checks sc d z)) ef free) in
       let grown' : grow names (deeper w k) sc c f' ≡ Some e =
       subst (λ (z : ℕ). grow names (deeper w z) sc c f' ≡ Some e) x.0 (subst (λ (z : Context). grow names (deeper w n) sc z f' ≡ Some e) x.1 (subst (λ (z : Form). grow names (deeper w n) sc d z ≡ Some e) ef grown)) in
-      inr (free', (e, grown', subst (λ (z : ℕ). ReadsAsFar names w sc (suc k) e is (suc z) e rest) (sym x.0)
-      (subst (λ (z : Items). ReadsAsFar names w sc (suc k) e is (suc k) e z) (sym er) (as_far_as_start (suc k) e is))))
+      inr (
+        free',
+        (
+          e,
+          grown',
+          subst (λ (z : ℕ). ReadsAsFar names w sc (suc k) e is (suc z) e rest) (sym x.0)
+              (subst (λ (z : Items). ReadsAsFar names w sc (suc k) e is (suc k) e z) (sym er) (as_far_as_start (suc k) e is)),
+        ),
+      )
   one_further k c (next_item at' f' is) n d e at f rest (inr x) free grown =
       inr (x.0, (x.1.0, x.1.1, one_further (suc k) x.1.0 is n d e at f rest x.1.2 free grown))
 
@@ -70,11 +76,14 @@ as_far-agrees names other w sc k c no_items n d left same r = r
 as_far-agrees names other w sc k c (next_item at f is) n d left same (inl x) = inl x
 as_far-agrees names other w sc k c (next_item at f is) n d left same (inr x) =
     let m : suc k ≤ n = not_back names w sc (suc k) x.1.0 is n d left x.1.2 in
-    inr (x.0, (
-      x.1.0,
-      grow-agrees names other (deeper w k) (same k (omega arith) (omega (arith, m))) sc c f ∙ x.1.1,
-      as_far-agrees names other w sc (suc k) x.1.0 is n d left (λ j l h. same j (omega (arith, l)) h) x.1.2,
-    ))
+    inr (
+      x.0,
+      (
+        x.1.0,
+        grow-agrees names other (deeper w k) (same k (omega arith) (omega (arith, m))) sc c f ∙ x.1.1,
+        as_far-agrees names other w sc (suc k) x.1.0 is n d left (λ j l h. same j (omega (arith, l)) h) x.1.2,
+      ),
+    )
 
 -- renamed names read renamed contexts
 pub as_far-renamed : (v : Renaming) (names other : Names) (w : Place) (sc : Scope) → ((p : Place) → AreRenamed (Under p) v.resources.to v.identities.to names other) → (k : ℕ) (c : Context) (is : Items) (n : ℕ) (d : Context) (left : Items) →
@@ -83,8 +92,11 @@ pub as_far-renamed : (v : Renaming) (names other : Names) (w : Place) (sc : Scop
 as_far-renamed v names other w sc renamed k c no_items n d left r = (r.0, ap (rename_context v.resources.to v.identities.to) r.1, r.2)
 as_far-renamed v names other w sc renamed k c (next_item at f is) n d left (inl x) = inl (x.0, ap (rename_context v.resources.to v.identities.to) x.1, x.2)
 as_far-renamed v names other w sc renamed k c (next_item at f is) n d left (inr x) =
-    inr (subst IsFree (sym (checks-renamed v sc c f)) x.0, (
-      rename_context v.resources.to v.identities.to x.1.0,
-      grow-renamed v names other (deeper w k) (renamed (deeper w k)) sc c f ∙ ap (option_map (rename_context v.resources.to v.identities.to)) x.1.1,
-      as_far-renamed v names other w sc renamed (suc k) x.1.0 is n d left x.1.2,
-    ))
+    inr (
+      subst IsFree (sym (checks-renamed v sc c f)) x.0,
+      (
+        rename_context v.resources.to v.identities.to x.1.0,
+        grow-renamed v names other (deeper w k) (renamed (deeper w k)) sc c f ∙ ap (option_map (rename_context v.resources.to v.identities.to)) x.1.1,
+        as_far-renamed v names other w sc renamed (suc k) x.1.0 is n d left x.1.2,
+      ),
+    )

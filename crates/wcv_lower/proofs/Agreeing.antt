@@ -1,9 +1,8 @@
 -- Growth looks at the names of an item's own places alone.
 use Rattle.std.proofs.Common.{◌≡◌, List, [], ◌∷◌, map, refl, sym, ◌∙◌, ap, Some, None}
-use Rattle.std.specs.Prelude.{ℕ, Option}
+use Rattle.std.specs.Prelude.{Option}
 use Rattle.std.specs.Option.{option_map}
 use Rattle.wcv_core.specs.Names.{Name, Place}
-use Rattle.wcv_core.specs.declared.core_types.ValType.{ValType}
 use Rattle.wcv_syntax.specs.Model.{Form}
 use Rattle.wcv_types.specs.Rename.{rename, rename_paths}
 use Rattle.wcv_types.proofs.Lists.{map-id}

@@ -1,11 +1,11 @@
 -- Names of one call and names of another are those of both, where neither gives any at the places of the other.
-use Rattle.std.proofs.Common.{◌≡◌, ℕ, List, [], ◌∷◌, ◌++◌, Bool, true, false, cond, ◌||◌, refl, sym, ◌∙◌, ap, subst, arith, Some, None}
+use Rattle.std.proofs.Common.{◌≡◌, [], ◌∷◌, ◌++◌, Bool, true, false, cond, ◌||◌, refl, sym, ◌∙◌, ap, subst, arith, Some, None}
 use Rattle.std.specs.Prelude.{Option}
 use Rattle.std.proofs.lemmas.Bool.{false≢true}
 use Rattle.wcv_core.specs.Names.{Name, Place, number, stamp, base, at, stamped, aside, same}
 use Rattle.wcv_core.proofs.Names.{and_left, and_right, same_place-true, same_place-refl, same-true, same-refl}
-use Rattle.wcv_lower.specs.Given.{Given, find, or_by_place, named, GivenNames, both_given, Numbers, AtMost, IsNewResource, IsNewIdentity, IsYounger, has_origin, has_name, AreGiven, GivesAt}
-use Rattle.wcv_lower.specs.Names.{Origin, introduced, again, stamp_at, place_of, same_origin, by_place}
+use Rattle.wcv_lower.specs.Given.{Given, find, or_by_place, named, GivenNames, both_given, Numbers, AtMost, IsNewResource, IsNewIdentity, has_origin, has_name, AreGiven, GivesAt}
+use Rattle.wcv_lower.specs.Names.{Origin, introduced, again, stamp_at, place_of, same_origin}
 
 -- ## Origins
 

@@ -1,11 +1,11 @@
 -- Names that are given stand for those by place: one renaming with a way back sends each to the name of its origin.
-use Rattle.std.proofs.Common.{◌≡◌, ℕ, zero, suc, ◌<◌, ◌≤◌, List, [], ◌∷◌, Bool, true, false, cond, ◌||◌, refl, sym, ◌∙◌, ap, subst, arith, Some, None}
+use Rattle.std.proofs.Common.{◌≡◌, ℕ, zero, suc, ◌<◌, [], ◌∷◌, Bool, true, false, cond, ◌||◌, refl, sym, ◌∙◌, ap, subst, arith, Some, None}
 use Rattle.std.specs.Prelude.{Option}
 use Rattle.std.proofs.lemmas.Bool.{false≢true}
 use Rattle.wcv_core.specs.Names.{Name, Place, number, stamp, base, at, stamped, aside, same}
 use Rattle.wcv_core.proofs.Names.{same-true, same-refl}
 use Rattle.wcv_lower.specs.Given.{Given, find, or_by_place, named, GivenNames, names_of, Numbers, IsNewResource, IsNewIdentity, age, IsYounger, has_origin, has_name, AreGiven, GivesAt}
-use Rattle.wcv_lower.specs.Names.{Origin, introduced, again, stamp_at, place_of, same_origin, by_place, Names, names_by_place, rename_origin, AreRenamed}
+use Rattle.wcv_lower.specs.Names.{Origin, introduced, again, stamp_at, same_origin, by_place, names_by_place, rename_origin, AreRenamed}
 use Rattle.wcv_lower.specs.Renamed.{Injection, Renaming}
 use Rattle.wcv_lower.proofs.Given.{same_origin-true, same_origin-refl}
 

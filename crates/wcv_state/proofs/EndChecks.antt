@@ -1,14 +1,14 @@
 -- The causes at an end are the same under a renaming; where there is none, the component has a type.
-use Rattle.std.proofs.Common.{◌≡◌, ℕ, List, [], ◌∷◌, refl, ◌∙◌, ap, Some, None}
-use Rattle.std.specs.Prelude.{Bool, Option}
+use Rattle.std.proofs.Common.{◌≡◌, [], ◌∷◌, refl, ◌∙◌, ap, Some, None}
+use Rattle.std.specs.Prelude.{Option}
 use Rattle.std.specs.Option.{option_map}
 use Rattle.wcv_core.specs.Names.{Name}
 use Rattle.wcv_core.specs.declared.error.ErrorKind.TheVariants as kind
 use Rattle.wcv_types.specs.Rename.{rename_paths}
-use Rattle.wcv_lower.specs.Checks.{Checks, IsFree, is_none}
+use Rattle.wcv_lower.specs.Checks.{IsFree, is_none}
 use Rattle.wcv_lower.specs.Context.{Type_tree, Context, Scope, importing, exporting}
-use Rattle.wcv_lower.specs.Ending.{any_free, kept, type_at_end}
-use Rattle.wcv_lower.specs.Renamed.{Renaming, rename_entry, rename_defined, rename_context, rename_scope}
+use Rattle.wcv_lower.specs.Ending.{kept, type_at_end}
+use Rattle.wcv_lower.specs.Renamed.{Renaming, rename_context, rename_scope}
 use Rattle.wcv_lower.proofs.EndingLaws.{any_free-renamed, kept-renamed, has_type}
 use Rattle.wcv_state.specs.Ending.{end_checks}
 

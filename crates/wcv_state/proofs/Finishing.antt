@@ -1,12 +1,12 @@
 -- What is finished is the type at the end of the state's context.
-use Rattle.std.proofs.Common.{◌≡◌, List, [], map, refl, sym, ◌∙◌, ap, subst, false, cond, Some, None}
+use Rattle.std.proofs.Common.{◌≡◌, List, [], map, sym, ◌∙◌, ap, subst, false, cond, Some, None}
 use Rattle.std.specs.Prelude.{ℕ, Option, All}
 use Rattle.std.specs.Option.{option_map}
 use Rattle.std.proofs.lemmas.List.Elements.{All-nil}
-use Rattle.wcv_core.specs.Names.{Name, number}
+use Rattle.wcv_core.specs.Names.{number}
 use Rattle.wcv_core.specs.declared.core_types.ValType.{ValType}
 use Rattle.wcv_types.specs.Arena.{Arena}
-use Rattle.wcv_types.specs.ComponentTrees.{resource_path, component_tree, ResourceStands, ComponentStands}
+use Rattle.wcv_types.specs.ComponentTrees.{resource_path, ResourceStands}
 use Rattle.wcv_types.specs.Entities.{entry_trees, EntryStands}
 use Rattle.wcv_types.specs.Paths.{Leads}
 use Rattle.wcv_types.specs.Tree.{component_type}
@@ -14,8 +14,8 @@ use Rattle.wcv_types.specs.Unfold.{trees}
 use Rattle.wcv_types.specs.declared.component_type.ComponentType.{ComponentType}
 use Rattle.wcv_types.specs.declared.ids.ResourceId.{ResourceId}
 use Rattle.wcv_lower.specs.Checks.{IsFree, is_none}
-use Rattle.wcv_lower.specs.Context.{Type_tree, Context, importing, exporting}
-use Rattle.wcv_lower.specs.Ending.{any_free, kept, type_at_end}
+use Rattle.wcv_lower.specs.Context.{Context, importing, exporting}
+use Rattle.wcv_lower.specs.Ending.{any_free, kept}
 use Rattle.wcv_state.specs.Contents.{Contents, context_of, scope_of, defined_resource, StateStands}
 use Rattle.wcv_state.specs.Ending.{end_checks}
 use Rattle.wcv_state.specs.Promises.{Finished}

@@ -1,5 +1,5 @@
 -- The first path to a resource, depth first, entries in order.
-use Rattle.std.specs.Prelude.{ℕ, suc, List, [], ◌∷◌, Bool, false, cond, Option, Some, None}
+use Rattle.std.specs.Prelude.{ℕ, suc, List, [], ◌∷◌, cond, Option, Some, None}
 use Rattle.std.specs.Option.{option_map}
 use Rattle.wcv_core.specs.Names.{Name, member}
 use Rattle.wcv_types.specs.Tree.{Extern_name, instance, type_entity, export, Tree, node, Parts, none, part, head, first_part, rest_parts}

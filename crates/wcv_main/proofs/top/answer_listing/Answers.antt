@@ -1,4 +1,4 @@
-use Rattle.std.proofs.Common.{◌≡◌, ◌++◌, ◌∙◌, List, [], ℕ, ap, sym, subst, inl, refl, string_bytes}
+use Rattle.std.proofs.Common.{◌≡◌, ◌++◌, ◌∙◌, List, ℕ, ap, sym, subst, inl, refl, string_bytes}
 use Rattle.wcv_syntax.specs.declared.item.Item.{Item}
 use Rattle.wcv_syntax.specs.View.{items_view}
 use Rattle.wcv_types.specs.ComponentTrees.{root_tree}

@@ -1,4 +1,4 @@
-use Rattle.std.proofs.Common.{◌≡◌, ◌∙◌, ap, sym}
+use Rattle.std.proofs.Common.{◌∙◌, ap}
 use Rattle.wcv_state.specs.Contents.{Contents}
 use Rattle.wcv_state.proofs.Finishing.{finish_is}
 use Rattle.wcv_state.proofs.state.ComponentState.finish.Goals as goal
