@@ -16,7 +16,7 @@ use Rattle.wcv_types.specs.declared.shapes.ComponentEntityType.{ComponentEntityT
 use Rattle.wcv_types.specs.declared.shapes.ComponentEntityType.TheVariants as entity
 use Rattle.wcv_types.specs.declared.shapes.ComponentValType.TheVariants as v
 use Rattle.wcv_types.proofs.Unfolding.{head_in}
-use Rattle.wcv_text.specs.Mentions.{entity_said}
+use Rattle.wcv_text.specs.Mentions.{entity_said, entry_said}
 use Rattle.wcv_text.specs.Numbers.{written, Shows, Appends}
 use Rattle.wcv_text.specs.declared.numbers.Numbers.{Numbers}
 
@@ -48,10 +48,6 @@ entity_is a w (entity.Instance i) s = absurd s
 entity_is a w (entity.Component i) s = absurd s
 
 -- ## Lines
-
--- an entry, by ids
-abbrev pub entry_said : Text → Text × ComponentItem → Written → Text
-entry_said word e w = word ++ quoted e.0 ++ codes " " ++ entity_said w e.1.ty ++ name_text (entry_name e) ++ codes "\n"
 
 -- the line of an entry is appended
 pub entry_shown : (a : Arena) (numbers : Numbers) (before text next word : Text) (w : Written) (e : Text × ComponentItem) → EntryStands a e → Appends numbers text next (entry_said word e) →

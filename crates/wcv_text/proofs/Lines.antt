@@ -1,16 +1,19 @@
 -- The own line of a node.
-use Rattle.std.proofs.Common.{◌≡◌, ℕ, List, [], ◌∷◌, ◌++◌, length, refl, sym, ◌∙◌, ap, subst, append_assoc, Bool, true, false, cond, Option, Some, None}
+use Rattle.std.proofs.Common.{◌≡◌, ℕ, ◌<◌, get_or, List, [], ◌∷◌, ◌++◌, length, refl, sym, ◌∙◌, ap, subst, append_assoc, Bool, true, false, cond, Option, Some, None}
 use Rattle.std.specs.Prelude.{slice_get}
 use Rattle.std.proofs.lemmas.List.Elements.{All-get_or}
-use Rattle.std.proofs.lemmas.Option.{get_or_from_slice_get, slice_get_within}
+use Rattle.std.proofs.lemmas.Option.{get_or_from_slice_get, slice_get-get_or, slice_get_within}
 use Rattle.wcv_core.specs.Names.{Name}
 use Rattle.wcv_types.specs.Arena.{Arena}
-use Rattle.wcv_types.specs.Identity.{Identity}
-use Rattle.wcv_types.specs.Standing.{StandsBefore, Unfolds, identity_of}
+use Rattle.wcv_types.specs.Identity.{Identity, identity_at}
+use Rattle.wcv_types.specs.Standing.{Stands, StandsBefore, Unfolds, identity_of}
 use Rattle.wcv_types.specs.Text.{Written, line_text, line_if, with_line, with_resource, with_each, with_paths, with_resources, has_line, write, write_parts}
-use Rattle.wcv_types.specs.Tree.{Text, Head, nothing, primitive, resource, defined, func, instance, component, type_entity, Parts, head, parts}
+use Rattle.wcv_types.specs.Tree.{Text, Head, nothing, primitive, resource, defined, func, instance, component, type_entity, Parts, node, head, parts}
 use Rattle.wcv_types.specs.Unfold.{Type_tree, leaf, at, both, Slots, slot_parts, parts_in, parts_at, rank, slots_at, trees, tree_at}
+use Rattle.wcv_types.specs.declared.arena.Node.TheVariants as n
 use Rattle.wcv_types.specs.declared.ids.Part.{Part}
+use Rattle.wcv_types.specs.declared.ids.Part.TheVariants as p
+use Rattle.wcv_types.proofs.Unfolding.{head_in}
 use Rattle.wcv_text.specs.Nodes.{form_of, own_line, write_all}
 use Rattle.wcv_text.specs.Numbers.{written, Shows}
 use Rattle.wcv_text.specs.declared.numbers.Numbers.{Numbers}
@@ -63,6 +66,10 @@ line_shown old mid new before text next w number q t count given said added h =
 
 -- ## Parts before the whole
 
+-- what stands at a place of a list stands there in the same list
+pub at_part : {X : Type 0} (xs ys : List X) (k : ℕ) (x : X) → xs ≡ ys → k < length xs → x ≡ get_or xs k x → slice_get ys k ≡ Some x
+at_part {X = X} xs ys k x same below e = ap (λ (zs : List X). slice_get zs k) (sym same) ∙ slice_get-get_or xs k x below ∙ ap Some (sym e)
+
 -- a part of a type stands before it
 pub part_before : (a : Arena) (q r : Part) (k : ℕ) → Unfolds a q → slice_get (parts_at a q) k ≡ Some r → StandsBefore a (rank q) r
 part_before a q r k u h =
@@ -72,28 +79,34 @@ part_before a q r k u h =
 slots_written : (a : Arena) (w : Written) (ss : Slots) → write_parts w (slot_parts (trees a.nodes) ss) ≡ write_all a w (parts_in ss)
 slots_written a w [] = refl
 slots_written a w ((r, leaf None) ∷ ss) = slots_written a w ss
-slots_written a w ((r, leaf (Some p)) ∷ ss) = slots_written a w ss
+slots_written a w ((r, leaf (Some o)) ∷ ss) = slots_written a w ss
 slots_written a w ((r, at q) ∷ ss) = slots_written a (write w (tree_at a q)) ss
 slots_written a w ((r, both c q) ∷ ss) = slots_written a (write (write w (tree_at a c)) (tree_at a q)) ss
 
-module _ (a : Arena) (q : Part) (w : Written) (u : Unfolds a q) where
-  abbrev t : Type_tree
-  t = tree_at a q
+-- a type that stands has its identity
+known_stands : (a : Arena) (q : Part) → Stands a q → identity_at (head (tree_at a q)) ≡ Some (identity_of q)
+known_stands a (p.Resource r) s = refl
+known_stands a (p.Func i) s = ap identity_at (head_in a.nodes i.index (n.Func s.0) s.1)
+known_stands a (p.Defined i) s = absurd s
+known_stands a (p.Instance i) s = absurd s
+known_stands a (p.Component i) s = absurd s
+known_stands a (p.Module i) s = absurd s
+known_stands a (p.CoreInstance i) s = absurd s
+known_stands a (p.Core i) s = absurd s
 
-  abbrev ps : Parts Name Name
-  ps = slot_parts (trees a.nodes) (slots_at a.nodes q)
+write_again : (w : Written) (t : Type_tree) → has_line w (identity_at (head t)) ≡ true → write w t ≡ w
+write_again w (node h ps) e = ap (λ (b : Bool). cond b w (line_if (write_parts w ps) (identity_at h) h ps)) e
 
-  -- what is written where the type has a line, and where it has none
-  either : write w t ≡ cond (has_line w (Some (identity_of q))) w (line_if (write_parts w ps) (Some (identity_of q)) (head t) ps)
-  either = ap (write w) u.tree ∙ ap (λ (i : Option Identity). cond (has_line w i) w (line_if (write_parts w ps) i (head t) ps)) u.known
+-- a type that has a line is written already
+pub write_old : (a : Arena) (q : Part) (w : Written) → Stands a q → has_line w (Some (identity_of q)) ≡ true → write w (tree_at a q) ≡ w
+write_old a q w s h = write_again w (tree_at a q) (ap (has_line w) (known_stands a q s) ∙ h)
 
-  -- a type that has a line is written already
-  pub write_old : has_line w (Some (identity_of q)) ≡ true → write w t ≡ w
-  write_old h = either ∙ ap (λ (b : Bool). cond b w (line_if (write_parts w ps) (Some (identity_of q)) (head t) ps)) h
-
-  -- one that has none gets it after its parts
-  pub write_new : has_line w (Some (identity_of q)) ≡ false → write w t ≡ own_line q t (write_all a w (parts_at a q))
-  write_new h =
-      either ∙ ap (λ (b : Bool). cond b w (line_if (write_parts w ps) (Some (identity_of q)) (head t) ps)) h ∙
-      ap (λ (v : Written). with_line (with_resources v (head t)) (identity_of q) (head t) ps) (slots_written a w (slots_at a.nodes q)) ∙
-      ap (λ (rs : Parts Name Name). with_line (with_resources (write_all a w (parts_at a q)) (head t)) (identity_of q) (head t) rs) (sym (ap parts u.tree))
+-- one that has none gets it after its parts
+pub write_new : (a : Arena) (q : Part) (w : Written) → Unfolds a q → has_line w (Some (identity_of q)) ≡ false → write w (tree_at a q) ≡ own_line q (tree_at a q) (write_all a w (parts_at a q))
+write_new a q w u h =
+    let t : Type_tree = tree_at a q in
+    let ps : Parts Name Name = slot_parts (trees a.nodes) (slots_at a.nodes q) in
+    ap (write w) u.tree ∙ ap (λ (i : Option Identity). cond (has_line w i) w (line_if (write_parts w ps) i (head t) ps)) u.known ∙
+    ap (λ (b : Bool). cond b w (line_if (write_parts w ps) (Some (identity_of q)) (head t) ps)) h ∙
+    ap (λ (v : Written). with_line (with_resources v (head t)) (identity_of q) (head t) ps) (slots_written a w (slots_at a.nodes q)) ∙
+    ap (λ (rs : Parts Name Name). with_line (with_resources (write_all a w (parts_at a q)) (head t)) (identity_of q) (head t) rs) (sym (ap parts u.tree))

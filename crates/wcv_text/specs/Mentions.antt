@@ -1,12 +1,14 @@
--- What lines mention, by ids.
+-- What lines say, by ids.
 use Rattle.std.specs.Prelude.{ℕ, zero, suc, [], ◌++◌, codes, Option, Some, None}
 use Rattle.wcv_core.specs.Names.{number}
-use Rattle.wcv_types.specs.Entities.{any_part}
+use Rattle.wcv_types.specs.Entities.{any_part, entry_name}
 use Rattle.wcv_types.specs.Identity.{of_node}
+use Rattle.wcv_types.specs.Quoting.{quoted}
 use Rattle.wcv_types.specs.Standing.{identity_of}
-use Rattle.wcv_types.specs.Text.{Written, primitive_name, node_number}
+use Rattle.wcv_types.specs.Text.{Written, primitive_name, node_number, name_text}
 use Rattle.wcv_types.specs.Tree.{Text}
 use Rattle.wcv_types.specs.declared.ids.Part.TheVariants as part
+use Rattle.wcv_types.specs.declared.item_map.ComponentItem.{ComponentItem}
 use Rattle.wcv_types.specs.declared.shapes.ComponentEntityType.{ComponentEntityType}
 use Rattle.wcv_types.specs.declared.shapes.ComponentEntityType.TheVariants as entity
 use Rattle.wcv_types.specs.declared.shapes.ComponentValType.{ComponentValType}
@@ -35,6 +37,10 @@ entity_said w (entity.Value t) = codes "value " ++ value_text w t
 entity_said w (entity.Ty c r) = codes "type " ++ node_number w (identity_of (any_part c)) ++ codes " of " ++ node_number w (identity_of (any_part r))
 entity_said w (entity.Instance i) = codes "instance " ++ node_number w (identity_of (part.Instance i))
 entity_said w (entity.Component i) = codes "component " ++ node_number w (identity_of (part.Component i))
+
+-- the line of an entry behind a word
+abbrev pub entry_said : Text → Text × ComponentItem → Written → Text
+entry_said word e w = word ++ quoted e.0 ++ codes " " ++ entity_said w e.1.ty ++ name_text (entry_name e) ++ codes "\n"
 
 -- the entity is one that a text has, which a core module is not yet
 abbrev pub HasText : ComponentEntityType → Type 0

@@ -1,5 +1,5 @@
 // The lines of nodes, each after the lines of its parts.
-ghost use Rattle.std.specs.Prelude.{◌≡◌, ◌<◌, [], ◌∷◌, ◌++◌, Some, false, length, slice_get, string_bytes, OnOk};
+ghost use Rattle.std.specs.Prelude.{◌≡◌, [], ◌∷◌, ◌++◌, Some, false, string_bytes, OnOk, IfOk};
 ghost use Rattle.wcv_types.specs.Standing.{Stands, Unfolds, identity_of};
 ghost use Rattle.wcv_types.specs.Text.{has_line, with_resources, write};
 ghost use Rattle.wcv_types.specs.Tree.{Text, head};
@@ -7,48 +7,24 @@ ghost use Rattle.wcv_types.specs.Unfold.{parts_at, rank, tree_at};
 ghost use Rattle.wcv_text.specs.Nodes.{form_of, own_line, NoneFrom};
 ghost use Rattle.wcv_text.specs.Numbers.{written, Appends, Writes};
 
-use crate::func_line::push_func;
+use crate::func_line::{func_parts, push_func};
 use crate::identity;
 use crate::numbers::Numbers;
 use crate::resource_line::push_reference;
 use std::alloc::AllocError;
 use std::fmt::Write;
-use wcv_types::{Part, TypeAlloc, TypeSort};
+use wcv_types::{Part, TypeAlloc};
 
-/// Says to contracts that the type is made of its parts, which stand before it.
-fn unfolds(types: &TypeAlloc, part: Part)
+/// The parts of the type, which stand before it.
+fn parts(types: &TypeAlloc, part: Part) -> Result<Vec<Part>, AllocError>
     requires { Stands types.now part }
-    ensures { Unfolds types.now part }
+    ensures parts { IfOk result (λ ps. ps.items ≡ parts_at types.now part) }
+    ensures unfolds { Unfolds types.now part }
 {
+    let alloc = types.allocator();
     match part {
-        Part::Func(id) => {
-            let _ = types.get(id);
-        }
-        Part::Resource(_) => {}
-        _ => unreachable!(),
-    }
-}
-
-/// How many parts the type has.
-fn part_count(types: &TypeAlloc, part: Part) -> usize
-    requires { Stands types.now part }
-    ensures { result ≡ length (parts_at types.now part) }
-{
-    match part {
-        Part::Func(id) => id.part_count(types),
-        Part::Resource(_) => 0,
-        _ => unreachable!(),
-    }
-}
-
-/// The k-th part of the type.
-fn part_at(types: &TypeAlloc, part: Part, k: usize) -> Part
-    requires stands { Stands types.now part }
-    requires below { k < length (parts_at types.now part) }
-    ensures { slice_get (parts_at types.now part) k ≡ Some result }
-{
-    match part {
-        Part::Func(id) => id.part_at(types, k),
+        Part::Func(id) => func_parts(alloc, types.get(id)),
+        Part::Resource(_) => Ok(Vec::new(alloc)),
         _ => unreachable!(),
     }
 }
@@ -101,12 +77,12 @@ pub fn push_node(
     ensures shows { OnOk result (Writes numbers.old (string_bytes text.old) numbers.new (string_bytes text.new) (λ w. write w (tree_at types.now part))) }
     ensures older { OnOk result (NoneFrom (rank part) numbers.old numbers.new) }
 {
-    unfolds(types, part);
     if numbers.has_line(identity::identity_of(part)) {
         return Ok(());
     }
-    for k in 0..part_count(types, part) {
-        push_node(text, numbers, types, part_at(types, part, k))?;
+    let inner = parts(types, part)?;
+    for k in 0..inner.len() {
+        push_node(text, numbers, types, inner[k])?;
     }
     push_line(text, numbers, types, part)
 }

@@ -4,8 +4,8 @@ use Rattle.wcv_types.specs.Entities.{entry_name}
 use Rattle.wcv_types.specs.Quoting.{quoted}
 use Rattle.wcv_types.specs.Text.{name_text}
 use Rattle.wcv_types.specs.Tree.{Text}
-use Rattle.wcv_text.specs.Mentions.{entity_said}
-use Rattle.wcv_text.specs.Numbers.{written}
+use Rattle.wcv_text.specs.Mentions.{entity_said, entry_said}
+use Rattle.wcv_text.specs.Numbers.{written, Appends}
 use Rattle.wcv_text.proofs.entries.push_line.Goals as goal
 
 pub returns : goal.returns
@@ -16,7 +16,7 @@ returns c =
     let beside : Text = name_text (entry_name c.args.entry.now) in
     let first : string_bytes c.push_str-2.new.self ≡ start ++ word ++ name ++ codes " " = search rules in
     let end : OnOk c.push_str-3.result (string_bytes c.push_str-3.new.self ≡ string_bytes c.push_name.new.text ++ codes "\n") = search rules in
-    on_ok_weaker c.push_str-3.result
+    on_ok_weaker {Q = Appends c.args.numbers.now start (string_bytes c.push_str-3.new.self) (entry_said word c.args.entry.now)} c.push_str-3.result
     (λ last t. line_said start (string_bytes c.push_str-2.new.self) (string_bytes c.push_entity.new.text) (string_bytes c.push_name.new.text) _ word name (entity_said (written c.args.numbers.now t) c.args.entry.now.1.ty) beside
     first (c.in_ok-push_entity.ensures t) c.in_ok-push_name.ensures last)
     end
