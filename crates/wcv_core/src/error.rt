@@ -69,7 +69,7 @@ impl fmt::Display for ErrorKind {
 }
 
 /// How many bytes of a message are kept.
-const MESSAGE: usize = 160;
+const MESSAGE: usize = 288;
 
 /// A refusal of an item or of the end of a component: its kind, its offset and a message for people.
 /// It takes no memory. The words of the message are not promised; a name in it is cut by `Excerpt`.

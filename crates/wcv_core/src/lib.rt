@@ -11,6 +11,7 @@ mod kebab;
 mod label_set;
 mod memory;
 mod primitive;
+mod slip;
 #[cfg(test)]
 mod tests;
 mod text;
@@ -29,4 +30,5 @@ pub use kebab::{KebabString, is_label};
 pub use label_set::LabelSet;
 pub use memory::OutOfMemory;
 pub use primitive::PrimitiveValType;
+pub use slip::Slip;
 pub use text::{Place, Text};

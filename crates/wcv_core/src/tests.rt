@@ -44,7 +44,7 @@ fn texts_and_messages_are_kept(rt: HostRuntime) -> Result<(), Fail> {
     let shown = error.to_string(rt.alloc())?;
     assert_eq!(rt;
         shown.as_str(),
-        "`éééééééééééééééééééééééééééééééé` is no name"
+        "`éééééééééééééééééééééééééééééééé..` is no name"
     );
     let lines = Excerpt("a\nb").to_string(rt.alloc())?;
     assert_eq!(rt; lines.as_str(), "a\u{fffd}b");
