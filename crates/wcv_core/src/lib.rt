@@ -12,8 +12,6 @@ mod label_set;
 mod memory;
 mod primitive;
 mod slip;
-#[cfg(test)]
-mod tests;
 mod text;
 
 pub use append_only::{IndexMapAppendOnly, IntoIter, Iter};

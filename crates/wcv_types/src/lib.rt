@@ -9,8 +9,6 @@ mod info;
 mod item_map;
 mod shapes;
 mod sorts;
-#[cfg(test)]
-mod tests;
 
 ghost use Rattle.std.specs.Prelude.{◌≡◌, ℕ, List, false, Some, None};
 ghost use Rattle.wcv_core.specs.Names.{Name};
