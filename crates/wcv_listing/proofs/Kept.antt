@@ -1,7 +1,7 @@
 -- A grammar whose values have each number in range is JSON's grammar with the other values left out.
 use Rattle.std.proofs.Common.{◌≡◌, ℕ, zero, suc, ◌-◌, ◌<◌, List, [], ◌∷◌, length, Bool, true, false, ◌&&◌, if◌then◌else◌, Option, Some, None, IfSome, option_and_then, refl, sym, ap, ◌∙◌, subst}
 use Rattle.json.specs.Token.{Token}
-use Rattle.json.specs.Json.{Json, array, object, Items, no_items, item, Members, no_members, member, Parse, parse_map, after_end_array, read_key, items_step, members_step, items, members, value}
+use Rattle.json.specs.Json.{Json, array, object, Items, item, Members, member, Parse, parse_map, after_end_array, read_key, items_step, members_step, items, members, value}
 use Rattle.json.proofs.Grammar.{value_is, value-begin_array, value-begin_object}
 use Rattle.wcv_listing.specs.Seen.{in_range, items_in_range, members_in_range, value_in_range}
 

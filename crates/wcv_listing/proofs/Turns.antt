@@ -1,7 +1,7 @@
 -- Reading an array or an object a part at a time, where its end is looked for as soon as a part was read.
-use Rattle.std.proofs.Common.{◌≡◌, ℕ, zero, suc, ◌+◌, ◌-◌, ◌<◌, ◌≤◌, List, [], ◌∷◌, length, Bool, true, false, cond, MatchBool, Option, Some, None, option_and_then, refl, sym, ap, ◌∙◌, arith}
+use Rattle.std.proofs.Common.{◌≡◌, ℕ, zero, suc, ◌-◌, ◌<◌, ◌≤◌, List, [], ◌∷◌, length, Bool, true, false, cond, MatchBool, Option, Some, None, option_and_then, sym, ap, ◌∙◌, arith}
 use Rattle.json.specs.Token.{Token}
-use Rattle.json.specs.Json.{Json, Items, no_items, item, Members, no_members, member, Parse, parse_map, after_end_array, read_key, items_step, members_step, items, members}
+use Rattle.json.specs.Json.{Json, Items, item, Members, member, Parse, parse_map, after_end_array, read_key, items_step, members_step, items, members}
 use Rattle.json.proofs.Grammar.{items_end, after_end_array-shorter, read_key-shorter}
 
 -- the items that are left once the closing bracket was looked for
@@ -37,9 +37,6 @@ module _ (p : Parse Json) where
   pub item_read : (n : ℕ) (ts rest : List Token) (j : Json) → p ts ≡ Some (j, rest) → items_left p n false ts ≡ parse_map (item j) (items p n rest)
   item_read n ts rest j e = ap (option_and_then (λ q. parse_map (item q.0) (items p n q.1))) e
 
-  pub item_missing : (n : ℕ) (ts : List Token) → p ts ≡ None → items_left p n false ts ≡ None
-  item_missing n ts e = ap (option_and_then (λ q. parse_map (item q.0) (items p n q.1))) e
-
   pub members_looked : (n : ℕ) (key : Option (List ℕ)) (ts rest : List Token) → length ts ≤ n → read_key ts ≡ Some (key, rest) → members p n ts ≡ members_left p (n - 1) key rest
   unfolding members
   members_looked zero key ts rest le e = let never : ⊥ = omega (arith, read_key-shorter ts key rest e) in absurd never
@@ -49,6 +46,3 @@ module _ (p : Parse Json) where
 
   pub member_read : (n : ℕ) (key : List ℕ) (ts rest : List Token) (j : Json) → p ts ≡ Some (j, rest) → members_left p n (Some key) ts ≡ parse_map (member key j) (members p n rest)
   member_read n key ts rest j e = ap (option_and_then (λ q. parse_map (member key q.0) (members p n q.1))) e
-
-  pub member_missing : (n : ℕ) (key : List ℕ) (ts : List Token) → p ts ≡ None → members_left p n (Some key) ts ≡ None
-  member_missing n key ts e = ap (option_and_then (λ q. parse_map (member key q.0) (members p n q.1))) e

@@ -17,6 +17,11 @@ pub enum ParseError {
 }
 
 impl From<Invalid> for ParseError {
+    ghost use Rattle.std.specs.Prelude.{◌≡◌};
+    ghost use Rattle.wcv_listing.specs.declared.tree.ParseError.TheVariants.{NotJson};
+
+    ghost from_gives = { λ _ e. e ≡ NotJson };
+
     fn from(_: Invalid) -> ParseError {
         ParseError::NotJson
     }
