@@ -1,7 +1,6 @@
 pub mod Each
 pub mod All
 pub mod Lists
-pub mod Parts
 pub mod Replace
 pub mod Renaming
 pub mod UpToRenaming

@@ -3,22 +3,19 @@ use Rattle.std.proofs.Common.{◌≡◌, ℕ, zero, suc, ◌+◌, ◌<◌, ◌�
 use Rattle.std.specs.Prelude.{slice_get, Some, All, Contains}
 use Rattle.std.proofs.lemmas.Option.{slice_get_within}
 use Rattle.std.proofs.lemmas.List.{take-append-drop, length-take-le}
-use Rattle.std.proofs.lemmas.List.Elements.{All-nil, All-head, All-tail, All-weaker, All-contains, All-contains_itself, Contains-append_left, Contains-append_right}
+use Rattle.std.proofs.lemmas.List.Elements.{All-head, All-tail, All-weaker, All-contains, All-contains_itself, Contains-append_left, Contains-append_right}
 use Rattle.std.proofs.Math.ListN.{get_or-append}
 use Rattle.wcv_core.specs.Names.{Name}
 use Rattle.std.proofs.Math.Seq.{get_or-append_seam}
 use Rattle.wcv_types.specs.Tree.{Parts, node, part, head, sort, sort_at, type_of, Sort, is_nothing, is_value, is_resource, is_func, is_instance, is_component}
-use Rattle.wcv_types.specs.Identity.{identity_at}
 use Rattle.wcv_types.specs.Arena.{Arena}
-use Rattle.wcv_types.specs.Unfold.{Type_tree, Slot, leaf, at, both, Slots, left_out, rank, head_of, slots_of, slots_if, slots_at, slot_refs, slot_tree, slot_parts, part_tree, parts_in, parts_of, tree_of, tree_in, trees_after, trees, tree_at, unfolded, info_of, IsInfoOf}
-use Rattle.wcv_types.specs.Standing.{Stands, StandsBefore, AllFit, cut, Extends, Unfolds}
+use Rattle.wcv_types.specs.Unfold.{Type_tree, Slot, leaf, at, both, Slots, left_out, rank, head_of, slots_of, slot_refs, slot_tree, slot_parts, part_tree, parts_in, parts_of, tree_of, tree_in, trees_after, trees, tree_at, unfolded, info_of, IsInfoOf}
+use Rattle.wcv_types.specs.Standing.{Stands, StandsBefore, AllFit, cut, Extends}
 use Rattle.wcv_types.specs.declared.arena.Node.{Node}
 use Rattle.wcv_types.specs.declared.arena.Node.TheVariants as n
-use Rattle.wcv_types.specs.declared.shapes.ComponentFuncType.{ComponentFuncType}
-use Rattle.wcv_types.specs.declared.ids.ComponentFuncTypeId.{ComponentFuncTypeId}
 use Rattle.wcv_types.specs.declared.ids.Part.{Part}
 use Rattle.wcv_types.specs.declared.ids.Part.TheVariants as p
-use Rattle.wcv_types.proofs.Grown.{extends_cut, node_stays, stands_more, stands_rank, trees-grown, trees_after-extends, length-trees}
+use Rattle.wcv_types.proofs.Grown.{extends_cut, stands_more, stands_rank, trees-grown, trees_after-extends, length-trees}
 
 -- ## More trees behind
 
@@ -148,36 +145,3 @@ sort_stands a (p.Component i) s = absurd s
 sort_stands a (p.Module i) s = absurd s
 sort_stands a (p.CoreInstance i) s = absurd s
 sort_stands a (p.Core i) s = absurd s
-
--- ## Types that stand
-
--- what a type is made of stays
-pub same_slots : (a b : Arena) (q : Part) → Extends a b → Stands a q → slots_at b.nodes q ≡ slots_at a.nodes q
-same_slots a b (p.Resource r) e s = refl
-same_slots a b (p.Func i) e s = ap slots_if (node_stays a b i.index (n.Func s.0) e s.1) ∙ sym (ap slots_if s.1)
-same_slots a b (p.Defined i) e s = absurd s
-same_slots a b (p.Instance i) e s = absurd s
-same_slots a b (p.Component i) e s = absurd s
-same_slots a b (p.Module i) e s = absurd s
-same_slots a b (p.CoreInstance i) e s = absurd s
-same_slots a b (p.Core i) e s = absurd s
-
-unfolds_func : (a : Arena) (i : ComponentFuncTypeId) (f : ComponentFuncType) → AllFit a → slice_get a.nodes i.index ≡ Some (n.Func f) → Unfolds a (p.Func i)
-unfolds_func a i f fit h =
-    let slots : slots_of (n.Func f) ≡ slots_at a.nodes (p.Func i) = sym (ap slots_if h) in
-    let root : head_of i.index (n.Func f) ≡ head (tree_at a (p.Func i)) = sym (head_in a.nodes i.index (n.Func f) h) in
-    record {
-      tree = tree_in-unfolds a i.index (n.Func f) fit h ∙ (λ j. node (root j) (slot_parts (trees a.nodes) (slots j)));
-      before = subst (λ (ss : Slots). All (StandsBefore a (suc i.index)) (parts_in ss)) slots (parts_before a i.index (n.Func f) fit h);
-      known = ap identity_at (sym root);
-    }
-
-pub unfolds_stands : (a : Arena) (q : Part) → AllFit a → Stands a q → Unfolds a q
-unfolds_stands a (p.Resource r) f s = record { tree = refl; before = All-nil (StandsBefore a 0); known = refl }
-unfolds_stands a (p.Func i) f s = unfolds_func a i s.0 f s.1
-unfolds_stands a (p.Defined i) f s = absurd s
-unfolds_stands a (p.Instance i) f s = absurd s
-unfolds_stands a (p.Component i) f s = absurd s
-unfolds_stands a (p.Module i) f s = absurd s
-unfolds_stands a (p.CoreInstance i) f s = absurd s
-unfolds_stands a (p.Core i) f s = absurd s

@@ -191,12 +191,3 @@ imported_at _ = []
 -- the resources that a component type imports
 abbrev pub imported : {R I : Type 0} → Tree R I → List R
 imported t = imported_at (head t)
-
--- the defined resources of a component node
-abbrev pub made_at : {R I : Type 0} → Head R I → List R
-made_at (component i ins outs) = firsts outs
-made_at _ = []
-
--- the resources that a component type defines
-abbrev pub defined_by : {R I : Type 0} → Tree R I → List R
-defined_by t = made_at (head t)
