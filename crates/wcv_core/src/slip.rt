@@ -39,7 +39,7 @@ fn broken_rule(bytes: &[u8]) -> &'static str {
         None => "it is empty",
         Some(first) => {
             if bytes.iter().any(|b| !is_label_byte(*b)) {
-                "letters a-z, digits and `-` alone may stand in it"
+                "ASCII letters, digits and `-` alone may stand in it"
             } else if !first.is_ascii_alphabetic() {
                 "it must begin with a letter"
             } else if has_bare_dash(bytes) {
