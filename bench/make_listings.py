@@ -4,13 +4,13 @@ import json
 PRIMITIVES = "bool s8 u8 s16 u16 s32 u32 s64 u64 f32 f64 char string".split()
 
 
-def write_listing(file, items):
+def write_listing(file, items, separators=None):
     """Writes the items, one a line, until there are no more, and returns how many there were."""
     count = 0
     with open(file, "w", encoding="ascii") as out:
         out.write('{"version": 1, "items": [\n')
         for count, item in enumerate(items, 1):
-            out.write((",\n" if count > 1 else "") + json.dumps({"at": 8 + 23 * count, **item}))
+            out.write((",\n" if count > 1 else "") + json.dumps({"at": 8 + 23 * count, **item}, separators=separators))
         out.write(f'\n], "end": {31 + 23 * count}}}\n')
     return count
 
@@ -80,3 +80,13 @@ def many_params():
         yield func_type([[f"{front}{n:03}", PRIMITIVES[(k + n) % 13]] for n in range(100)], "bool")
     for k in range(500):
         yield import_of(f"f{k}", k)
+
+
+def nested(limit, around):
+    """Bodies that are not read, of 124 parts one in the other: with the root, its items and the item they
+    are as deep as a listing may nest."""
+    body = 0
+    for _ in range(124):
+        body = around(body)
+    for _ in range(limit // (len(json.dumps(body, separators=(",", ":"))) + 26)):
+        yield {"component": body}

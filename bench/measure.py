@@ -58,14 +58,14 @@ def measure(programs, file, runs):
     return [[statistics.median(column) for column in zip(*rows)] for rows in taken]
 
 
-def print_table(first, programs, listings, runs):
+def print_table(first, programs, listings, runs, separators=None):
     """One row for each listing and program, with the ratios to the first program."""
     print(f"\n| {first} | Program | Wall | User | User and system | Peak | Instructions |")
     print("|---|---|---|---|---|---|---|")
     with tempfile.TemporaryDirectory() as room:
         file = f"{room}/listing.json"
         for name, items, is_counted in listings:
-            count = make_listings.write_listing(file, items)
+            count = make_listings.write_listing(file, items, separators)
             size = os.path.getsize(file)
             base = None
             for (program, words), row in zip(programs, measure([it[1] for it in programs], file, runs)):
@@ -92,6 +92,9 @@ def main(runs):
         ("many parameters", make_listings.many_params(), False),
     ]
     print_table("Listing of long texts", programs, largest, runs)
+    shapes = [("arrays of one", lambda x: [x]), ("arrays of two", lambda x: [0, x]), ("objects of one", lambda x: {"": x})]
+    deep = [(f"{name}, {n} MB", make_listings.nested(n * 1_000_000, around), n < 8) for name, around in shapes for n in (1, 8)]
+    print_table("Listing of nested parts", programs[:2], deep, runs, (",", ":"))
     print(f"\nLoad {os.getloadavg()[0]:.1f} at the end.")
 
 
