@@ -24,7 +24,6 @@ use wcv_core::{Error, ErrorKind};
 use wcv_link::{Accepted, validate_sections};
 use wcv_listing::{Listing, ListingError, read_listing};
 use wcv_state::{ComponentState, Space};
-use wcv_syntax::Item;
 use wcv_text::push_type;
 
 /// Whether the words are the command `validate`.
@@ -86,13 +85,12 @@ fn refusal_text(alloc: Global, error: &Error) -> Result<String, AllocError>
 }
 
 /// The status and the text that are due with a listing.
-fn answer_listing(alloc: Global, listing: &Listing) -> Result<(Status, String), AllocError>
+fn answer_listing(alloc: Global, listing: Listing) -> Result<(Status, String), AllocError>
     ensures kind { IfOk result (λ answer. IsOfListing answer.0) }
     ensures short { IfOk result (λ answer. answer.0 ≢ Status.TooLong) }
-    ensures due { IfOk result (λ answer. Gives (sections listing.now.features (items_view listing.now.items.items) listing.now.end) answer.0 (string_bytes answer.1)) }
+    ensures due { IfOk result (λ answer. Gives (sections listing.features (items_view listing.items.items) listing.end) answer.0 (string_bytes answer.1)) }
 {
-    let items: &[Item] = &listing.items;
-    match validate_sections(alloc, listing.features, items, listing.end) {
+    match validate_sections(alloc, listing.features, listing.items, listing.end) {
         Ok(accepted) => {
             let text = report_text(alloc, &accepted)?;
             Ok((Status::Done, text))
@@ -118,7 +116,7 @@ fn answer(alloc: Global, bytes: &[u8]) -> Result<(Status, String), AllocError>
         return Ok((Status::TooLong, text));
     }
     match read_listing(alloc, bytes) {
-        Ok(listing) => answer_listing(alloc, &listing),
+        Ok(listing) => answer_listing(alloc, listing),
         Err(ListingError::NotJson) => {
             let text = String::from_str(alloc, "bad listing: not JSON\n")?;
             Ok((Status::Listing, text))

@@ -1,5 +1,4 @@
-use Rattle.std.proofs.Common.{◌≡◌, ◌++◌, ◌∙◌, List, ℕ, ap, sym, subst, inl, refl, string_bytes}
-use Rattle.wcv_syntax.specs.declared.item.Item.{Item}
+use Rattle.std.proofs.Common.{◌≡◌, ◌++◌, ◌∙◌, List, ℕ, ap, sym, inl, refl, string_bytes}
 use Rattle.wcv_syntax.specs.View.{items_view}
 use Rattle.wcv_types.specs.ComponentTrees.{root_tree}
 use Rattle.wcv_types.specs.Text.{type_text}
@@ -7,16 +6,15 @@ use Rattle.wcv_types.proofs.SameText.{same_text}
 use Rattle.wcv_lower.specs.Context.{Context, lengths}
 use Rattle.wcv_link.specs.Accepts.{Accepts}
 use Rattle.wcv_link.specs.declared.driver.Accepted.{Accepted}
-use Rattle.wcv_main.specs.declared.status.Status.TheVariants as status
-use Rattle.wcv_main.specs.Due.{GivesReport, accepted_text}
+use Rattle.wcv_main.specs.Due.{accepted_text}
 use Rattle.wcv_main.specs.Report.{report, space_lengths}
 use Rattle.wcv_main.proofs.Counting.{counted}
 use Rattle.wcv_main.proofs.top.answer_listing.Goals as goal
 
 pub returns-in_ok-text-in-Ok-clause-due : goal.returns-in_ok-text-in-Ok-clause-due
 returns-in_ok-text-in-Ok-clause-due c =
-    let features = c.args.listing.now.features in
-    let is = items_view c.deref-items.result.now in
+    let features = c.args.listing.features in
+    let is = items_view c.args.listing.items.items in
     let a : Accepted = c.in-Ok.accepted in
     let h : Accepts features is a = c.in-Ok.ensures.ok in
     let d : Context = h.context in
@@ -25,5 +23,4 @@ returns-in_ok-text-in-Ok-clause-due c =
     let whole : string_bytes c.in_ok-text-in-Ok.text ≡ accepted_text d h.ty =
     written ∙ ap (λ (ns : List ℕ). report ns ++ type_text (root_tree a.types a.ty)) counts ∙
     ap (λ (t : List ℕ). report (lengths d) ++ t) (same_text (root_tree a.types a.ty) h.ty h.type_is) in
-    inl
-    (subst (λ (items : List Item). GivesReport features (items_view items) status.Done (string_bytes c.in_ok-text-in-Ok.text)) c.deref-items.ensures.value (d, h.ty, h.valid, h.typed, refl, whole))
+    inl (d, h.ty, h.valid, h.typed, refl, whole)
