@@ -2,7 +2,7 @@
 use std::alloc::Global;
 use std::fmt::Write;
 use std::test::Fail;
-use wcv_main::{MemorySink, MemorySource, Status, Words, run};
+use wcv_main::{MemorySink, MemorySource, Words, run};
 
 // The words that a line holds, parted by single spaces.
 pub fn words_of(alloc: Global, line: &str) -> Result<Words, Fail> {
@@ -15,22 +15,23 @@ pub fn words_of(alloc: Global, line: &str) -> Result<Words, Fail> {
     Ok(words)
 }
 
-// What is promised of a text: of a refusal the first line, where one more line for people follows.
-fn promised(status: Status, text: &str) -> &str {
-    if status != Status::Refused {
-        return text;
-    }
+// What is promised of an answer: of a refusal the status and the first line, where one more line for
+// people follows.
+fn promised(answer: &str) -> &str {
+    let Some(text) = answer.strip_prefix("1\n") else {
+        return answer;
+    };
     match text.split_once('\n') {
         Some((_, message)) if message.find('\n') == Some(message.len().saturating_sub(1)) => {
-            text.strip_suffix(message).unwrap_or(text)
+            answer.strip_suffix(message).unwrap_or(answer)
         }
-        _ => text,
+        _ => answer,
     }
 }
 
 // The status that a run over these bytes ends with, and below it the text, where the reads and writes
 // of these numbers fail.
-pub fn answer(
+pub fn whole_answer(
     alloc: Global,
     line: &str,
     bytes: Vec<u8>,
@@ -43,8 +44,19 @@ pub fn answer(
     let status = run(alloc, &words, &mut source, &mut sink);
     let text = String::from_utf8_lossy(alloc, sink.taken())?;
     let code = status.code();
-    let text = promised(status, text.as_str());
     Ok(format!(in alloc; "{code}\n{text}")?)
+}
+
+// So of what is promised of the text.
+pub fn answer(
+    alloc: Global,
+    line: &str,
+    bytes: Vec<u8>,
+    reads: &[u64],
+    writes: &[u64],
+) -> Result<String, Fail> {
+    let whole = whole_answer(alloc, line, bytes, reads, writes)?;
+    Ok(String::from_str(alloc, promised(whole.as_str()))?)
 }
 
 // The answer on a valid root with so many types and functions, whose report ends with these lines.

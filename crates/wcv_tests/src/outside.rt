@@ -1,9 +1,6 @@
-// Words, bytes that are no listing, and faults.
-use crate::driver::{accepted, answer, words_of, wrong_rows};
-use std::io;
-use std::io::Write;
+// Words, and bytes that are no listing.
+use crate::driver::wrong_rows;
 use std::test::Fail;
-use wcv_main::{MemorySource, WriteAdapter, run};
 
 const ROWS: &str = r#"
 No words.
@@ -137,62 +134,5 @@ wcv validate
 fn words_and_bytes_have_their_status(rt: HostRuntime) -> Result<(), Fail> {
     let wrong = wrong_rows(rt.alloc(), ROWS)?;
     assert_eq!(rt; wrong.as_str(), "");
-    Ok(())
-}
-
-// Takes nine bytes a call, and fails at one call, counted down from `calls`.
-#[derive(Drop)]
-struct BreaksOnce<'a> {
-    taken: &'a mut Vec<u8>,
-    calls: u64,
-}
-
-impl Write for BreaksOnce<'_> {
-    fn write(&mut self, from: &[u8]) -> io::Result<usize> {
-        if self.calls == 1 {
-            self.calls = 0;
-            return Err(io::ErrorKind::Other.into());
-        }
-        self.calls = self.calls.saturating_sub(1);
-        let count = from.len().min(9);
-        self.taken.extend_from_slice(&from[..count])?;
-        Ok(count)
-    }
-
-    fn flush(&mut self) -> io::Result<()> {
-        Ok(())
-    }
-}
-
-#[test]
-fn faults_have_their_status(rt: HostRuntime) -> Result<(), Fail> {
-    let alloc = rt.alloc();
-    let empty = b"{\"version\":1,\"items\":[],\"end\":99}";
-    let whole = accepted(alloc, "0", "0", "")?;
-    // The first read gives all bytes, and the second says that they have ended.
-    for (words, read, write, due) in [
-        ("validate", 1, 0, "4\n"),
-        ("validate", 2, 0, "4\n"),
-        ("validate", 3, 0, whole.as_str()),
-        ("validate", 0, 1, "5\n"),
-        ("validate", 0, 2, whole.as_str()),
-        ("validate", 2, 1, "4\n"),
-        // Words that are no command read nothing.
-        ("link 2", 1, 1, "5\n"),
-    ] {
-        let text = answer(alloc, words, empty.to_vec(alloc)?, &[read], &[write])?;
-        assert_eq!(rt; text.as_str(), due, "{words}: read {read}, write {write}");
-    }
-    // A later write fails, after a front of the report.
-    let words = words_of(alloc, "validate")?;
-    let mut source = MemorySource::new(empty.to_vec(alloc)?, Vec::new(alloc));
-    let mut taken = Vec::new(alloc);
-    let mut sink = WriteAdapter::new(BreaksOnce {
-        taken: &mut taken,
-        calls: 3,
-    });
-    let status = run(alloc, &words, &mut source, &mut sink);
-    assert_eq!(rt; status.code(), 5);
-    assert_eq!(rt; taken.as_slice(), &b"accepted\ncore-type"[..]);
     Ok(())
 }

@@ -1,0 +1,17 @@
+//! Tests of the public calls of the crates below the program. The expected values were written by hand.
+#![tactic(auto)]
+
+#[cfg(test)]
+mod base;
+#[cfg(test)]
+mod link;
+#[cfg(test)]
+mod listing;
+#[cfg(test)]
+mod state;
+#[cfg(test)]
+mod table;
+#[cfg(test)]
+mod text;
+#[cfg(test)]
+mod types;

@@ -1,0 +1,212 @@
+// Messages of refusals, as examples: their words are not promised.
+use crate::driver::whole_answer;
+use std::alloc::Global;
+use std::test::Fail;
+
+// A row has a line that says what it shows, which of the items T and I stand before, its items, and after
+// `=> ` the two lines of the refusal.
+const ROWS: &str = r#"
+A typo in a body (`param` for `params`).
+-
+{"at":0,"type":{"func":{"param":[]}}}
+=> refused Unbuilt at 0
+item 0: UNREAD
+
+A typo in a primitive (`u33`).
+-
+{"at":0,"type":{"func":{"params":[["x","u33"]]}}}
+=> refused Unbuilt at 0
+item 0: UNREAD
+
+A form that is not built (a record type).
+-
+{"at":5,"type":{"record":[["a","u8"]]}}
+=> refused Unbuilt at 5
+item 0: UNREAD
+
+A name with `:`.
+T
+{"at":1,"import":{"name":"wasi:io/streams","type":{"func":0}}}
+=> refused Unbuilt at 1
+item 1: import name `wasi:io/streams`: names with `:` are not built yet
+
+A name with `[`.
+TI
+{"at":2,"export":{"name":"[method]a.b","sort":"func","index":0}}
+=> refused Unbuilt at 2
+item 2: export name `[method]a.b`: names with `[` are not built yet
+
+`error-context`.
+-
+{"at":0,"type":{"func":{"params":[["x","error-context"]]}}}
+=> refused Unbuilt at 0
+item 0: `error-context` in a function type is not built yet
+
+An async function type.
+-
+{"at":0,"type":{"func":{"params":[],"async":true}}}
+=> refused Unbuilt at 0
+item 0: UNREAD
+
+An export of an instance.
+-
+{"at":2,"export":{"name":"g","sort":"instance","index":0}}
+=> refused Unbuilt at 2
+item 0: exports of instances are not built yet
+
+An import of an instance.
+-
+{"at":2,"import":{"name":"g","type":{"instance":0}}}
+=> refused Unbuilt at 2
+item 0: UNREAD
+
+An index out of range.
+TI
+{"at":4,"import":{"name":"g","type":{"func":0}}},{"at":7,"export":{"name":"h","sort":"func","index":9}}
+=> refused OutOfBounds at 7
+item 3: function index 9 is out of bounds: 2 functions stand before this item
+
+The same, where one element stands.
+T
+{"at":1,"import":{"name":"f","type":{"func":3}}}
+=> refused OutOfBounds at 1
+item 1: type index 3 is out of bounds: 1 type stands before this item
+
+The wrong order: an import before its type.
+-
+{"at":1,"import":{"name":"f","type":{"func":0}}},{"at":0,"type":{"func":{"params":[["x","u32"]],"result":"bool"}}}
+=> refused OutOfBounds at 1
+item 0: type index 0 is out of bounds: no type stands before this item
+
+An upper-case letter.
+T
+{"at":1,"import":{"name":"Foo","type":{"func":0}}}
+=> refused Name at 1
+item 1: import name `Foo` is not a label: the letters of a word must have one case; `foo` is a label
+
+Words that begin with a capital.
+T
+{"at":1,"import":{"name":"readLine","type":{"func":0}}}
+=> refused Name at 1
+item 1: import name `readLine` is not a label: the letters of a word must have one case; `read-line` is a label
+
+Capitals in a row, and a digit.
+TI
+{"at":2,"export":{"name":"HTTPServer2Name","sort":"func","index":0}}
+=> refused Name at 2
+item 2: export name `HTTPServer2Name` is not a label: the letters of a word must have one case; `http-server2-name` is a label
+
+An underscore.
+T
+{"at":1,"import":{"name":"read_line","type":{"func":0}}}
+=> refused Name at 1
+item 1: import name `read_line` is not a label: ASCII letters, digits and `-` alone may stand in it; `read-line` is a label
+
+The same in a parameter.
+-
+{"at":0,"type":{"func":{"params":[["a","u8"],["read_line","u8"]]}}}
+=> refused Name at 0
+item 0: parameter name `read_line` is not a label: ASCII letters, digits and `-` alone may stand in it; `read-line` is a label
+
+A digit first.
+T
+{"at":1,"import":{"name":"1a","type":{"func":0}}}
+=> refused Name at 1
+item 1: import name `1a` is not a label: it must begin with a letter
+
+An empty name.
+T
+{"at":1,"import":{"name":"","type":{"func":0}}}
+=> refused Name at 1
+item 1: import name `` is not a label: it is empty
+
+Two dashes.
+T
+{"at":1,"import":{"name":"a--b","type":{"func":0}}}
+=> refused Name at 1
+item 1: import name `a--b` is not a label: a word must follow each `-`; `a-b` is a label
+
+A dash at the end.
+T
+{"at":1,"import":{"name":"a-","type":{"func":0}}}
+=> refused Name at 1
+item 1: import name `a-` is not a label: a word must follow each `-`; `a` is a label
+
+A letter that is not ASCII, and characters that hide or reorder text (U+202E, U+200B, U+FEFF).
+T
+{"at":1,"import":{"name":"na\u00efve\u202e\u200b\ufeff","type":{"func":0}}}
+=> refused Name at 1
+item 1: import name `naïve���` is not a label: ASCII letters, digits and `-` alone may stand in it
+
+A long name (cut).
+T
+{"at":1,"import":{"name":"A_A_A_A_A_A_A_A_A_A_A_A_A_A_A_A_A_A_A_A_A_A_A_A_A_A_A_A_A_A_A_A_A_","type":{"func":0}}}
+=> refused Name at 1
+item 1: import name `A_A_A_A_A_A_A_A_A_A_A_A_A_A_A_A_A_A_A_A_A_A_A_A_A_A_A_A_A_A_A_A_..` is not a label: ASCII letters, digits and `-` alone may stand in it
+
+A name that stands already, in another case.
+T
+{"at":1,"import":{"name":"read-line","type":{"func":0}}},{"at":2,"import":{"name":"f","type":{"func":0}}},{"at":3,"import":{"name":"READ-line","type":{"func":0}}}
+=> refused Conflict at 3
+item 3: import name `READ-line` conflicts with import 0, `read-line`: names must differ in more than case
+
+The same among exports.
+TI
+{"at":2,"export":{"name":"g","sort":"func","index":0}},{"at":3,"export":{"name":"g","sort":"func","index":0}}
+=> refused Conflict at 3
+item 3: export name `g` conflicts with export 0, `g`: names must differ in more than case
+
+The same among parameters.
+-
+{"at":0,"type":{"func":{"params":[["a","u8"],["b","u8"],["A","u8"]]}}}
+=> refused Conflict at 0
+item 0: parameter name `A` conflicts with parameter 0, `a`: names must differ in more than case
+"#;
+
+// A function type, and its import as `f`.
+const T: &str = r#"{"at":0,"type":{"func":{"params":[["x","u32"]],"result":"bool"}}},"#;
+
+const I: &str = r#"{"at":1,"import":{"name":"f","type":{"func":0}}},"#;
+
+// What is said of a body that is none of those that are read.
+const UNREAD: &str =
+    r#"this form of item is not built yet, or its body is none of "type": {"func": {"params": [[NAME, PRIMITIVE], ..], "result": PRIMITIVE}}, "import": {"name": NAME, "type": {"func": INDEX}}, "export": {"name": NAME, "sort": "func", "index": INDEX}"#;
+
+// The listing of these items behind T and I, where they are asked for.
+fn listing(alloc: Global, before: &str, items: &str) -> Result<Vec<u8>, Fail> {
+    let mut text = String::from_str(alloc, "{\"version\":1,\"items\":[")?;
+    if before.find('T').is_some() {
+        text.push_str(T)?;
+    }
+    if before.find('I').is_some() {
+        text.push_str(I)?;
+    }
+    text.push_str(items)?;
+    text.push_str("],\"end\":99}")?;
+    Ok(text.as_bytes().to_vec(alloc)?)
+}
+
+// What a row is answered with, where that is not what it says.
+fn wrong_message(alloc: Global, row: &str) -> Result<Option<String>, Fail> {
+    let (question, due) = row.split_once("\n=> ").ok_or("a row has no answer")?;
+    let (_, question) = question.split_once('\n').ok_or("a row has no title")?;
+    let (before, items) = question.split_once('\n').ok_or("a row has no items")?;
+    let due = match due.strip_suffix("UNREAD") {
+        Some(start) => format!(in alloc; "1\n{start}{UNREAD}\n")?,
+        None => format!(in alloc; "1\n{due}\n")?,
+    };
+    let answer = whole_answer(alloc, "validate", listing(alloc, before, items)?, &[], &[])?;
+    if answer == due {
+        return Ok(None);
+    }
+    Ok(Some(answer))
+}
+
+#[test]
+fn messages_say_what_to_mend(rt: HostRuntime) -> Result<(), Fail> {
+    for row in ROWS.trim().split("\n\n") {
+        let wrong = wrong_message(rt.alloc(), row)?;
+        assert!(rt; wrong.is_none(), "{row}\nis answered with {wrong:?}");
+    }
+    Ok(())
+}
