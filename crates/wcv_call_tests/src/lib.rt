@@ -8,8 +8,6 @@ mod link;
 #[cfg(test)]
 mod listing;
 #[cfg(test)]
-mod state;
-#[cfg(test)]
 mod table;
 #[cfg(test)]
 mod text;

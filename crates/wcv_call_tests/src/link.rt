@@ -2,8 +2,8 @@
 use crate::table::{case, is_due, number};
 use std::alloc::Global;
 use std::test::Fail;
-use wcv_core::{PrimitiveValType, Text, WasmFeatures};
-use wcv_link::validate_sections;
+use wcv_core::{Error, PrimitiveValType, Text, WasmFeatures};
+use wcv_link::{Accepted, validate_sections};
 use wcv_syntax::{
     ComponentExport, ComponentExternName, ComponentExternalKind, ComponentFuncType,
     ComponentImport, ComponentType, ComponentTypeRef, ComponentValType, Item, Section,
@@ -81,15 +81,23 @@ fn items(alloc: Global, line: &str) -> Result<Vec<Item>, Fail> {
     Ok(items)
 }
 
-// What is answered: how many types, functions, imports and exports there are, or the refusal.
+// How many types, functions, imports and exports a valid root has.
+fn counts(alloc: Global, root: &Accepted) -> Result<String, Fail> {
+    let (types, funcs) = (root.state.type_count(), root.state.function_count());
+    let (imports, exports) = (root.ty.imports.len(), root.ty.exports.len());
+    Ok(format!(in alloc; "{types} {funcs} {imports} {exports}")?)
+}
+
+// The kind and the offset of a refusal.
+fn refusal(alloc: Global, error: &Error) -> Result<String, Fail> {
+    Ok(format!(in alloc; "{} at {}", error.kind(), error.offset())?)
+}
+
+// What is answered.
 fn answer(alloc: Global, items: Vec<Item>) -> Result<String, Fail> {
     match validate_sections(alloc, WasmFeatures::default(), items, 99) {
-        Ok(root) => {
-            let (types, funcs) = (root.state.type_count(), root.state.function_count());
-            let (imports, exports) = (root.ty.imports.len(), root.ty.exports.len());
-            Ok(format!(in alloc; "{types} {funcs} {imports} {exports}")?)
-        }
-        Err(error) => Ok(format!(in alloc; "{} at {}", error.kind(), error.offset())?),
+        Ok(root) => counts(alloc, &root),
+        Err(error) => refusal(alloc, &error),
     }
 }
 
