@@ -4,10 +4,6 @@
 #[cfg(test)]
 mod base;
 #[cfg(test)]
-mod link;
-#[cfg(test)]
-mod listing;
-#[cfg(test)]
 mod table;
 #[cfg(test)]
 mod text;

@@ -6,16 +6,6 @@ pub fn case(line: &str) -> Result<(&str, &str), Fail> {
     Ok(line.split_once(" => ").ok_or("a line has no arrow")?)
 }
 
-// Whether the answer is one of those that the word `or` parts.
-pub fn is_due(answer: &str, due: &str) -> bool {
-    for one in due.split(" or ") {
-        if one == answer {
-            return true;
-        }
-    }
-    false
-}
-
 // The number that stands before a space, and what stands behind it.
 pub fn number(text: &str) -> Result<(u32, &str), Fail> {
     let (number, rest) = text.split_once(' ').unwrap_or((text, ""));
