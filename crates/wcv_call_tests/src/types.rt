@@ -45,7 +45,7 @@ const SIZES: &str = "\
 4294967295 1 4294967295 1 => 4294967295 1, Limit at 7
 1 1 1 4294967295 => 1 1, Limit at 7";
 
-// The size and the depth at the front of a line, and what stands behind them.
+// The size and the depth at the start of a line, and what stands behind them.
 fn info(line: &str) -> Result<(TypeInfo, &str), Fail> {
     let (size, rest) = number(line)?;
     let (depth, rest) = number(rest)?;

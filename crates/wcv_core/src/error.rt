@@ -9,7 +9,7 @@ use std::alloc::{AllocError, AllocFailed};
 use std::fmt;
 use std::fmt::Write;
 
-/// Why a listing is refused, or that memory was wanting.
+/// Why a listing is refused, or that it ran out of memory.
 #[derive(Clone, Copy, Debug, PartialEq, Eq)]
 pub enum ErrorKind {
     OutOfBounds,

@@ -11,18 +11,18 @@ use Rattle.wcv_lower.specs.Names.{Names, Under, AreRenamed}
 use Rattle.wcv_lower.specs.Renamed.{Renaming, rename_context, rename_scope}
 use Rattle.wcv_lower.proofs.Agreeing.{SameNames, grow-agrees}
 use Rattle.wcv_lower.proofs.GrowthLaws.{grow-renamed, checks-renamed}
-use Rattle.wcv_link.specs.Reading.{ReadsAsFar}
-use Rattle.wcv_link.specs.Valid.{Reads, RefusedFrom}
+use Rattle.wcv_link.specs.Progress.{ValidAsFar}
+use Rattle.wcv_link.specs.Valid.{ValidFrom, RefusedFrom}
 
 module _ (names : Names) (w : Place) (sc : Scope) where
   -- nothing was read yet
-  pub as_far_as_start : (k : ℕ) (c : Context) (is : Items) → ReadsAsFar names w sc k c is k c is
+  pub as_far_as_start : (k : ℕ) (c : Context) (is : Items) → ValidAsFar names w sc k c is k c is
   as_far_as_start k c no_items = (refl, refl, refl)
   as_far_as_start k c (next_item at f is) = inl (refl, refl, refl)
 
   -- one more item
-  pub one_further : (k : ℕ) (c : Context) (is : Items) (n : ℕ) (d e : Context) (at : ℕ) (f : Form) (rest : Items) → ReadsAsFar names w sc k c is n d (next_item at f rest) →
-      IsFree (checks sc d f) → grow names (deeper w n) sc d f ≡ Some e → ReadsAsFar names w sc k c is (suc n) e rest
+  pub one_further : (k : ℕ) (c : Context) (is : Items) (n : ℕ) (d e : Context) (at : ℕ) (f : Form) (rest : Items) → ValidAsFar names w sc k c is n d (next_item at f rest) →
+      IsFree (checks sc d f) → grow names (deeper w n) sc d f ≡ Some e → ValidAsFar names w sc k c is (suc n) e rest
   one_further k c no_items n d e at f rest (p, q, r) free grown = cc
   one_further k c (next_item at' f' is) n d e at f rest (inl x) free grown =
       let t : next_item at f rest ≡ next_item at' f' is = x.2 in
@@ -36,22 +36,22 @@ module _ (names : Names) (w : Place) (sc : Scope) where
         (
           e,
           grown',
-          subst (λ (z : ℕ). ReadsAsFar names w sc (suc k) e is (suc z) e rest) (sym x.0)
-              (subst (λ (z : Items). ReadsAsFar names w sc (suc k) e is (suc k) e z) (sym er) (as_far_as_start (suc k) e is)),
+          subst (λ (z : ℕ). ValidAsFar names w sc (suc k) e is (suc z) e rest) (sym x.0)
+              (subst (λ (z : Items). ValidAsFar names w sc (suc k) e is (suc k) e z) (sym er) (as_far_as_start (suc k) e is)),
         ),
       )
   one_further k c (next_item at' f' is) n d e at f rest (inr x) free grown =
       inr (x.0, (x.1.0, x.1.1, one_further (suc k) x.1.0 is n d e at f rest x.1.2 free grown))
 
   -- what is read on decides the whole
-  pub reads_on : (k : ℕ) (c : Context) (is : Items) (n : ℕ) (d e : Context) (left : Items) → ReadsAsFar names w sc k c is n d left → Reads names w sc n d left e → Reads names w sc k c is e
-  reads_on k c no_items n d e left (p, q, r) h = sym q ∙ subst (λ (z : Items). Reads names w sc n d z e) r h
+  pub reads_on : (k : ℕ) (c : Context) (is : Items) (n : ℕ) (d e : Context) (left : Items) → ValidAsFar names w sc k c is n d left → ValidFrom names w sc n d left e → ValidFrom names w sc k c is e
+  reads_on k c no_items n d e left (p, q, r) h = sym q ∙ subst (λ (z : Items). ValidFrom names w sc n d z e) r h
   reads_on k c (next_item at f is) n d e left (inl x) h =
-      subst (λ (z : ℕ). Reads names w sc z c (next_item at f is) e) x.0 (subst (λ (z : Context). Reads names w sc n z (next_item at f is) e) x.1 (subst (λ (z : Items). Reads names w sc n d z e) x.2 h))
+      subst (λ (z : ℕ). ValidFrom names w sc z c (next_item at f is) e) x.0 (subst (λ (z : Context). ValidFrom names w sc n z (next_item at f is) e) x.1 (subst (λ (z : Items). ValidFrom names w sc n d z e) x.2 h))
   reads_on k c (next_item at f is) n d e left (inr x) h = (x.0, (x.1.0, x.1.1, reads_on (suc k) x.1.0 is n d e left x.1.2 h))
 
   -- so does a refusal there
-  pub refuses_on : (k : ℕ) (c : Context) (is : Items) (n : ℕ) (d : Context) (left : Items) (end : ℕ) (kind : ErrorKind) (offset : ℕ) → ReadsAsFar names w sc k c is n d left →
+  pub refuses_on : (k : ℕ) (c : Context) (is : Items) (n : ℕ) (d : Context) (left : Items) (end : ℕ) (kind : ErrorKind) (offset : ℕ) → ValidAsFar names w sc k c is n d left →
       RefusedFrom names w sc n d left end kind offset → RefusedFrom names w sc k c is end kind offset
   refuses_on k c no_items n d left end kind offset (p, q, r) h =
       subst (λ (z : Context). RefusedFrom names w sc k z no_items end kind offset) q (subst (λ (z : Items). RefusedFrom names w sc k d z end kind offset) r (again left h))
@@ -64,14 +64,14 @@ module _ (names : Names) (w : Place) (sc : Scope) where
   refuses_on k c (next_item at f is) n d left end kind offset (inr x) h = inr (x.0, (x.1.0, x.1.1, refuses_on (suc k) x.1.0 is n d left end kind offset x.1.2 h))
 
 -- it goes no further back
-pub not_back : (names : Names) (w : Place) (sc : Scope) (k : ℕ) (c : Context) (is : Items) (n : ℕ) (d : Context) (left : Items) → ReadsAsFar names w sc k c is n d left → k ≤ n
+pub not_back : (names : Names) (w : Place) (sc : Scope) (k : ℕ) (c : Context) (is : Items) (n : ℕ) (d : Context) (left : Items) → ValidAsFar names w sc k c is n d left → k ≤ n
 not_back names w sc k c no_items n d left (p, q, r) = omega (arith, p)
 not_back names w sc k c (next_item at f is) n d left (inl x) = let p = x.0 in omega (arith, p)
 not_back names w sc k c (next_item at f is) n d left (inr x) = omega (arith, not_back names w sc (suc k) x.1.0 is n d left x.1.2)
 
 -- names that are the same in the items that were read
 pub as_far-agrees : (names other : Names) (w : Place) (sc : Scope) (k : ℕ) (c : Context) (is : Items) (n : ℕ) (d : Context) (left : Items) → ((j : ℕ) → k ≤ j → j < n → SameNames (Under (deeper w j)) names other) →
-    ReadsAsFar names w sc k c is n d left → ReadsAsFar other w sc k c is n d left
+    ValidAsFar names w sc k c is n d left → ValidAsFar other w sc k c is n d left
 as_far-agrees names other w sc k c no_items n d left same r = r
 as_far-agrees names other w sc k c (next_item at f is) n d left same (inl x) = inl x
 as_far-agrees names other w sc k c (next_item at f is) n d left same (inr x) =
@@ -87,8 +87,8 @@ as_far-agrees names other w sc k c (next_item at f is) n d left same (inr x) =
 
 -- renamed names read renamed contexts
 pub as_far-renamed : (v : Renaming) (names other : Names) (w : Place) (sc : Scope) → ((p : Place) → AreRenamed (Under p) v.resources.to v.identities.to names other) → (k : ℕ) (c : Context) (is : Items) (n : ℕ) (d : Context) (left : Items) →
-    ReadsAsFar names w sc k c is n d left →
-    ReadsAsFar other w (rename_scope v.resources.to v.identities.to sc) k (rename_context v.resources.to v.identities.to c) is n (rename_context v.resources.to v.identities.to d) left
+    ValidAsFar names w sc k c is n d left →
+    ValidAsFar other w (rename_scope v.resources.to v.identities.to sc) k (rename_context v.resources.to v.identities.to c) is n (rename_context v.resources.to v.identities.to d) left
 as_far-renamed v names other w sc renamed k c no_items n d left r = (r.0, ap (rename_context v.resources.to v.identities.to) r.1, r.2)
 as_far-renamed v names other w sc renamed k c (next_item at f is) n d left (inl x) = inl (x.0, ap (rename_context v.resources.to v.identities.to) x.1, x.2)
 as_far-renamed v names other w sc renamed k c (next_item at f is) n d left (inr x) =

@@ -4,8 +4,8 @@ use Rattle.wcv_core.specs.Refusal.{error_kind, error_offset}
 use Rattle.wcv_core.specs.declared.error.Error.{Error}
 use Rattle.wcv_core.specs.declared.error.ErrorKind.{ErrorKind}
 use Rattle.wcv_lower.specs.Checks.{Checks, Cause}
-use Rattle.wcv_state.specs.Promises.{Tells}
+use Rattle.wcv_state.specs.Promises.{MemoryOrCausedBy}
 
-pub tells_same : (cs : Checks) (offset : ℕ) (e other : Error) → error_kind other ≡ error_kind e → error_offset other ≡ error_offset e → Tells cs offset e → Tells cs offset other
-tells_same cs offset e other k o (inl m) = inl (k ∙ m)
-tells_same cs offset e other k o (inr t) = inr (subst (λ (z : ErrorKind). Cause cs z) (sym k) t.0, o ∙ t.1)
+pub caused_same : (cs : Checks) (offset : ℕ) (e other : Error) → error_kind other ≡ error_kind e → error_offset other ≡ error_offset e → MemoryOrCausedBy cs offset e → MemoryOrCausedBy cs offset other
+caused_same cs offset e other k o (inl m) = inl (k ∙ m)
+caused_same cs offset e other k o (inr t) = inr (subst (λ (z : ErrorKind). Cause cs z) (sym k) t.0, o ∙ t.1)

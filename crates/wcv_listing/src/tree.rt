@@ -9,7 +9,7 @@ use crate::ranges::is_number_in_range;
 use json::{Invalid, Reader, Token, Value};
 use std::alloc::{AllocError, AllocFailed, Global};
 
-/// Why a text was not parsed: it is no JSON, or memory was wanting.
+/// Why a text was not parsed: it is no JSON, or it ran out of memory.
 #[derive(Clone, Copy, Debug, Drop, PartialEq, Eq)]
 pub enum ParseError {
     NotJson,

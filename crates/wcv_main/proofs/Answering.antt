@@ -8,24 +8,24 @@ use Rattle.wcv_main.specs.declared.status.Status.{Status}
 use Rattle.wcv_main.specs.declared.status.Status.TheVariants as status
 use Rattle.wcv_core.specs.declared.error.ErrorKind.{ErrorKind}
 use Rattle.wcv_lower.specs.Context.{Context}
-use Rattle.wcv_main.specs.Due.{Due, wrong_words, too_long, no_json, no_shape, sections, limit, due_of_bytes, due_over, usage, Gives, accepted_text, refusal_text}
+use Rattle.wcv_main.specs.Due.{Due, wrong_words, too_long, no_json, no_shape, sections, limit, due_of_bytes, due_over, usage, IsExpected, accepted_text, refusal_text}
 use Rattle.wcv_core.specs.Names.{base}
 use Rattle.wcv_state.proofs.EndChecks.{end_has_type}
 use Rattle.wcv_link.specs.Valid.{around_root, ValidTo, Refused}
 use Rattle.wcv_link.proofs.Decided.{valid_or_refused}
-use Rattle.wcv_main.specs.Pump.{AppendsFront}
+use Rattle.wcv_main.specs.Pump.{AppendsPrefix}
 use Rattle.wcv_main.specs.Answers.{IsAnswer, IsOfListing, MayStandIn, Answers, Cuts, Finishes}
 use Rattle.wcv_main.proofs.Known.{appends_nothing}
 
 -- something is always due
-pub some_due : (d : Due) → (s : Status) × (text : List ℕ) × Gives d s text
+pub some_due : (d : Due) → (s : Status) × (text : List ℕ) × IsExpected d s text
 some_due wrong_words = (status.Words, usage, (refl, refl))
 some_due too_long = (status.TooLong, _, (refl, refl))
 some_due no_json = (status.Listing, _, (refl, refl))
 some_due (no_shape at) = (status.Listing, _, (refl, refl))
 some_due (sections features is end) = by_answer (valid_or_refused features is end)
   where
-    by_answer : ((d : Context) × ValidTo features is d) ⊎ ((kind : ErrorKind) × (offset : ℕ) × Refused features is end kind offset) → (s : Status) × (text : List ℕ) × Gives (sections features is end) s text
+    by_answer : ((d : Context) × ValidTo features is d) ⊎ ((kind : ErrorKind) × (offset : ℕ) × Refused features is end kind offset) → (s : Status) × (text : List ℕ) × IsExpected (sections features is end) s text
     by_answer (inl v) =
         let t = end_has_type (base []) (around_root features) v.0 v.1.1 in
         (status.Done, accepted_text v.0 t.0, inl (v.0, t.0, v.1, t.1, refl, refl))
@@ -35,11 +35,11 @@ some_due (sections features is end) = by_answer (valid_or_refused features is en
 pub nothing_cut : (words : List (List ℕ)) (left old : Option (List ℕ)) (s : Status) → Cuts words left s old old
 nothing_cut words left old s may = go (due_over words left)
   where
-    go : (told : Option Due) → IfSome told (λ due. (d : Status) × (text : List ℕ) × Gives due d text × AppendsFront old old text)
+    go : (told : Option Due) → IfSome told (λ due. (d : Status) × (text : List ℕ) × IsExpected due d text × AppendsPrefix old old text)
     go None = tt
     go (Some due) = let d = some_due due in (d.0, d.1, d.2, (0, appends_nothing old))
 
--- a status is no fault and no want of memory
+-- a status is no fault and not out of memory
 no_stand_in : (s : Status) → IsAnswer s → MayStandIn s → ⊥
 no_stand_in s is (inl e) = subst IsAnswer e is
 no_stand_in s is (inr e) = subst IsAnswer e is
@@ -57,20 +57,20 @@ of_listing_answers status.Memory h = absurd h
 -- where the text that was written is the one that is due
 module _ (words : List (List ℕ)) (left old new : Option (List ℕ)) (result s : Status) (text : List ℕ) (before now : ℕ) (answer : IsAnswer s) where
   abbrev IsDue : Option Due → Type 0
-  IsDue told = IfSome told (λ due. Gives due s text)
+  IsDue told = IfSome told (λ due. IsExpected due s text)
 
-  pub answers_after : IfSome (due_over words left) (λ due. Gives due s text) → Finishes result s old new text before now → Answers words left result old new
+  pub answers_after : IfSome (due_over words left) (λ due. IsExpected due s text) → Finishes result s old new text before now → Answers words left result old new
   answers_after due done is = answers_told (due_over words left) due done is
     where
-      answers_told : (told : Option Due) → IsDue told → Finishes result s old new text before now → IsAnswer result → IfSome told (λ due. (t : List ℕ) × Gives due result t × Appends old new t)
+      answers_told : (told : Option Due) → IsDue told → Finishes result s old new text before now → IsAnswer result → IfSome told (λ due. (t : List ℕ) × IsExpected due result t × Appends old new t)
       answers_told None due done is = tt
-      answers_told (Some d) due (inl w) is = (text, subst (λ r. Gives d r text) (sym w.0) due, w.1)
+      answers_told (Some d) due (inl w) is = (text, subst (λ r. IsExpected d r text) (sym w.0) due, w.1)
       answers_told (Some d) due (inr w) is = absurd (subst IsAnswer w.0 is)
 
-  pub cuts_after : IfSome (due_over words left) (λ due. Gives due s text) → Finishes result s old new text before now → Cuts words left result old new
+  pub cuts_after : IfSome (due_over words left) (λ due. IsExpected due s text) → Finishes result s old new text before now → Cuts words left result old new
   cuts_after due done may = cuts_told (due_over words left) due done may
     where
-      cuts_told : (told : Option Due) → IsDue told → Finishes result s old new text before now → MayStandIn result → IfSome told (λ due. (d : Status) × (t : List ℕ) × Gives due d t × AppendsFront old new t)
+      cuts_told : (told : Option Due) → IsDue told → Finishes result s old new text before now → MayStandIn result → IfSome told (λ due. (d : Status) × (t : List ℕ) × IsExpected due d t × AppendsPrefix old new t)
       cuts_told None due done may = tt
       cuts_told (Some d) due (inl w) may = absurd (no_stand_in s answer (subst MayStandIn w.0 may))
       cuts_told (Some d) due (inr w) may = (s, text, due, w.1)

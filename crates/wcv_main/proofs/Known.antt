@@ -2,7 +2,7 @@
 use Rattle.std.proofs.Common.{ℕ, ◌+◌, ◌≤◌, List, [], ◌++◌, length, take, drop, Option, Some, None, refl, sym, ap, ◌∙◌, append_assoc, append-nil, length-append, arith}
 use Rattle.std.proofs.Math.Seq.{take-add}
 use Rattle.std.specs.Io.KnownBytes.{Appends, Consumes, Keeps}
-use Rattle.wcv_main.specs.Pump.{GivesAtMost}
+use Rattle.wcv_main.specs.Pump.{ConsumesAtMost}
 
 pub consumes_both : (a b c : Option (List ℕ)) (xs ys : List ℕ) → Consumes a b xs → Consumes b c ys → Consumes a c (xs ++ ys)
 consumes_both None b c xs ys h k = tt
@@ -31,20 +31,20 @@ appends_kept (Some a) (Some b) None xs h k = absurd k
 appends_kept (Some a) (Some b) (Some c) xs h k = k ∙ h
 
 -- after the first n bytes of a text, m more
-pub appends_front : (a b c : Option (List ℕ)) (text : List ℕ) (n m : ℕ) → Appends a b (take n text) → Appends b c (take m (drop n text)) → Appends a c (take (n + m) text)
-appends_front a b c text n m h k = rw (take-add n m text) (appends_both a b c (take n text) (take m (drop n text)) h k)
+pub appends_prefix : (a b c : Option (List ℕ)) (text : List ℕ) (n m : ℕ) → Appends a b (take n text) → Appends b c (take m (drop n text)) → Appends a c (take (n + m) text)
+appends_prefix a b c text n m h k = rw (take-add n m text) (appends_both a b c (take n text) (take m (drop n text)) h k)
 
 -- what was kept, and then a few bytes
-pub gives_more : (a b c : Option (List ℕ)) (xs : List ℕ) (m n : ℕ) → Consumes a b xs → GivesAtMost b c m → length xs + m ≤ n → GivesAtMost a c n
-gives_more a b c xs m n h k fits = (xs ++ k.0, consumes_both a b c xs k.0 h k.1, omega (arith, length-append xs k.0, k.2))
+pub at_most_more : (a b c : Option (List ℕ)) (xs : List ℕ) (m n : ℕ) → Consumes a b xs → ConsumesAtMost b c m → length xs + m ≤ n → ConsumesAtMost a c n
+at_most_more a b c xs m n h k fits = (xs ++ k.0, consumes_both a b c xs k.0 h k.1, omega (arith, length-append xs k.0, k.2))
 
-pub gives_nothing : (a : Option (List ℕ)) (n : ℕ) → GivesAtMost a a n
-gives_nothing a n = ([], consumes_nothing a, omega arith)
+pub at_most_nothing : (a : Option (List ℕ)) (n : ℕ) → ConsumesAtMost a a n
+at_most_nothing a n = ([], consumes_nothing a, omega arith)
 
-pub gives_kept : (a b : Option (List ℕ)) (n : ℕ) → Keeps a b → GivesAtMost a b n
-gives_kept None b n h = ([], tt, omega arith)
-gives_kept (Some a) None n h = absurd h
-gives_kept (Some a) (Some b) n h = ([], sym h, omega arith)
+pub at_most_kept : (a b : Option (List ℕ)) (n : ℕ) → Keeps a b → ConsumesAtMost a b n
+at_most_kept None b n h = ([], tt, omega arith)
+at_most_kept (Some a) None n h = absurd h
+at_most_kept (Some a) (Some b) n h = ([], sym h, omega arith)
 
-pub gives_these : (a b : Option (List ℕ)) (xs : List ℕ) (n : ℕ) → Consumes a b xs → length xs ≤ n → GivesAtMost a b n
-gives_these a b xs n h fits = (xs, h, fits)
+pub at_most_these : (a b : Option (List ℕ)) (xs : List ℕ) (n : ℕ) → Consumes a b xs → length xs ≤ n → ConsumesAtMost a b n
+at_most_these a b xs n h fits = (xs, h, fits)

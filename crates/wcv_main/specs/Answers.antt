@@ -3,9 +3,9 @@ use Rattle.std.specs.Prelude.{ℕ, ◌≡◌, ◌⊎◌, List, Option, IfSome, �
 use Rattle.std.specs.Io.KnownBytes.{Appends}
 use Rattle.wcv_main.specs.declared.status.Status.{Status}
 use Rattle.wcv_main.specs.declared.status.Status.TheVariants as status
-use Rattle.wcv_main.specs.Pump.{AppendsFront}
+use Rattle.wcv_main.specs.Pump.{AppendsPrefix}
 use Rattle.wcv_main.specs.Faults.{Rose}
-use Rattle.wcv_main.specs.Due.{due_over, Gives}
+use Rattle.wcv_main.specs.Due.{due_over, IsExpected}
 
 -- a status that tells of no fault
 abbrev pub IsAnswer : Status → Type 0
@@ -35,14 +35,14 @@ MayStandIn s = (s ≡ status.WriteFault) ⊎ (s ≡ status.Memory)
 
 -- the sink took the text that is due
 abbrev pub Answers : List (List ℕ) → Option (List ℕ) → Status → Option (List ℕ) → Option (List ℕ) → Type 0
-Answers words left s old new = IsAnswer s → IfSome (due_over words left) (λ due. (text : List ℕ) × Gives due s text × Appends old new text)
+Answers words left s old new = IsAnswer s → IfSome (due_over words left) (λ due. (text : List ℕ) × IsExpected due s text × Appends old new text)
 
--- the sink took a front of the text that is due
+-- the sink took a prefix of the text that is due
 abbrev pub Cuts : List (List ℕ) → Option (List ℕ) → Status → Option (List ℕ) → Option (List ℕ) → Type 0
 Cuts words left s old new = MayStandIn s
-    → IfSome (due_over words left) (λ due. (s : Status) × (text : List ℕ) × Gives due s text × AppendsFront old new text)
+    → IfSome (due_over words left) (λ due. (s : Status) × (text : List ℕ) × IsExpected due s text × AppendsPrefix old new text)
 
--- the whole text was written, or a front of it before a fault
+-- the whole text was written, or a prefix of it before a fault
 abbrev pub Finishes : Status → Status → Option (List ℕ) → Option (List ℕ) → List ℕ → ℕ → ℕ → Type 0
 Finishes result s old new text before now =
-    (result ≡ s) × Appends old new text × (now ≡ before) ⊎ (result ≡ status.WriteFault) × AppendsFront old new text × Rose before now
+    (result ≡ s) × Appends old new text × (now ≡ before) ⊎ (result ≡ status.WriteFault) × AppendsPrefix old new text × Rose before now

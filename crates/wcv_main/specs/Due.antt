@@ -10,7 +10,7 @@ use Rattle.wcv_core.specs.declared.features.WasmFeatures.{WasmFeatures}
 use Rattle.wcv_syntax.specs.Model.{Items}
 use Rattle.wcv_syntax.specs.View.{items_of}
 use Rattle.wcv_types.specs.Text.{type_text}
-use Rattle.wcv_listing.specs.Listing.{Reading, not_json, bad_shape, listed, reading_of}
+use Rattle.wcv_listing.specs.Listing.{Outcome, not_json, bad_shape, listed, outcome_of}
 use Rattle.wcv_main.specs.declared.status.Status.{Status}
 use Rattle.wcv_main.specs.declared.status.Status.TheVariants as status
 use Rattle.wcv_lower.specs.Context.{Type_tree, Context, lengths}
@@ -34,17 +34,17 @@ is_validate [] = false
 is_validate (word ∷ []) = bytes_eq word (codes "validate")
 is_validate (word ∷ more ∷ words) = false
 
-abbrev pub due_of_reading : Reading → Due
-due_of_reading not_json = no_json
-due_of_reading (bad_shape at) = no_shape at
-due_of_reading (listed l) = sections l.features (items_of l.entries) l.end
+abbrev pub due_of_outcome : Outcome → Due
+due_of_outcome not_json = no_json
+due_of_outcome (bad_shape at) = no_shape at
+due_of_outcome (listed l) = sections l.features (items_of l.entries) l.end
 
 -- the most bytes of a listing
 abbrev pub limit : ℕ
 limit = 67108864
 
 abbrev pub due_of_bytes : List ℕ → Due
-due_of_bytes bytes = if nat_lt limit (length bytes) then too_long else due_of_reading (reading_of bytes)
+due_of_bytes bytes = if nat_lt limit (length bytes) then too_long else due_of_outcome (outcome_of bytes)
 
 abbrev pub due_of : List (List ℕ) → List ℕ → Due
 due_of words bytes = if is_validate words then due_of_bytes bytes else wrong_words
@@ -65,21 +65,21 @@ abbrev pub refusal_text : ErrorKind → ℕ → List ℕ → List ℕ
 refusal_text kind offset message = line (codes "refused " ++ kind_name kind ++ codes " at " ++ decimal offset) ++ line message
 
 -- so it is, with some message
-abbrev pub GivesRefusalText : ErrorKind → ℕ → List ℕ → Type 0
-GivesRefusalText kind offset text = (message : List ℕ) × (text ≡ refusal_text kind offset message)
+abbrev pub IsRefusalText : ErrorKind → ℕ → List ℕ → Type 0
+IsRefusalText kind offset text = (message : List ℕ) × (text ≡ refusal_text kind offset message)
 
 -- the root is valid: its report
-abbrev pub GivesReport : WasmFeatures → Items → Status → List ℕ → Type 0
-GivesReport features is s text = (d : Context) × (t : Type_tree) × ValidTo features is d × (type_at_end (base []) d ≡ Some t) × (s ≡ status.Done) × (text ≡ accepted_text d t)
+abbrev pub IsReport : WasmFeatures → Items → Status → List ℕ → Type 0
+IsReport features is s text = (d : Context) × (t : Type_tree) × ValidTo features is d × (type_at_end (base []) d ≡ Some t) × (s ≡ status.Done) × (text ≡ accepted_text d t)
 
 -- the root is refused: a kind that is a cause at the place of refusal, and its offset
-abbrev pub GivesRefusal : WasmFeatures → Items → ℕ → Status → List ℕ → Type 0
-GivesRefusal features is end s text = (kind : ErrorKind) × (offset : ℕ) × Refused features is end kind offset × (s ≡ status.Refused) × GivesRefusalText kind offset text
+abbrev pub IsRefusal : WasmFeatures → Items → ℕ → Status → List ℕ → Type 0
+IsRefusal features is end s text = (kind : ErrorKind) × (offset : ℕ) × Refused features is end kind offset × (s ≡ status.Refused) × IsRefusalText kind offset text
 
 -- this status with this text is due
-abbrev pub Gives : Due → Status → List ℕ → Type 0
-Gives wrong_words s text = (s ≡ status.Words) × (text ≡ usage)
-Gives too_long s text = (s ≡ status.TooLong) × (text ≡ line (codes "listing is longer than 67108864 bytes"))
-Gives no_json s text = (s ≡ status.Listing) × (text ≡ line (codes "bad listing: not JSON"))
-Gives (no_shape at) s text = (s ≡ status.Listing) × (text ≡ line (codes "bad listing at " ++ decimal at))
-Gives (sections features is end) s text = GivesReport features is s text ⊎ GivesRefusal features is end s text
+abbrev pub IsExpected : Due → Status → List ℕ → Type 0
+IsExpected wrong_words s text = (s ≡ status.Words) × (text ≡ usage)
+IsExpected too_long s text = (s ≡ status.TooLong) × (text ≡ line (codes "listing is longer than 67108864 bytes"))
+IsExpected no_json s text = (s ≡ status.Listing) × (text ≡ line (codes "bad listing: not JSON"))
+IsExpected (no_shape at) s text = (s ≡ status.Listing) × (text ≡ line (codes "bad listing at " ++ decimal at))
+IsExpected (sections features is end) s text = IsReport features is s text ⊎ IsRefusal features is end s text

@@ -33,7 +33,7 @@ pub trait Sink {
     /// How many calls have failed. The count never falls, and stays at 2^64 - 1 once it is there.
     ghost faults: { Self → ℕ };
 
-    /// Takes bytes of the front. `Ok(n)`: the first `n` bytes of `from` were taken, at least one
+    /// Takes the first bytes. `Ok(n)`: the first `n` bytes of `from` were taken, at least one
     /// where `from` has one, and the count of faults is as before. `Err(Failed)`: no byte was
     /// taken, and the count rose.
     fn write(&mut self, from: &[u8]) -> Result<usize, Failed>

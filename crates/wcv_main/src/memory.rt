@@ -116,7 +116,7 @@ impl Sink for MemorySink {
 
     ghost faults = { λ s. write_faults s };
 
-    /// Fails at the calls that are listed and for want of memory, and else takes all bytes.
+    /// Fails at the calls that are listed and out of memory, and else takes all bytes.
     fn write(&mut self, from: &[u8]) -> Result<usize, Failed>
         ensures bound { WritesAtMost result from.now }
         ensures bytes { WriteAppends (Some (bytes_taken self.old)) (Some (bytes_taken self.new)) result from.now }

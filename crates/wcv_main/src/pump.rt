@@ -2,7 +2,7 @@
 ghost use Rattle.std.specs.Prelude.{◌≡◌, ◌≤◌, ◌+◌, ◌<◌, ℕ, List, ◌++◌, take, drop, length, vec_len, IfOk, OnOk, OnErr, IsErrOf};
 ghost use Rattle.std.specs.Io.KnownBytes.{Appends, Consumes, IsAtEnd, Keeps};
 ghost use Rattle.wcv_main.specs.Faults.{Rose, HasCause};
-ghost use Rattle.wcv_main.specs.Pump.{AppendsFront, GivesAtMost};
+ghost use Rattle.wcv_main.specs.Pump.{AppendsPrefix, ConsumesAtMost};
 ghost use Rattle.wcv_main.specs.declared.pump.ReadError.TheVariants.{Memory};
 
 use crate::ends::{Failed, Sink, Source};
@@ -19,7 +19,7 @@ const CHUNK: usize = 65_536;
 pub enum ReadError {
     /// A read failed.
     Failed,
-    /// Memory was wanting.
+    /// Out of memory.
     Memory,
 }
 
@@ -42,7 +42,7 @@ fn read_some<S: Source>(
     ensures failed { IsErrOf result ReadError.Failed → Rose (S.faults source.old) (S.faults source.new) }
     ensures steady { OnOk result (S.faults source.new ≡ S.faults source.old) }
     ensures memory { IsErrOf result ReadError.Memory → S.faults source.new ≡ S.faults source.old }
-    ensures bounded { GivesAtMost (S.left source.old) (S.left source.new) (length chunk.old) }
+    ensures bounded { ConsumesAtMost (S.left source.old) (S.left source.new) (length chunk.old) }
     ensures count { IfOk result (λ n. (n ≤ length chunk.old) × (vec_len bytes.new ≡ vec_len bytes.old + n)) }
     ensures bytes { IfOk result (λ n. (got : List ℕ) × (bytes.new.items ≡ bytes.old.items ++ got) × (length got ≡ n)
         × Consumes (S.left source.old) (S.left source.new) got × (n ≡ 0 → IsAtEnd (S.left source.new))) }
@@ -53,13 +53,13 @@ fn read_some<S: Source>(
 }
 
 /// Reads to the end, or until one byte more than the limit was given: more is never asked for. It
-/// fails only where a read failed or memory was wanting.
+/// fails only where a read failed or it ran out of memory.
 pub fn read_all<S: Source>(alloc: Global, source: &mut S) -> Result<Vec<u8>, ReadError>
     ensures later { S.faults source.old ≤ S.faults source.new }
     ensures failed { IsErrOf result ReadError.Failed → Rose (S.faults source.old) (S.faults source.new) }
     ensures steady { OnOk result (S.faults source.new ≡ S.faults source.old) }
     ensures memory { IsErrOf result ReadError.Memory → S.faults source.new ≡ S.faults source.old }
-    ensures bounded { GivesAtMost (S.left source.old) (S.left source.new) (LIMIT + 1) }
+    ensures bounded { ConsumesAtMost (S.left source.old) (S.left source.new) (LIMIT + 1) }
     ensures limit { IfOk result (λ v. length v.items ≤ LIMIT + 1) }
     ensures bytes { IfOk result (λ v. Consumes (S.left source.old) (S.left source.new) v.items) }
     ensures end { IfOk result (λ v. length v.items ≤ LIMIT → IsAtEnd (S.left source.new)) }
@@ -86,10 +86,10 @@ fn write_some<K: Sink>(sink: &mut K, text: &[u8], done: usize) -> Result<usize, 
     sink.write(&text[done..])
 }
 
-/// Writes the whole text. Where a write fails, a front of the text was written.
+/// Writes the whole text. Where a write fails, a prefix of the text was written.
 pub fn write_all<K: Sink>(sink: &mut K, text: &[u8]) -> Result<(), Failed>
     ensures whole { OnOk result (Appends (K.taken sink.old) (K.taken sink.new) text.now) }
-    ensures front { OnErr result (AppendsFront (K.taken sink.old) (K.taken sink.new) text.now) }
+    ensures prefix { OnErr result (AppendsPrefix (K.taken sink.old) (K.taken sink.new) text.now) }
     ensures cause { HasCause (K.faults sink.old) (K.faults sink.new) result }
 {
     let mut done = 0;

@@ -15,9 +15,9 @@ pub enum Status {
     Listing,
     /// A read failed.
     ReadFault,
-    /// A write failed, so a front of the text was written.
+    /// A write failed, so a prefix of the text was written.
     WriteFault,
-    /// Memory was wanting, so a front of the text was written.
+    /// Out of memory, so a prefix of the text was written.
     Memory,
     /// The source gave more bytes than a listing may have.
     TooLong,

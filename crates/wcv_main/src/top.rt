@@ -9,8 +9,8 @@ ghost use Rattle.wcv_types.specs.Text.{type_text};
 ghost use Rattle.wcv_types.specs.ComponentTrees.{root_tree};
 ghost use Rattle.wcv_link.specs.Accepts.{Accepts};
 ghost use Rattle.wcv_main.specs.Faults.{Rose};
-ghost use Rattle.wcv_main.specs.Pump.{GivesAtMost, GivesExactly};
-ghost use Rattle.wcv_main.specs.Due.{is_validate, due_of_bytes, due_of, Gives, usage, sections, GivesRefusalText};
+ghost use Rattle.wcv_main.specs.Pump.{ConsumesAtMost, ConsumesExactly};
+ghost use Rattle.wcv_main.specs.Due.{is_validate, due_of_bytes, due_of, IsExpected, usage, sections, IsRefusalText};
 ghost use Rattle.wcv_main.specs.Report.{report, space_lengths as lengths_of_spaces};
 ghost use Rattle.wcv_main.specs.Answers.{IsOfListing, MayStandIn, Answers, Cuts, Finishes};
 
@@ -73,7 +73,7 @@ fn report_text(alloc: Global, accepted: &Accepted) -> Result<String, AllocError>
 
 /// The two lines of a refusal.
 fn refusal_text(alloc: Global, error: &Error) -> Result<String, AllocError>
-    ensures { IfOk result (λ text. GivesRefusalText (error_kind error.now) (error_offset error.now) (string_bytes text)) }
+    ensures { IfOk result (λ text. IsRefusalText (error_kind error.now) (error_offset error.now) (string_bytes text)) }
 {
     let kind = error.kind();
     let offset = error.offset();
@@ -88,7 +88,7 @@ fn refusal_text(alloc: Global, error: &Error) -> Result<String, AllocError>
 fn answer_listing(alloc: Global, listing: Listing) -> Result<(Status, String), AllocError>
     ensures kind { IfOk result (λ answer. IsOfListing answer.0) }
     ensures short { IfOk result (λ answer. answer.0 ≢ Status.TooLong) }
-    ensures due { IfOk result (λ answer. Gives (sections listing.features (items_view listing.items.items) listing.end) answer.0 (string_bytes answer.1)) }
+    ensures due { IfOk result (λ answer. IsExpected (sections listing.features (items_view listing.items.items) listing.end) answer.0 (string_bytes answer.1)) }
 {
     match validate_sections(alloc, listing.features, listing.items, listing.end) {
         Ok(accepted) => {
@@ -109,7 +109,7 @@ fn answer_listing(alloc: Global, listing: Listing) -> Result<(Status, String), A
 fn answer(alloc: Global, bytes: &[u8]) -> Result<(Status, String), AllocError>
     ensures kind { IfOk result (λ answer. IsOfListing answer.0) }
     ensures long { IfOk result (λ answer. answer.0 ≡ Status.TooLong → LIMIT < length bytes.now) }
-    ensures due { IfOk result (λ answer. Gives (due_of_bytes bytes.now) answer.0 (string_bytes answer.1)) }
+    ensures due { IfOk result (λ answer. IsExpected (due_of_bytes bytes.now) answer.0 (string_bytes answer.1)) }
 {
     if bytes.len() > LIMIT {
         let text = String::from_str(alloc, "listing is longer than 67108864 bytes\n")?;
@@ -144,12 +144,12 @@ fn finish<K: Sink>(sink: &mut K, status: Status, text: &str) -> Status
 /// whether the component that it lists is valid, and writes the report or the refusal to the sink.
 /// With other words it reads nothing and writes how it is used.
 ///
-/// Every answer but a fault and want of memory is the one that is due for the words and the bytes, and
+/// Every answer but a fault and out of memory is the one that is due for the words and the bytes, and
 /// each has its cause in a clause below. What a source or a sink does not tell, no clause speaks of.
 pub fn run<S: Source, K: Sink>(alloc: Global, words: &Words, source: &mut S, sink: &mut K) -> Status
     // A status that tells of no fault stands with the text that is due for the words and the bytes.
     ensures answers { Answers words.now (S.left source.old) result (K.taken sink.old) (K.taken sink.new) }
-    // Before a write fault, or where memory was wanting, a front of a text that is due was written.
+    // Before a write fault, or out of memory, a prefix of a text that is due was written.
     ensures cuts { Cuts words.now (S.left source.old) result (K.taken sink.old) (K.taken sink.new) }
     ensures words { is_validate words.now ≡ false → (result ≡ Status.Words) ⊎ MayStandIn result }
     ensures usage { result ≡ Status.Words → (is_validate words.now ≡ false) × Appends (K.taken sink.old) (K.taken sink.new) usage }
@@ -160,8 +160,8 @@ pub fn run<S: Source, K: Sink>(alloc: Global, words: &Words, source: &mut S, sin
     ensures write_always { K.faults sink.old < K.faults sink.new → result ≡ Status.WriteFault }
     ensures source_later { S.faults source.old ≤ S.faults source.new }
     ensures sink_later { K.faults sink.old ≤ K.faults sink.new }
-    ensures bounded { GivesAtMost (S.left source.old) (S.left source.new) (LIMIT + 1) }
-    ensures too_long { result ≡ Status.TooLong → GivesExactly (S.left source.old) (S.left source.new) (LIMIT + 1) }
+    ensures bounded { ConsumesAtMost (S.left source.old) (S.left source.new) (LIMIT + 1) }
+    ensures too_long { result ≡ Status.TooLong → ConsumesExactly (S.left source.old) (S.left source.new) (LIMIT + 1) }
     ensures to_the_end { result ≡ Status.Done → IsAtEnd (S.left source.new) }
 {
     if !is_validate_command(words) {

@@ -31,7 +31,7 @@ impl Words {
         }
     }
 
-    /// Adds a word at the end. Where memory is wanting, the words stay as they were.
+    /// Adds a word at the end. Out of memory, the words stay as they were.
     pub fn push(&mut self, word: &str) -> Result<(), OutOfMemory>
         ensures ok { OnOk result (self.new ≡ self.old ++ word.now ∷ []) }
         ensures err { OnErr result (self.new ≡ self.old) }

@@ -8,7 +8,7 @@ use Rattle.wcv_core.specs.declared.core_types.ValType.{ValType}
 use Rattle.wcv_types.specs.Arena.{Arena}
 use Rattle.wcv_types.specs.ComponentTrees.{resource_path, ResourceStands}
 use Rattle.wcv_types.specs.Entities.{entry_trees, EntryStands}
-use Rattle.wcv_types.specs.Paths.{Leads}
+use Rattle.wcv_types.specs.Paths.{PathLeadsTo}
 use Rattle.wcv_types.specs.Tree.{component_type}
 use Rattle.wcv_types.specs.Unfold.{trees}
 use Rattle.wcv_types.specs.declared.component_type.ComponentType.{ComponentType}
@@ -50,7 +50,7 @@ module _ (a : Arena) (s : Contents) (h : StateStands a s) where
       defined = subst (All (λ (p : ResourceId × List ℕ). ResourceStands a p.0)) (sym defined) (All-nil _);
     };
     lead = record {
-      imported = subst (All (λ (p : ResourceId × List ℕ). Leads p.1 (number p.0.index) (entry_trees (trees a.nodes) ty.imports))) (sym (imported ∙ h.imported)) (All-nil _);
-      defined = subst (All (λ (p : ResourceId × List ℕ). Leads p.1 (number p.0.index) (entry_trees (trees a.nodes) ty.exports))) (sym defined) (All-nil _);
+      imported = subst (All (λ (p : ResourceId × List ℕ). PathLeadsTo p.1 (number p.0.index) (entry_trees (trees a.nodes) ty.imports))) (sym (imported ∙ h.imported)) (All-nil _);
+      defined = subst (All (λ (p : ResourceId × List ℕ). PathLeadsTo p.1 (number p.0.index) (entry_trees (trees a.nodes) ty.exports))) (sym defined) (All-nil _);
     };
   }

@@ -3,7 +3,7 @@ use crate::driver::wrong_rows;
 use std::test::Fail;
 
 const VALID: &str = r#"
-No items. This row alone refuses a program that always answers that memory is wanting.
+No items. This row alone refuses a program that always answers that it is out of memory.
 wcv validate
 {"version":1,"items":[],"end":99}
 => accepted 0 0

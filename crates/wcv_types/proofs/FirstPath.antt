@@ -7,7 +7,7 @@ use Rattle.wcv_core.specs.Names.{Name, member}
 use Rattle.wcv_core.proofs.Names.{same-true, same-equal}
 use Rattle.wcv_types.specs.Tree.{Extern_name, Head, nothing, primitive, resource, defined, func, instance, component, type_entity, here, label, import, export, Tree, node, Parts, none, part, head, first_part, rest_parts, exports, exports_in}
 use Rattle.wcv_types.specs.Resources.{RefersTo, refers}
-use Rattle.wcv_types.specs.Paths.{IsTypeOf, IsWayTo, Leads}
+use Rattle.wcv_types.specs.Paths.{IsTypeOf, IsWayTo, PathLeadsTo}
 use Rattle.wcv_types.specs.FirstPath.{or_else, path_at, path_in, path_from, first_path}
 use Rattle.wcv_types.specs.Rename.{rename, rename_head, rename_parts, HeadNames, EachName, EachNameIn}
 use Rattle.wcv_types.proofs.Commute.{owns-renamed}
@@ -20,24 +20,24 @@ Entry = Extern_name × Tree Name Name
 -- the path leads on within what an entry holds
 abbrev pub Reaches : Name → List ℕ → Tree Name Name → Type 0
 Reaches r [] t = IsTypeOf r t
-Reaches r (k ∷ p) t = IsWayTo r t × Leads (k ∷ p) r (exports t)
+Reaches r (k ∷ p) t = IsWayTo r t × PathLeadsTo (k ∷ p) r (exports t)
 
 -- the path begins at the j-th entry
 abbrev pub Begins : Name → ℕ → List Entry → List ℕ → Type 0
 Begins r k es p = (j : ℕ) × (q : List ℕ) × (e : Entry) × (p ≡ (k + j) ∷ q) × (slice_get es j ≡ Some e) × Reaches r q e.1
 
-leads-entry : (r : Name) (es : List Entry) (j : ℕ) (q : List ℕ) (e : Entry) → slice_get es j ≡ Some e → Reaches r q e.1 → Leads (j ∷ q) r es
+leads-entry : (r : Name) (es : List Entry) (j : ℕ) (q : List ℕ) (e : Entry) → slice_get es j ≡ Some e → Reaches r q e.1 → PathLeadsTo (j ∷ q) r es
 leads-entry r es j [] e s w = (e, s, w)
 leads-entry r es j (k ∷ q) e s w = (e, s, w.0, w.1)
 
-leads-begins : (r : Name) (es : List Entry) (j : ℕ) (q : List ℕ) → Leads (j ∷ q) r es → (e : Entry) × (slice_get es j ≡ Some e) × Reaches r q e.1
+leads-begins : (r : Name) (es : List Entry) (j : ℕ) (q : List ℕ) → PathLeadsTo (j ∷ q) r es → (e : Entry) × (slice_get es j ≡ Some e) × Reaches r q e.1
 leads-begins r es j [] w = (w.0, w.1, w.2)
 leads-begins r es j (k ∷ q) w = (w.0, w.1, (w.2, w.3))
 
-begins-leads : (r : Name) (es : List Entry) (p : List ℕ) → Begins r 0 es p → Leads p r es
+begins-leads : (r : Name) (es : List Entry) (p : List ℕ) → Begins r 0 es p → PathLeadsTo p r es
 begins-leads r es p b =
     let z : 0 + b.0 ≡ b.0 = omega arith in
-    subst (λ (x : List ℕ). Leads x r es) (ap (λ (j : ℕ). j ∷ b.1) (sym z) ∙ sym b.3) (leads-entry r es b.0 b.1 b.2 b.4 b.5)
+    subst (λ (x : List ℕ). PathLeadsTo x r es) (ap (λ (j : ℕ). j ∷ b.1) (sym z) ∙ sym b.3) (leads-entry r es b.0 b.1 b.2 b.4 b.5)
 
 -- the first entry, or a later one
 begins-here : (r : Name) (k : ℕ) (e : Entry) (es : List Entry) (q p : List ℕ) → k ∷ q ≡ p → Reaches r q e.1 → Begins r k (e ∷ es) p
@@ -96,7 +96,7 @@ instance-reaches r i own ps q inside h = go (member r own) refl h
     go true e w = absurd (no_path w)
     go false e w =
         let b = inside w in
-        subst (λ (x : List ℕ). Reaches r x (node (instance i own) ps)) (sym b.3) ((refl, e), subst (λ (x : List ℕ). Leads x r (exports_in ps)) b.3 (begins-leads r (exports_in ps) q b))
+        subst (λ (x : List ℕ). Reaches r x (node (instance i own) ps)) (sym b.3) ((refl, e), subst (λ (x : List ℕ). PathLeadsTo x r (exports_in ps)) b.3 (begins-leads r (exports_in ps) q b))
 
 mutual
   pub path_at-reaches : (r : Name) (t : Tree Name Name) (q : List ℕ) → path_at r t ≡ Some q → Reaches r q t
@@ -121,7 +121,7 @@ path_from-begins r k [] p h = cc
 path_from-begins r k (e ∷ es) p h = step r k e es (path_from r (suc k) es) p (λ q g. path_at-reaches r e.1 q g) (λ w. path_from-begins r (suc k) es p w) h
 
 -- the first path leads to its resource
-pub first_path-leads : (r : Name) (es : List Entry) (p : List ℕ) → first_path r es ≡ Some p → Leads p r es
+pub first_path-leads : (r : Name) (es : List Entry) (p : List ℕ) → first_path r es ≡ Some p → PathLeadsTo p r es
 first_path-leads r es p h = begins-leads r es p (path_from-begins r 0 es p h)
 
 -- ## Where there is none
@@ -194,7 +194,7 @@ path_from-none r k (e ∷ es) h =
     none_of_more r e es (λ x y. path_at-none r e.1 (no_first (path_at r e.1) (path_from r (suc k) es) k h) x y) (path_from-none r (suc k) es (no_later (path_at r e.1) (path_from r (suc k) es) k h))
 
 -- where there is no first path, no path leads to the resource
-pub first_path-none : (r : Name) (es : List Entry) → first_path r es ≡ None → (p : List ℕ) → Leads p r es → ⊥
+pub first_path-none : (r : Name) (es : List Entry) → first_path r es ≡ None → (p : List ℕ) → PathLeadsTo p r es → ⊥
 first_path-none r es h [] w = w
 first_path-none r es h (k ∷ p) w = let b = leads-begins r es k p w in path_from-none r 0 es h k p b.0 b.1 b.2
 

@@ -4,7 +4,7 @@ use Rattle.wcv_core.specs.Names.{Name, number}
 use Rattle.wcv_types.specs.Tree.{component_type}
 use Rattle.wcv_types.specs.Arena.{Arena}
 use Rattle.wcv_types.specs.Entities.{entry_trees, EntryStands}
-use Rattle.wcv_types.specs.Paths.{Leads}
+use Rattle.wcv_types.specs.Paths.{PathLeadsTo}
 use Rattle.wcv_types.specs.Unfold.{Type_tree, trees}
 use Rattle.wcv_types.specs.declared.component_type.ComponentType.{ComponentType}
 use Rattle.wcv_types.specs.declared.ids.ResourceId.{ResourceId}
@@ -28,8 +28,8 @@ ResourceStands a r = r.index < a.resources
 
 -- each recorded path leads to its resource, in the imports or in the exports
 pub record PathsLead (a : Arena) (ty : ComponentType) : Type 0 where
-  pub imported : All (λ p. Leads p.1 (number p.0.index) (entry_trees (trees a.nodes) ty.imports)) ty.imported_resources
-  pub defined : All (λ p. Leads p.1 (number p.0.index) (entry_trees (trees a.nodes) ty.exports)) ty.defined_resources
+  pub imported : All (λ p. PathLeadsTo p.1 (number p.0.index) (entry_trees (trees a.nodes) ty.imports)) ty.imported_resources
+  pub defined : All (λ p. PathLeadsTo p.1 (number p.0.index) (entry_trees (trees a.nodes) ty.exports)) ty.defined_resources
 
 -- all that the type names is of the arena
 pub record ComponentStands (a : Arena) (ty : ComponentType) : Type 0 where

@@ -13,7 +13,7 @@ abbrev pub IsWayTo : Name → Tree Name Name → Type 0
 IsWayTo r t = (sort t ≡ is_instance) × (owns (head t) r ≡ false)
 
 -- each position names an entry of the list found so far, and at the end stands a type whose resource is r
-abbrev pub Leads : List ℕ → Name → List (Extern_name × Tree Name Name) → Type 0
-Leads [] r es = ⊥
-Leads (k ∷ []) r es = (e : Extern_name × Tree Name Name) × (slice_get es k ≡ Some e) × IsTypeOf r e.1
-Leads (k ∷ j ∷ p) r es = (e : Extern_name × Tree Name Name) × (slice_get es k ≡ Some e) × IsWayTo r e.1 × Leads (j ∷ p) r (exports e.1)
+abbrev pub PathLeadsTo : List ℕ → Name → List (Extern_name × Tree Name Name) → Type 0
+PathLeadsTo [] r es = ⊥
+PathLeadsTo (k ∷ []) r es = (e : Extern_name × Tree Name Name) × (slice_get es k ≡ Some e) × IsTypeOf r e.1
+PathLeadsTo (k ∷ j ∷ p) r es = (e : Extern_name × Tree Name Name) × (slice_get es k ≡ Some e) × IsWayTo r e.1 × PathLeadsTo (j ∷ p) r (exports e.1)

@@ -58,7 +58,7 @@ impl TypeAlloc {
         self.alloc
     }
 
-    /// A resource and a stamp that stood nowhere. Where memory is wanting nothing changes.
+    /// A resource and a stamp that stood nowhere. Out of memory nothing changes.
     pub fn alloc_resource_id(&mut self) -> Result<AliasableResourceId, OutOfMemory>
         ensures made { OnOk result (self.new ≡ record self.old { resources = self.old.resources + 1; stamps = self.old.stamps + 1 }) }
         ensures last { IfOk result (λ id. id ≡ record { resource = record { index = self.old.resources }; stamp = self.old.stamps }) }

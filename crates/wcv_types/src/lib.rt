@@ -15,7 +15,7 @@ ghost use Rattle.wcv_core.specs.Names.{Name};
 ghost use Rattle.wcv_types.specs.Identity.{Identity};
 ghost use Rattle.wcv_types.specs.Measure.{size, depth};
 ghost use Rattle.wcv_types.specs.FirstPath.{first_path};
-ghost use Rattle.wcv_types.specs.Paths.{Leads};
+ghost use Rattle.wcv_types.specs.Paths.{PathLeadsTo};
 ghost use Rattle.wcv_types.specs.Rename.{rename, without_identities, HasWayBack, UpToRenaming};
 ghost use Rattle.wcv_types.specs.Replacing.{Replacement, new_resource, changed, replaced, SparesOwn, GivesSame};
 ghost use Rattle.wcv_types.specs.Resources.{Free, substitute, Admits};
@@ -126,10 +126,10 @@ pub fn renaming_keeps_what_is_free()
 
 /// The first path to a resource leads to it.
 pub fn the_first_path_leads_to_its_resource()
-    ensures { (r : Name) (entries : List (Extern_name × Tree Name Name)) (p : List ℕ) → first_path r entries ≡ Some p → Leads p r entries }
+    ensures { (r : Name) (entries : List (Extern_name × Tree Name Name)) (p : List ℕ) → first_path r entries ≡ Some p → PathLeadsTo p r entries }
 {}
 
 /// Where there is no first path, no path leads to the resource.
 pub fn there_is_a_first_path()
-    ensures { (r : Name) (entries : List (Extern_name × Tree Name Name)) → first_path r entries ≡ None → (p : List ℕ) → Leads p r entries → ⊥ }
+    ensures { (r : Name) (entries : List (Extern_name × Tree Name Name)) → first_path r entries ≡ None → (p : List ℕ) → PathLeadsTo p r entries → ⊥ }
 {}
