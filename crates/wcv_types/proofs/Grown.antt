@@ -1,8 +1,8 @@
 -- What stands in an arena that grew, and the trees of its nodes.
 use Rattle.std.proofs.Common.{◌≡◌, ℕ, zero, suc, ◌+◌, ◌<◌, ◌≤◌, List, [], ◌∷◌, ◌++◌, length, take, refl, sym, ◌∙◌, ap, subst, arith, get_or, length-append, append_assoc, append-nil, ⊎_elim}
-use Rattle.std.specs.Prelude.{slice_get, Some}
+use Rattle.std.specs.Prelude.{slice_get, Some, IfSome}
 use Rattle.std.proofs.lemmas.Grind.{common_steps}
-use Rattle.std.proofs.lemmas.Option.{slice_get-get_or, slice_get_within, get_or_from_slice_get, slice_get_read}
+use Rattle.std.proofs.lemmas.Option.{slice_get-get_or, slice_get_within, get_or_from_slice_get}
 use Rattle.std.proofs.lemmas.Bool.{cases_lt}
 use Rattle.std.proofs.lemmas.List.Elements.{All-weaker}
 use Rattle.std.proofs.Math.ListN.{get_or-append}
@@ -48,7 +48,7 @@ node_stays a b k x e h = ap (λ (ns : List Node). slice_get ns k) e.nodes ∙ sl
 pub stands_more : (a b : Arena) (q : Part) → Extends a b → Stands a q → Stands b q
 stands_more a b (p.Resource r) e s = record { resource = omega (arith, e.resources, s.resource); stamp = omega (arith, e.stamps, s.stamp) }
 stands_more a b (p.Func i) e s = (s.0, node_stays a b i.index (n.Func s.0) e s.1)
-stands_more a b (p.Defined i) e s = absurd s
+stands_more a b (p.Defined i) e s = (s.0, node_stays a b i.index (n.Defined s.0) e s.1)
 stands_more a b (p.Instance i) e s = absurd s
 stands_more a b (p.Component i) e s = absurd s
 stands_more a b (p.Module i) e s = absurd s
@@ -59,7 +59,7 @@ stands_more a b (p.Core i) e s = absurd s
 pub stands_rank : (a : Arena) (q : Part) → Stands a q → rank q ≤ length a.nodes
 stands_rank a (p.Resource r) s = omega arith
 stands_rank a (p.Func i) s = omega (arith, slice_get_within a.nodes i.index (n.Func s.0) s.1)
-stands_rank a (p.Defined i) s = absurd s
+stands_rank a (p.Defined i) s = omega (arith, slice_get_within a.nodes i.index (n.Defined s.0) s.1)
 stands_rank a (p.Instance i) s = absurd s
 stands_rank a (p.Component i) s = absurd s
 stands_rank a (p.Module i) s = absurd s
@@ -119,7 +119,7 @@ keeps_trees a b e = record { stands = λ q s. stands_more a b q e s; trees = λ 
 pub push_keeps : (a b : Arena) (x : Node) → b ≡ with_node a x → KeepsTrees a b
 push_keeps a b x e = subst (λ (c : Arena). KeepsTrees a c) (sym e) (keeps_trees a (with_node a x) (extends_push a x))
 
-tree_in_last : (ts : List Type_tree) (t : Type_tree) (k : ℕ) → k ≡ length ts → tree_in (ts ++ t ∷ []) k ≡ t
+pub tree_in_last : (ts : List Type_tree) (t : Type_tree) (k : ℕ) → k ≡ length ts → tree_in (ts ++ t ∷ []) k ≡ t
 tree_in_last ts t k e = ap (λ (j : ℕ). tree_in (ts ++ t ∷ []) j) e ∙ get_or-append_seam ts t [] left_out
 
 last_in : (a : Arena) (x : Node) (k : ℕ) → suc k ≡ suc (length a.nodes) → tree_in (trees (a.nodes ++ x ∷ [])) k ≡ tree_of (trees a.nodes) x
@@ -141,7 +141,7 @@ tree_at_last a b x q e h = ap (λ (c : Arena). tree_at c q) e ∙ at_last a x q 
 
 -- ## Fitting
 
-pub last_node : (xs : List Node) (x y : Node) (k : ℕ) → k ≡ length xs → slice_get (xs ++ x ∷ []) k ≡ Some y → x ≡ y
+pub last_node : {X : Type 0} (xs : List X) (x y : X) (k : ℕ) → k ≡ length xs → slice_get (xs ++ x ∷ []) k ≡ Some y → x ≡ y
 last_node xs x y k h s =
     sym (get_or-append_seam xs x [] x) ∙ ap (λ (j : ℕ). get_or (xs ++ x ∷ []) j x) (sym h) ∙ get_or_from_slice_get (xs ++ x ∷ []) k y x s
 
@@ -152,11 +152,7 @@ is_last xs ys x k e h =
     ap (λ (zs : List Node). slice_get zs k) e ∙ ap (slice_get (xs ++ x ∷ [])) h ∙
     slice_get-get_or (xs ++ x ∷ []) (length xs) x (omega (arith, length-append xs (x ∷ []))) ∙ ap Some last
 
--- what an access of a vector of nodes reads
-pub node_read : (xs ys : List Node) (k : ℕ) (x : Node) → ys ≡ xs → k < length xs → x ≡ get_or ys k x → slice_get xs k ≡ Some x
-node_read xs ys k x e h r = slice_get_read xs (length xs) k x refl h (subst (λ (zs : List Node). x ≡ get_or zs k x) e r)
-
-node_before : (xs : List Node) (x y : Node) (k : ℕ) → k < length xs → slice_get (xs ++ x ∷ []) k ≡ Some y → slice_get xs k ≡ Some y
+pub node_before : {X : Type 0} (xs : List X) (x y : X) (k : ℕ) → k < length xs → slice_get (xs ++ x ∷ []) k ≡ Some y → slice_get xs k ≡ Some y
 node_before xs x y k h s =
     slice_get-get_or xs k x h ∙ ap Some (sym (get_or-append xs (x ∷ []) x k h)) ∙ sym (slice_get-get_or (xs ++ x ∷ []) k x (omega (arith, h, length-append xs (x ∷ [])))) ∙ s
 
@@ -195,7 +191,7 @@ all_fit_push a b x e f g = subst AllFit (sym e) pushed
 pub fits_more : (a b : Arena) (x : Node) → Extends a b → b.nodes ≡ a.nodes → Fits a x → Fits b x
 fits_more a b x e same f = record {
   parts = All-weaker (Stands a) (Stands b) (λ q s. stands_more a b q e s) (parts_of x) f.parts;
-  info = subst (λ (xs : List Node). IsInfoOf (info_of x) (tree_of (trees xs) x)) (sym same) f.info;
+  info = subst (λ (xs : List Node). IfSome (info_of x) (λ i. IsInfoOf i (tree_of (trees xs) x))) (sym same) f.info;
 }
 
 pub all_fit_more : (a : Arena) (resources stamps : ℕ) → a.resources ≤ resources → a.stamps ≤ stamps → AllFit a → AllFit (record a { resources = resources; stamps = stamps })

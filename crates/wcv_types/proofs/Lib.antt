@@ -21,3 +21,7 @@ pub mod Unfolding
 pub mod Slots
 pub mod Naming
 pub mod Fitting
+pub mod Aligning
+pub mod Sums
+pub mod Forming
+pub mod Knowing

@@ -1,5 +1,5 @@
 -- The tree of a node is made of the trees of its parts in the same arena, which stand before it.
-use Rattle.std.proofs.Common.{◌≡◌, ℕ, zero, suc, ◌+◌, ◌<◌, ◌≤◌, List, [], ◌∷◌, ◌++◌, length, take, drop, refl, sym, ◌∙◌, ap, subst, arith, length-append}
+use Rattle.std.proofs.Common.{◌≡◌, ℕ, zero, suc, ◌+◌, ◌<◌, ◌≤◌, List, [], ◌∷◌, ◌++◌, length, take, drop, refl, sym, ◌∙◌, ap, arith, length-append}
 use Rattle.std.specs.Prelude.{slice_get, Some, All, Contains}
 use Rattle.std.proofs.lemmas.Option.{slice_get_within}
 use Rattle.std.proofs.lemmas.List.{take-append-drop, length-take-le}
@@ -9,7 +9,7 @@ use Rattle.wcv_core.specs.Names.{Name}
 use Rattle.std.proofs.Math.Seq.{get_or-append_seam}
 use Rattle.wcv_types.specs.Tree.{Parts, node, part, head, sort, sort_at, type_of, Sort, is_nothing, is_value, is_resource, is_func, is_instance, is_component}
 use Rattle.wcv_types.specs.Arena.{Arena}
-use Rattle.wcv_types.specs.Unfold.{Type_tree, Slot, leaf, at, both, Slots, left_out, rank, head_of, slots_of, slot_refs, slot_tree, slot_parts, part_tree, parts_in, parts_of, tree_of, tree_in, trees_after, trees, tree_at, unfolded, info_of, IsInfoOf}
+use Rattle.wcv_types.specs.Unfold.{Type_tree, Slot, leaf, at, both, Slots, left_out, rank, head_of, slots_of, slot_refs, slot_tree, slot_parts, part_tree, parts_in, parts_of, tree_of, tree_in, trees_after, trees, tree_at, unfolded}
 use Rattle.wcv_types.specs.Standing.{Stands, StandsBefore, AllFit, cut, Extends}
 use Rattle.wcv_types.specs.declared.arena.Node.{Node}
 use Rattle.wcv_types.specs.declared.arena.Node.TheVariants as n
@@ -104,10 +104,6 @@ tree_in-unfolds a k x f h =
     tree_in-node a.nodes k x h ∙ ap (λ (j : ℕ). node (head_of j x) (slot_parts (trees old) (slots_of x))) place_is ∙
     ap (λ (ps : Parts Name Name). node (head_of k x) ps) (sym same)
 
--- what a node keeps is right
-pub info_in : (a : Arena) (k : ℕ) (x : Node) → AllFit a → slice_get a.nodes k ≡ Some x → IsInfoOf (info_of x) (tree_in (trees a.nodes) k)
-info_in a k x f h = subst (λ (t : Type_tree). IsInfoOf (info_of x) t) (sym (tree_in-node a.nodes k x h)) (f k x h).info
-
 -- the parts of a node stand before it
 pub parts_before : (a : Arena) (k : ℕ) (x : Node) → AllFit a → slice_get a.nodes k ≡ Some x → All (StandsBefore a (suc k)) (parts_of x)
 parts_before a k x f h = All-weaker (Stands (cut a k)) (StandsBefore a (suc k)) one (parts_of x) (f k x h).parts
@@ -139,7 +135,7 @@ head_in xs k x h =
 pub sort_stands : (a : Arena) (q : Part) → Stands a q → sort (tree_at a q) ≡ sort_of q
 sort_stands a (p.Resource r) s = refl
 sort_stands a (p.Func i) s = ap sort_at (head_in a.nodes i.index (n.Func s.0) s.1)
-sort_stands a (p.Defined i) s = absurd s
+sort_stands a (p.Defined i) s = ap sort_at (head_in a.nodes i.index (n.Defined s.0) s.1)
 sort_stands a (p.Instance i) s = absurd s
 sort_stands a (p.Component i) s = absurd s
 sort_stands a (p.Module i) s = absurd s

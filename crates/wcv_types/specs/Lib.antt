@@ -17,3 +17,6 @@ pub mod Unfold
 pub mod Standing
 pub mod Entities
 pub mod ComponentTrees
+pub mod Abi
+pub mod Facts
+pub mod Sums

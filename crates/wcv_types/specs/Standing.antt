@@ -1,5 +1,5 @@
 -- What stands in an arena, what may be added to it, and how it grows.
-use Rattle.std.specs.Prelude.{ℕ, ◌≡◌, ◌<◌, ◌≤◌, List, [], ◌∷◌, ◌++◌, take, slice_get, Some, All}
+use Rattle.std.specs.Prelude.{ℕ, ◌≡◌, ◌<◌, ◌≤◌, List, [], ◌∷◌, ◌++◌, take, slice_get, Some, All, IfSome}
 use Rattle.wcv_core.specs.Names.{number, stamp}
 use Rattle.wcv_types.specs.Tree.{node, head}
 use Rattle.wcv_types.specs.Identity.{Identity, of_node, of_reference, identity_at}
@@ -10,6 +10,7 @@ use Rattle.wcv_types.specs.declared.arena.Node.TheVariants as n
 use Rattle.wcv_types.specs.declared.ids.AliasableResourceId.{AliasableResourceId}
 use Rattle.wcv_types.specs.declared.ids.Part.{Part}
 use Rattle.wcv_types.specs.declared.ids.Part.TheVariants as p
+use Rattle.wcv_types.specs.declared.shapes.ComponentDefinedType.{ComponentDefinedType}
 use Rattle.wcv_types.specs.declared.shapes.ComponentFuncType.{ComponentFuncType}
 
 -- the arena gave the resource and the stamp
@@ -21,7 +22,7 @@ pub record ReferenceStands (a : Arena) (r : AliasableResourceId) : Type 0 where
 abbrev pub Stands : Arena → Part → Type 0
 Stands a (p.Resource r) = ReferenceStands a r
 Stands a (p.Func i) = (s : ComponentFuncType) × (slice_get a.nodes i.index ≡ Some (n.Func s))
-Stands a (p.Defined i) = ⊥
+Stands a (p.Defined i) = (s : ComponentDefinedType) × (slice_get a.nodes i.index ≡ Some (n.Defined s))
 Stands a (p.Instance i) = ⊥
 Stands a (p.Component i) = ⊥
 Stands a (p.Module i) = ⊥
@@ -36,7 +37,7 @@ pub record StandsBefore (a : Arena) (bound : ℕ) (q : Part) : Type 0 where
 -- the node may be added to the arena
 pub record Fits (a : Arena) (x : Node) : Type 0 where
   pub parts : All (Stands a) (parts_of x)
-  pub info : IsInfoOf (info_of x) (tree_of (trees a.nodes) x)
+  pub info : IfSome (info_of x) (λ i. IsInfoOf i (tree_of (trees a.nodes) x))
 
 -- the arena with its first k nodes alone
 abbrev pub cut : Arena → ℕ → Arena

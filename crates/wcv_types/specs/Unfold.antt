@@ -1,8 +1,8 @@
 -- The tree that a node of the arena stands for.
-use Rattle.std.specs.Prelude.{ℕ, suc, min, ◌≡◌, Bool, true, false, List, [], ◌∷◌, ◌++◌, length, slice_get, slice_index_or, Option, Some, None}
+use Rattle.std.specs.Prelude.{ℕ, suc, min, ◌≡◌, Bool, true, false, List, [], ◌∷◌, ◌++◌, map, length, slice_get, slice_index_or, Option, Some, None}
 use Rattle.wcv_core.specs.Names.{Name, number, stamp}
 use Rattle.wcv_core.specs.declared.primitive.PrimitiveValType.{PrimitiveValType}
-use Rattle.wcv_types.specs.Tree.{Text, Head, nothing, func, Role, here, label, Tree, node, Parts, none, part, primitive_type, resource_type, type_of}
+use Rattle.wcv_types.specs.Tree.{Text, Former, named, record_of, variant_of, list_of, map_of, tuple_of, option_of, result_of, own_of, borrow_of, future_of, stream_of, fixed_list_of, flags_of, enum_of, Head, nothing, defined, func, Role, here, label, Tree, node, Parts, none, part, primitive_type, resource_type, type_of}
 use Rattle.wcv_types.specs.Measure.{size, depth}
 use Rattle.wcv_types.specs.Arena.{Arena}
 use Rattle.wcv_types.specs.declared.arena.Node.{Node}
@@ -11,6 +11,8 @@ use Rattle.wcv_types.specs.declared.ids.AliasableResourceId.{AliasableResourceId
 use Rattle.wcv_types.specs.declared.ids.Part.{Part}
 use Rattle.wcv_types.specs.declared.ids.Part.TheVariants as p
 use Rattle.wcv_types.specs.declared.info.TypeInfo.{TypeInfo}
+use Rattle.wcv_types.specs.declared.shapes.ComponentDefinedType.{ComponentDefinedType}
+use Rattle.wcv_types.specs.declared.shapes.ComponentDefinedType.TheVariants as d
 use Rattle.wcv_types.specs.declared.shapes.ComponentValType.{ComponentValType}
 use Rattle.wcv_types.specs.declared.shapes.ComponentValType.TheVariants as v
 
@@ -80,12 +82,65 @@ abbrev pub field_slots : List (Text × ComponentValType) → Slots → Slots
 field_slots [] rest = rest
 field_slots (f ∷ fs) rest = (label f.0, value_slot f.1) ∷ field_slots fs rest
 
+-- how a defined type is formed
+abbrev pub former_of : ComponentDefinedType → Former
+former_of (d.Primitive q) = named q
+former_of (d.Record fs) = record_of
+former_of (d.Variant cs) = variant_of
+former_of (d.List t) = list_of
+former_of (d.Map k t) = map_of
+former_of (d.FixedLengthList t n) = fixed_list_of n
+former_of (d.Tuple ts) = tuple_of
+former_of (d.Flags ns) = flags_of ns.items
+former_of (d.Enum ns) = enum_of ns.items
+former_of (d.Option t) = option_of
+former_of (d.Result o e) = result_of
+former_of (d.Own r) = own_of
+former_of (d.Borrow r) = borrow_of
+former_of (d.Future o) = future_of
+former_of (d.Stream o) = stream_of
+
+-- the value types that it is made of, each in its role, where one may be left out
+abbrev pub value_parts : ComponentDefinedType → List (Role × Option ComponentValType)
+value_parts (d.Record fs) = map (λ f. (label f.0, Some f.1)) fs.items
+value_parts (d.Variant cs) = map (λ c. (label c.0, c.1)) cs.items
+value_parts (d.Tuple ts) = map (λ t. (here, Some t)) ts.items
+value_parts (d.List t) = (here, Some t) ∷ []
+value_parts (d.Map k t) = (here, Some k) ∷ (here, Some t) ∷ []
+value_parts (d.FixedLengthList t n) = (here, Some t) ∷ []
+value_parts (d.Option t) = (here, Some t) ∷ []
+value_parts (d.Result o e) = (here, o) ∷ (here, e) ∷ []
+value_parts (d.Future o) = (here, o) ∷ []
+value_parts (d.Stream o) = (here, o) ∷ []
+value_parts (d.Primitive q) = []
+value_parts (d.Flags ns) = []
+value_parts (d.Enum ns) = []
+value_parts (d.Own r) = []
+value_parts (d.Borrow r) = []
+
+-- value types, each in its role
+abbrev pub value_slots : List (Role × Option ComponentValType) → Slots
+value_slots ps = map (λ p. (p.0, option_slot p.1)) ps
+
+abbrev pub handles : ComponentDefinedType → Bool
+handles (d.Own r) = true
+handles (d.Borrow r) = true
+handles s = false
+
+-- a handle is made of the reference to its resource
+abbrev pub defined_slots : ComponentDefinedType → Slots
+defined_slots (d.Own r) = (here, at (p.Resource r)) ∷ []
+defined_slots (d.Borrow r) = (here, at (p.Resource r)) ∷ []
+defined_slots s = value_slots (value_parts s)
+
 -- the node at the place k, without its parts
 abbrev pub head_of : ℕ → Node → Head Name Name
+head_of k (n.Defined s) = defined (number k) (former_of s)
 head_of k (n.Func s) = func (number k) s.async_
 
 -- what the node is made of
 abbrev pub slots_of : Node → Slots
+slots_of (n.Defined s) = defined_slots s
 slots_of (n.Func s) = field_slots s.params.items ((here, option_slot s.result) ∷ [])
 
 -- the parts that a slot names
@@ -98,6 +153,12 @@ slot_refs (both c r) = c ∷ r ∷ []
 abbrev pub parts_in : Slots → List Part
 parts_in [] = []
 parts_in (s ∷ ss) = slot_refs s.1 ++ parts_in ss
+
+-- the reference of a handle
+abbrev pub handle_parts : ComponentDefinedType → List Part
+handle_parts (d.Own r) = p.Resource r ∷ []
+handle_parts (d.Borrow r) = p.Resource r ∷ []
+handle_parts s = []
 
 -- the parts of a node, in order
 abbrev pub parts_of : Node → List Part
@@ -173,9 +234,10 @@ unfolded a k x = node (head_of k x) (slot_parts (trees a.nodes) (slots_of x))
 
 -- ## What a node keeps of its tree
 
--- the size and the depth that a node keeps
-abbrev pub info_of : Node → TypeInfo
-info_of (n.Func s) = s.info
+-- the size and the depth that a node says of itself, if it does
+abbrev pub info_of : Node → Option TypeInfo
+info_of (n.Defined s) = None
+info_of (n.Func s) = Some s.info
 
 -- a number as an info keeps it
 abbrev pub capped : ℕ → ℕ

@@ -1,10 +1,17 @@
 // The arena of types.
 ghost use Rattle.std.specs.Prelude.{◌≡◌, suc, ◌+◌, List, [], ◌∷◌, length, slice_get, Some, All, OnOk, OnErr, IfOk};
-ghost use Rattle.wcv_types.specs.Unfold.{place, rank, parts_of, tree_at, tree_of, trees, unfolded};
+ghost use Rattle.wcv_types.specs.Abi.{IsAbiOf};
+ghost use Rattle.wcv_types.specs.Entities.{SlotStands};
+ghost use Rattle.wcv_types.specs.Facts.{IsFactsOf};
+ghost use Rattle.wcv_types.specs.Unfold.{place, rank, parts_of, slot_tree, tree_at, tree_of, trees, unfolded, value_slot};
 ghost use Rattle.wcv_types.specs.Standing.{Stands, StandsBefore, Fits, KeepsTrees, with_node};
 
+use crate::abi::AbiInfo;
+use crate::defined_facts::value_facts;
+use crate::facts::Facts;
 use crate::ids::{AliasableResourceId, ResourceId};
-use crate::shapes::ComponentFuncType;
+use crate::nodes::Nodes;
+use crate::shapes::{ComponentDefinedType, ComponentFuncType, ComponentValType};
 use crate::sorts::NodeSort;
 use std::alloc::Global;
 use std::marker::Model;
@@ -13,6 +20,7 @@ use wcv_core::{OutOfMemory, WasmFeatures};
 /// A node of the arena.
 #[derive(Drop)]
 pub enum Node {
+    Defined(ComponentDefinedType),
     Func(ComponentFuncType),
 }
 
@@ -20,7 +28,7 @@ pub enum Node {
 /// numbers of resources and of stamps that it gave.
 #[derive(Drop)]
 pub struct TypeAlloc {
-    pub(crate) nodes: Vec<Node>,
+    pub(crate) nodes: Nodes,
     resources: Vec<ResourceId>,
     stamps: Vec<ResourceId>,
     features: WasmFeatures,
@@ -34,9 +42,9 @@ impl Model for TypeAlloc {
 
     ghost Value = { Arena };
 
-    ghost view = { λ a. record { nodes = a.nodes.items; resources = length a.resources.items; stamps = length a.stamps.items } };
+    ghost view = { λ a. record { nodes = a.nodes; resources = length a.resources.items; stamps = length a.stamps.items } };
 
-    ghost invariant = { λ a. AllFit (record { nodes = a.nodes.items; resources = length a.resources.items; stamps = length a.stamps.items }) };
+    ghost invariant = { λ a. AllFit (record { nodes = a.nodes; resources = length a.resources.items; stamps = length a.stamps.items }) };
 }
 
 impl TypeAlloc {
@@ -45,7 +53,7 @@ impl TypeAlloc {
         ensures { result ≡ record { nodes = []; resources = 0; stamps = 0 } }
     {
         TypeAlloc {
-            nodes: Vec::new(alloc),
+            nodes: Nodes::new(alloc),
             resources: Vec::new(alloc),
             stamps: Vec::new(alloc),
             features,
@@ -73,6 +81,27 @@ impl TypeAlloc {
             return Err(OutOfMemory);
         }
         Ok(AliasableResourceId { resource, stamp })
+    }
+
+    /// A node that fits, behind all others, and what is known of it. Gives its place.
+    pub(crate) fn add(&mut self, node: Node, facts: Facts) -> Result<u64, OutOfMemory>
+        requires fits { Fits self.old node }
+        requires facts { IsFactsOf facts (tree_of (trees self.old.nodes) node) }
+        ensures added { IfOk result (λ _. self.new ≡ with_node self.old node) }
+        ensures last { IfOk result (λ place. place ≡ length self.old.nodes) }
+        ensures err { OnErr result (self.new ≡ self.old) }
+    {
+        let place = self.nodes.len();
+        self.nodes.push(node, facts)?;
+        Ok(place as u64)
+    }
+
+    /// How the value type lies in memory, and what stands in it. It takes no memory.
+    pub fn abi_info(&self, ty: &ComponentValType) -> AbiInfo
+        requires { SlotStands self.now (value_slot ty.now) }
+        ensures { IsAbiOf result (slot_tree (trees self.now.nodes) (value_slot ty.now)) }
+    {
+        value_facts(self, Some(*ty)).abi
     }
 
     /// The node.

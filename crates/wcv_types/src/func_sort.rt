@@ -3,6 +3,7 @@ ghost use Rattle.std.specs.Prelude.{◌≡◌, ◌≤◌, List, [], length, slic
 ghost use Rattle.wcv_types.specs.Unfold.{parts_in, field_slots, option_slot, slot_refs};
 
 use crate::arena::{Node, TypeAlloc};
+use crate::func_facts::func_facts;
 use crate::ids::{ComponentFuncTypeId, Part};
 use crate::info::TypeInfo;
 use crate::shapes::{ComponentFuncType, ComponentValType};
@@ -36,7 +37,7 @@ fn count_field_parts(fields: &[(Text, ComponentValType)]) -> usize
 }
 
 /// The type as a part, where it is there and is a node.
-fn option_part(ty: Option<ComponentValType>) -> Option<Part>
+pub fn option_part(ty: Option<ComponentValType>) -> Option<Part>
     ensures { option_to_list result ≡ slot_refs (option_slot ty) }
 {
     match ty {
@@ -48,10 +49,12 @@ fn option_part(ty: Option<ComponentValType>) -> Option<Part>
 
 /// The function type that the node is.
 fn func_shape(node: &Node) -> &ComponentFuncType
+    requires { (s : ComponentFuncType) × (node.now ≡ Node.Func s) }
     ensures { node.now ≡ Node.Func result.now }
 {
     match node {
         Node::Func(shape) => shape,
+        _ => unreachable!(),
     }
 }
 
@@ -65,8 +68,7 @@ impl TypeSort for ComponentFuncTypeId {
     }
 
     fn info(self, types: &TypeAlloc) -> TypeInfo {
-        let _ = &types.nodes;
-        Self::node(types, self).info
+        types.nodes.facts(self.index as usize).info
     }
 
     fn part_count(self, types: &TypeAlloc) -> usize {
@@ -99,12 +101,12 @@ impl NodeSort for ComponentFuncTypeId {
 
     fn node(types: &TypeAlloc, id: Self) -> &ComponentFuncType {
         let k = id.index as usize;
-        func_shape(&types.nodes[k])
+        func_shape(types.nodes.get(k))
     }
 
     fn store(types: &mut TypeAlloc, shape: ComponentFuncType) -> Result<Self, OutOfMemory> {
-        let k = types.nodes.len();
-        types.nodes.push(Node::Func(shape))?;
-        Ok(ComponentFuncTypeId { index: k as u64 })
+        let facts = func_facts(types, &shape);
+        let index = types.add(Node::Func(shape), facts)?;
+        Ok(ComponentFuncTypeId { index })
     }
 }

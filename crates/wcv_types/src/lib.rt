@@ -1,14 +1,22 @@
 //! Type trees of components, their laws, and the text of a type.
 #![tactic(auto)]
 
+mod abi;
 mod arena;
 mod component_type;
+mod defined_facts;
+mod defined_sort;
+mod facts;
+mod func_facts;
 mod func_sort;
 mod ids;
 mod info;
 mod item_map;
+mod layout;
+mod nodes;
 mod shapes;
 mod sorts;
+mod sum;
 
 ghost use Rattle.std.specs.Prelude.{◌≡◌, ℕ, List, false, Some, None};
 ghost use Rattle.wcv_core.specs.Names.{Name};
@@ -23,6 +31,7 @@ ghost use Rattle.wcv_types.specs.Seen.{Within, seen};
 ghost use Rattle.wcv_types.specs.Text.{type_text};
 ghost use Rattle.wcv_types.specs.Tree.{Extern_name, Tree};
 
+pub use abi::AbiInfo;
 pub use arena::{Node, TypeAlloc};
 pub use component_type::{ComponentType, Paths};
 pub use ids::{
@@ -32,7 +41,7 @@ pub use ids::{
 };
 pub use info::TypeInfo;
 pub use item_map::{ComponentItem, ItemMap};
-pub use shapes::{ComponentEntityType, ComponentFuncType, ComponentValType};
+pub use shapes::{ComponentDefinedType, ComponentEntityType, ComponentFuncType, ComponentValType};
 pub use sorts::{NodeSort, TypeSort};
 
 /// Types that are equal up to renaming of resources and of identities have one text.

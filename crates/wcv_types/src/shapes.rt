@@ -3,8 +3,8 @@ ghost use Rattle.std.specs.Prelude.{◌≡◌};
 ghost use Rattle.wcv_types.specs.Unfold.{names_node};
 
 use crate::ids::{
-    ComponentAnyTypeId, ComponentCoreModuleTypeId, ComponentDefinedTypeId, ComponentFuncTypeId,
-    ComponentInstanceTypeId, ComponentTypeId,
+    AliasableResourceId, ComponentAnyTypeId, ComponentCoreModuleTypeId, ComponentDefinedTypeId,
+    ComponentFuncTypeId, ComponentInstanceTypeId, ComponentTypeId,
 };
 use crate::info::TypeInfo;
 use wcv_core::{PrimitiveValType, Text};
@@ -23,6 +23,33 @@ impl ComponentValType {
     {
         matches!(self, ComponentValType::Ty(_))
     }
+}
+
+/// A defined value type.
+#[derive(Debug, Drop)]
+pub enum ComponentDefinedType {
+    /// A primitive under a name.
+    Primitive(PrimitiveValType),
+    Record(Vec<(Text, ComponentValType)>),
+    /// Its cases, each maybe with a payload.
+    Variant(Vec<(Text, Option<ComponentValType>)>),
+    List(ComponentValType),
+    /// The types of its keys and of its values.
+    Map(ComponentValType, ComponentValType),
+    /// The type of its elements, and how many there are.
+    FixedLengthList(ComponentValType, u32),
+    Tuple(Vec<ComponentValType>),
+    Flags(Vec<Text>),
+    Enum(Vec<Text>),
+    Option(ComponentValType),
+    Result {
+        ok: Option<ComponentValType>,
+        err: Option<ComponentValType>,
+    },
+    Own(AliasableResourceId),
+    Borrow(AliasableResourceId),
+    Future(Option<ComponentValType>),
+    Stream(Option<ComponentValType>),
 }
 
 /// A function type: parameters by name, and maybe a result.

@@ -5,21 +5,21 @@ use Rattle.wcv_types.proofs.arena.TypeAlloc.alloc_resource_id.Goals as goal
 
 pub invariant_of-self : goal.invariant_of-self
 invariant_of-self c =
-    let a : Arena = record { nodes = c.self.inside.nodes.items; resources = length c.self.inside.resources.items; stamps = length c.self.inside.stamps.items } in
+    let a : Arena = record { nodes = c.self.inside.nodes; resources = length c.self.inside.resources.items; stamps = length c.self.inside.stamps.items } in
     let l : length c.self.inside.resources.items ≤ length c.push.new.self.items = search rules in
     let m : length c.self.inside.stamps.items ≤ length c.self.inside.stamps.items = search rules in
     all_fit_more a (length c.push.new.self.items) (length c.self.inside.stamps.items) l m c.self.invariant
 
 pub invariant_of-self-then-is_err : goal.invariant_of-self-then-is_err
 invariant_of-self-then-is_err c =
-    let a : Arena = record { nodes = c.self.inside.nodes.items; resources = length c.self.inside.resources.items; stamps = length c.self.inside.stamps.items } in
+    let a : Arena = record { nodes = c.self.inside.nodes; resources = length c.self.inside.resources.items; stamps = length c.self.inside.stamps.items } in
     let l : length c.self.inside.resources.items ≤ length c.pop.new.self.items = search rules in
     let m : length c.self.inside.stamps.items ≤ length c.push-2.new.self.items = search rules in
     all_fit_more a (length c.pop.new.self.items) (length c.push-2.new.self.items) l m c.self.invariant
 
 pub invariant_of-self-else-is_err : goal.invariant_of-self-else-is_err
 invariant_of-self-else-is_err c =
-    let a : Arena = record { nodes = c.self.inside.nodes.items; resources = length c.self.inside.resources.items; stamps = length c.self.inside.stamps.items } in
+    let a : Arena = record { nodes = c.self.inside.nodes; resources = length c.self.inside.resources.items; stamps = length c.self.inside.stamps.items } in
     let l : length c.self.inside.resources.items ≤ length c.push.new.self.items = search rules in
     let m : length c.self.inside.stamps.items ≤ length c.push-2.new.self.items = search rules in
     all_fit_more a (length c.push.new.self.items) (length c.push-2.new.self.items) l m c.self.invariant

@@ -1,0 +1,20 @@
+use Rattle.std.proofs.Common.{◌≡◌, subst, ap, ◌∙◌, Some, slice_get}
+use Rattle.wcv_types.specs.Arena.{Arena}
+use Rattle.wcv_types.specs.Standing.{AllFit}
+use Rattle.wcv_types.specs.declared.arena.Node.{Node}
+use Rattle.wcv_types.specs.declared.arena.Node.TheVariants as n
+use Rattle.wcv_types.proofs.Unfolding.{tree_in-unfolds, parts_before}
+use Rattle.wcv_types.proofs.defined_sort.ComponentDefinedTypeIdNodeSort.node.Goals as goal
+
+pub returns : goal.returns
+returns c =
+    let a : Arena = c.args.types.now in
+    let k = c.args.id.index in
+    let sound : AllFit a = subst AllFit c.types.view_is c.types.invariant in
+    let found : slice_get a.nodes k ≡ Some (n.Defined c.defined_shape.result.now) =
+    subst (λ (x : Arena). slice_get x.nodes k ≡ Some c.get.result.now) c.types.view_is c.get.ensures ∙ ap (λ (x : Node). Some x) c.defined_shape.ensures in
+    record {
+      found = found;
+      unfolds = tree_in-unfolds a k (n.Defined c.defined_shape.result.now) sound found;
+      before = parts_before a k (n.Defined c.defined_shape.result.now) sound found;
+    }
