@@ -4,6 +4,7 @@ use Rattle.std.specs.Prelude.{Option}
 use Rattle.std.specs.Option.{option_map}
 use Rattle.wcv_core.specs.Names.{Name, Place}
 use Rattle.wcv_syntax.specs.Model.{Form}
+use Rattle.wcv_types.specs.Identity.{Identity, of_node, of_reference, rename_identity}
 use Rattle.wcv_types.specs.Rename.{rename, rename_paths}
 use Rattle.wcv_types.proofs.Lists.{map-id}
 use Rattle.wcv_types.proofs.Renaming.{rename-id}
@@ -31,11 +32,16 @@ entries-id (x ∷ es) =
     let e' : map (rename_entry (λ y. y) (λ y. y)) es ≡ es = entries-id es in
     λ j. (x.0, e j) ∷ e' j
 
+identities-id : (ids : List Identity) → map (rename_identity (λ x. x) (λ x. x)) ids ≡ ids
+identities-id [] = refl
+identities-id (of_node x ∷ ids) = ap (λ (is : List Identity). of_node x ∷ is) (identities-id ids)
+identities-id (of_reference r s ∷ ids) = ap (λ (is : List Identity). of_reference r s ∷ is) (identities-id ids)
+
 context-id : (c : Context) → rename_context (λ x. x) (λ x. x) c ≡ c
 context-id c =
     let i : rename_paths (λ (x : Name). x) c.imported ≡ c.imported = map-id c.imported in
     let d : rename_defined (λ x. x) c.defined ≡ c.defined = map-id c.defined in
-    λ j. record c { space = λ k. trees-id (c.space k) j; side = λ s. entries-id (c.side s) j; imported = i j; defined = d j }
+    λ j. record c { space = λ k. trees-id (c.space k) j; side = λ s. entries-id (c.side s) j; imported = i j; defined = d j; named = λ s. identities-id (c.named s) j }
 
 outer-id : (cs : List Context) → map (rename_context (λ x. x) (λ x. x)) cs ≡ cs
 outer-id [] = refl

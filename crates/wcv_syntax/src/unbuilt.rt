@@ -1,13 +1,13 @@
 // What of an item is not built yet, for messages.
-use crate::component_type::{ComponentFuncType, ComponentTypeRef, ComponentValType};
+use crate::component_type::{ComponentType, ComponentTypeRef};
 use crate::instance::ComponentExternalKind;
 use crate::name::{ComponentExport, ComponentExternName, ComponentImport};
 use std::fmt;
 use wcv_core::Excerpt;
 
-/// Shows what of a function type is not built.
+/// Shows what of a type is not built.
 #[derive(Clone, Copy)]
-pub struct FuncForm<'a>(pub &'a ComponentFuncType);
+pub struct TypeForm<'a>(pub &'a ComponentType);
 
 /// Shows what of an import is not built.
 #[derive(Clone, Copy)]
@@ -17,26 +17,14 @@ pub struct ImportForm<'a>(pub &'a ComponentImport);
 #[derive(Clone, Copy)]
 pub struct ExportForm<'a>(pub &'a ComponentExport);
 
-fn is_index(ty: &ComponentValType) -> bool {
-    matches!(ty, ComponentValType::Ty(_))
-}
-
-/// Whether a parameter or the result is a type by its index.
-fn has_index(func: &ComponentFuncType) -> bool {
-    match &func.result {
-        Some(result) if is_index(result) => true,
-        _ => func.params.iter().any(|param| is_index(&param.1)),
-    }
-}
-
-impl fmt::Display for FuncForm<'_> {
+impl fmt::Display for TypeForm<'_> {
     fn fmt<W: fmt::Write>(&self, f: &mut fmt::Formatter<W>) -> fmt::Result {
-        f.write_str(if self.0.async_ {
-            "async function types are not built yet"
-        } else if has_index(self.0) {
-            "types by index in a function type are not built yet"
-        } else {
-            "`error-context` in a function type is not built yet"
+        f.write_str(match self.0 {
+            ComponentType::Defined(_) => "handles (`own` and `borrow`) are not built yet",
+            ComponentType::Func(_) => "this function type is not built yet",
+            ComponentType::Component(_) => "component types are not built yet",
+            ComponentType::Instance(_) => "instance types are not built yet",
+            ComponentType::Resource { .. } => "resources are not built yet",
         })
     }
 }

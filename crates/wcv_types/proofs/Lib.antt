@@ -25,3 +25,4 @@ pub mod Aligning
 pub mod Sums
 pub mod Forming
 pub mod Knowing
+pub mod AbiRenamed

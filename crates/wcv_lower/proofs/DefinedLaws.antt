@@ -1,0 +1,136 @@
+-- Defined value types under a renaming.
+use Rattle.std.proofs.Common.{◌≡◌, ℕ, [], ◌∷◌, ◌++◌, refl, sym, ◌∙◌, ap, Bool, Some, None}
+use Rattle.std.specs.Prelude.{Option, not}
+use Rattle.std.specs.Option.{option_map}
+use Rattle.wcv_core.specs.Names.{Name, base}
+use Rattle.wcv_core.specs.declared.error.ErrorKind.TheVariants as kind
+use Rattle.wcv_core.specs.declared.features.WasmFeatures.{WasmFeatures}
+use Rattle.wcv_core.specs.declared.primitive.PrimitiveValType.{PrimitiveValType}
+use Rattle.wcv_syntax.specs.declared.component_type.ComponentDefinedType.{ComponentDefinedType}
+use Rattle.wcv_syntax.specs.declared.component_type.ComponentDefinedType.TheVariants as d
+use Rattle.wcv_syntax.specs.declared.component_type.ComponentValType.{ComponentValType}
+use Rattle.wcv_syntax.specs.Model.{Defined_form, record_of, variant_of, tuple_of, flags_of, enum_of, simple}
+use Rattle.wcv_types.specs.Abi.{Mark, handle, borrow, contains, abi_size}
+use Rattle.wcv_types.specs.Measure.{size, depth}
+use Rattle.wcv_types.specs.Rename.{rename, rename_parts}
+use Rattle.wcv_types.specs.Tree as tree
+use Rattle.wcv_types.specs.Tree.{Former, nothing, primitive, resource, defined, func, instance, component, type_entity, node, Parts}
+use Rattle.wcv_types.proofs.AbiRenamed.{abi_size-rename, contains-rename}
+use Rattle.wcv_types.proofs.Measure.{size-rename, depth-rename}
+use Rattle.wcv_lower.specs.Checks.{Checks, if_found, too_many, max_size, max_depth, max_abi_size}
+use Rattle.wcv_lower.specs.Context.{Type_tree, Context}
+use Rattle.wcv_lower.specs.Defined.{former, written_parts, defined_tree, own_checks, primitive_of, is_key, is_char, has_borrow, bad_key, bad_map_value, bad_element, simple_content, content_checks, size_checks, defined_checks}
+use Rattle.wcv_lower.specs.Renamed.{rename_context}
+use Rattle.wcv_lower.specs.Values.{value_tree, option_tree, parts_trees, parts_checks}
+use Rattle.wcv_lower.proofs.Laws.{mapped-square}
+use Rattle.wcv_lower.proofs.ValueLaws.{value_tree-renamed, option_tree-renamed, parts_trees-renamed, parts_checks-renamed}
+
+-- sizes are those of the same parts under another identity
+pub sizes_aside : (k : Former) (i i' : Name) (o : Option (Parts Name Name)) →
+    if_found size_checks (option_map (λ (ps : Parts Name Name). node (defined i k) ps) o) ≡ if_found size_checks (option_map (λ (ps : Parts Name Name). node (defined i' k) ps) o)
+sizes_aside k i i' None = refl
+sizes_aside k i i' (Some ps) = refl
+
+module _ (f g : Name → Name) where
+  pub defined_tree-renamed : (i : Name) (c : Context) (x : Defined_form) → defined_tree (g i) (rename_context f g c) x ≡ option_map (rename f g) (defined_tree i c x)
+  defined_tree-renamed i c x =
+      ap (option_map (λ (ps : Parts Name Name). node (defined (g i) (former x)) ps)) (parts_trees-renamed f g c (written_parts x)) ∙
+      mapped-square (rename_parts f g) (λ (ps : Parts Name Name). node (defined (g i) (former x)) ps) (λ (ps : Parts Name Name). node (defined i (former x)) ps) (rename f g) (λ ps. refl) (parts_trees c (written_parts x))
+
+  primitive_of-renamed : (t : Type_tree) → primitive_of (rename f g t) ≡ primitive_of t
+  primitive_of-renamed (node (primitive p) ps) = refl
+  primitive_of-renamed (node (defined i (tree.named p)) ps) = refl
+  primitive_of-renamed (node (defined i tree.record_of) ps) = refl
+  primitive_of-renamed (node (defined i tree.variant_of) ps) = refl
+  primitive_of-renamed (node (defined i tree.list_of) ps) = refl
+  primitive_of-renamed (node (defined i tree.map_of) ps) = refl
+  primitive_of-renamed (node (defined i tree.tuple_of) ps) = refl
+  primitive_of-renamed (node (defined i tree.option_of) ps) = refl
+  primitive_of-renamed (node (defined i tree.result_of) ps) = refl
+  primitive_of-renamed (node (defined i tree.own_of) ps) = refl
+  primitive_of-renamed (node (defined i tree.borrow_of) ps) = refl
+  primitive_of-renamed (node (defined i tree.future_of) ps) = refl
+  primitive_of-renamed (node (defined i tree.stream_of) ps) = refl
+  primitive_of-renamed (node (defined i (tree.fixed_list_of n)) ps) = refl
+  primitive_of-renamed (node (defined i (tree.flags_of ns)) ps) = refl
+  primitive_of-renamed (node (defined i (tree.enum_of ns)) ps) = refl
+  primitive_of-renamed (node nothing ps) = refl
+  primitive_of-renamed (node (resource r s) ps) = refl
+  primitive_of-renamed (node (func i b) ps) = refl
+  primitive_of-renamed (node (instance i own) ps) = refl
+  primitive_of-renamed (node (component i ins outs) ps) = refl
+  primitive_of-renamed (node type_entity ps) = refl
+
+  has_borrow-renamed : (t : Type_tree) → has_borrow (rename f g t) ≡ has_borrow t
+  has_borrow-renamed t = ap (λ (b : Bool). (kind.Borrow, b) ∷ []) (contains-rename f g borrow t)
+
+  bad_key-renamed : (t : Type_tree) → bad_key (rename f g t) ≡ bad_key t
+  bad_key-renamed t = ap (λ (p : Option PrimitiveValType). (kind.Shape, not (is_key p)) ∷ []) (primitive_of-renamed t)
+
+  bad_map_value-renamed : (t : Type_tree) → bad_map_value (rename f g t) ≡ bad_map_value t
+  bad_map_value-renamed t = ap (λ (b : Bool). (kind.Shape, b) ∷ []) (contains-rename f g handle t)
+
+  bad_element-renamed : (t : Type_tree) → bad_element (rename f g t) ≡ bad_element t
+  bad_element-renamed t = ap (λ (p : Option PrimitiveValType). (kind.Shape, is_char p) ∷ []) (primitive_of-renamed t)
+
+  in_stream-renamed : (t : Type_tree) → (has_borrow (rename f g t) ++ bad_element (rename f g t)) ≡ (has_borrow t ++ bad_element t)
+  in_stream-renamed t =
+      let a : has_borrow (rename f g t) ≡ has_borrow t = has_borrow-renamed t in
+      let b : bad_element (rename f g t) ≡ bad_element t = bad_element-renamed t in
+      λ j. a j ++ b j
+
+  pub size_checks-renamed : (t : Type_tree) → size_checks (rename f g t) ≡ size_checks t
+  size_checks-renamed t =
+      let s : size (rename f g t) ≡ size t = size-rename f g t in
+      let n : depth (rename f g t) ≡ depth t = depth-rename f g t in
+      let a : abi_size 4 (rename f g t) ≡ abi_size 4 t = abi_size-rename f g 4 t in
+      let b : abi_size 8 (rename f g t) ≡ abi_size 8 t = abi_size-rename f g 8 t in
+      λ j. too_many max_size (s j) ++ (too_many max_depth (n j) ++ (too_many max_abi_size (a j) ++ too_many max_abi_size (b j)))
+
+  -- checks of what was found
+  pub found-same : (cs : Type_tree → Checks) → ((t : Type_tree) → cs (rename f g t) ≡ cs t) → (o p : Option Type_tree) → p ≡ option_map (rename f g) o → if_found cs p ≡ if_found cs o
+  found-same cs h o p e = ap (if_found cs) e ∙ go o
+    where
+      go : (q : Option Type_tree) → if_found cs (option_map (rename f g) q) ≡ if_found cs q
+      go None = refl
+      go (Some t) = h t
+
+  pub result-renamed : (c : Context) (o : Option ComponentValType) → if_found has_borrow (option_tree (rename_context f g c) o) ≡ if_found has_borrow (option_tree c o)
+  result-renamed c o = found-same has_borrow has_borrow-renamed (option_tree c o) (option_tree (rename_context f g c) o) (option_tree-renamed f g c o)
+
+  simple_content-renamed : (c : Context) (x : ComponentDefinedType) → simple_content (rename_context f g c) x ≡ simple_content c x
+  simple_content-renamed c (d.Map k v) =
+      let a : if_found bad_key (value_tree (rename_context f g c) k) ≡ if_found bad_key (value_tree c k) = found-same bad_key bad_key-renamed (value_tree c k) (value_tree (rename_context f g c) k) (value_tree-renamed f g c k) in
+      let b : if_found bad_map_value (value_tree (rename_context f g c) v) ≡ if_found bad_map_value (value_tree c v) = found-same bad_map_value bad_map_value-renamed (value_tree c v) (value_tree (rename_context f g c) v) (value_tree-renamed f g c v) in
+      λ j. a j ++ b j
+  simple_content-renamed c (d.Future o) = result-renamed c o
+  simple_content-renamed c (d.Stream o) = found-same (λ t. has_borrow t ++ bad_element t) in_stream-renamed (option_tree c o) (option_tree (rename_context f g c) o) (option_tree-renamed f g c o)
+  simple_content-renamed c (d.Primitive p) = refl
+  simple_content-renamed c (d.Record fs) = refl
+  simple_content-renamed c (d.Variant cs) = refl
+  simple_content-renamed c (d.List v) = refl
+  simple_content-renamed c (d.FixedLengthList v n) = refl
+  simple_content-renamed c (d.Tuple vs) = refl
+  simple_content-renamed c (d.Flags ns) = refl
+  simple_content-renamed c (d.Enum ns) = refl
+  simple_content-renamed c (d.Option v) = refl
+  simple_content-renamed c (d.Result o e) = refl
+  simple_content-renamed c (d.Own r) = refl
+  simple_content-renamed c (d.Borrow r) = refl
+
+  content_checks-renamed : (c : Context) (x : Defined_form) → content_checks (rename_context f g c) x ≡ content_checks c x
+  content_checks-renamed c (simple x) = simple_content-renamed c x
+  content_checks-renamed c (record_of fs) = refl
+  content_checks-renamed c (variant_of cs) = refl
+  content_checks-renamed c (tuple_of vs) = refl
+  content_checks-renamed c (flags_of ns) = refl
+  content_checks-renamed c (enum_of ns) = refl
+
+  pub defined_checks-renamed : (fs : WasmFeatures) (c : Context) (x : Defined_form) → defined_checks fs (rename_context f g c) x ≡ defined_checks fs c x
+  defined_checks-renamed fs c x =
+      let a : parts_checks fs (rename_context f g c) (written_parts x) ≡ parts_checks fs c (written_parts x) = parts_checks-renamed f g fs c (written_parts x) in
+      let b : content_checks (rename_context f g c) x ≡ content_checks c x = content_checks-renamed c x in
+      let s : if_found size_checks (defined_tree (base []) (rename_context f g c) x) ≡ if_found size_checks (defined_tree (base []) c x) =
+      sizes_aside (former x) (base []) (g (base [])) (parts_trees (rename_context f g c) (written_parts x)) ∙
+      found-same size_checks size_checks-renamed (defined_tree (base []) c x) (defined_tree (g (base [])) (rename_context f g c) x) (defined_tree-renamed (base []) c x) in
+      λ j. own_checks fs x ++ (a j ++ (b j ++ s j))

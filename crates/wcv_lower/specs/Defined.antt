@@ -1,0 +1,185 @@
+-- Defined value types as they are written.
+use Rattle.std.specs.Prelude.{ℕ, List, [], ◌∷◌, ◌++◌, map, length, Bool, true, false, not, ◌||◌, ◌==◌, nat_lt, Option, Some, None}
+use Rattle.std.specs.Option.{option_map}
+use Rattle.wcv_core.specs.Names.{Name, base}
+use Rattle.wcv_core.specs.declared.error.ErrorKind.TheVariants as kind
+use Rattle.wcv_core.specs.declared.features.WasmFeatures.{WasmFeatures}
+use Rattle.wcv_core.specs.declared.primitive.PrimitiveValType.{PrimitiveValType}
+use Rattle.wcv_core.specs.declared.primitive.PrimitiveValType.TheVariants as prim
+use Rattle.wcv_syntax.specs.declared.component_type.ComponentDefinedType.{ComponentDefinedType}
+use Rattle.wcv_syntax.specs.declared.component_type.ComponentDefinedType.TheVariants as d
+use Rattle.wcv_syntax.specs.declared.component_type.ComponentValType.{ComponentValType}
+use Rattle.wcv_syntax.specs.Model.{Defined_form, record_of, variant_of, tuple_of, flags_of, enum_of, simple}
+use Rattle.wcv_types.specs.Abi.{Mark, handle, borrow, contains, abi_size}
+use Rattle.wcv_types.specs.Measure.{size, depth}
+use Rattle.wcv_types.specs.Tree as tree
+use Rattle.wcv_types.specs.Tree.{Text, Former, here, label, defined, primitive, node, Tree}
+use Rattle.wcv_lower.specs.Checks.{Checks, if_found, too_many, each_too_long, label_checks, max_size, max_depth, max_list, max_elements, max_abi_size, max_flags}
+use Rattle.wcv_lower.specs.Context.{Type_tree, Context}
+use Rattle.wcv_lower.specs.Values.{lacks, cm_async, cm_map, cm_fixed_length_lists, value_tree, value_checks, option_tree, Written_parts, parts_trees, parts_checks}
+
+-- ## What it is made of
+
+abbrev pub simple_former : ComponentDefinedType → Former
+simple_former (d.Primitive p) = tree.named p
+simple_former (d.List v) = tree.list_of
+simple_former (d.Map k v) = tree.map_of
+simple_former (d.FixedLengthList v n) = tree.fixed_list_of n
+simple_former (d.Option v) = tree.option_of
+simple_former (d.Result o e) = tree.result_of
+simple_former (d.Own r) = tree.own_of
+simple_former (d.Borrow r) = tree.borrow_of
+simple_former (d.Future o) = tree.future_of
+simple_former (d.Stream o) = tree.stream_of
+-- those that hold a vector stand for themselves in no form
+simple_former (d.Record fs) = tree.record_of
+simple_former (d.Variant cs) = tree.variant_of
+simple_former (d.Tuple vs) = tree.tuple_of
+simple_former (d.Flags ns) = tree.flags_of ns.items
+simple_former (d.Enum ns) = tree.enum_of ns.items
+
+abbrev pub former : Defined_form → Former
+former (record_of fs) = tree.record_of
+former (variant_of cs) = tree.variant_of
+former (tuple_of vs) = tree.tuple_of
+former (flags_of ns) = tree.flags_of ns
+former (enum_of ns) = tree.enum_of ns
+former (simple x) = simple_former x
+
+abbrev pub simple_parts : ComponentDefinedType → Written_parts
+simple_parts (d.List v) = (here, Some v) ∷ []
+simple_parts (d.Map k v) = (here, Some k) ∷ (here, Some v) ∷ []
+simple_parts (d.FixedLengthList v n) = (here, Some v) ∷ []
+simple_parts (d.Option v) = (here, Some v) ∷ []
+simple_parts (d.Result o e) = (here, o) ∷ (here, e) ∷ []
+simple_parts (d.Future o) = (here, o) ∷ []
+simple_parts (d.Stream o) = (here, o) ∷ []
+simple_parts x = []
+
+-- the value types in it
+abbrev pub written_parts : Defined_form → Written_parts
+written_parts (record_of fs) = map (λ f. (label f.0, Some f.1)) fs
+written_parts (variant_of cs) = map (λ c. (label c.name, c.ty)) cs
+written_parts (tuple_of vs) = map (λ v. (here, Some v)) vs
+written_parts (flags_of ns) = []
+written_parts (enum_of ns) = []
+written_parts (simple x) = simple_parts x
+
+-- the names in it
+abbrev pub names_in : Defined_form → List Text
+names_in (record_of fs) = map (λ f. f.0) fs
+names_in (variant_of cs) = map (λ c. c.name) cs
+names_in (tuple_of vs) = []
+names_in (flags_of ns) = ns
+names_in (enum_of ns) = ns
+names_in (simple x) = []
+
+-- the tree under an identity, where each value type is found
+abbrev pub defined_tree : Name → Context → Defined_form → Option Type_tree
+defined_tree i c x = option_map (λ ps. node (defined i (former x)) ps) (parts_trees c (written_parts x))
+
+-- ## How many entries
+
+-- there is none
+abbrev pub is_empty : {X : Type 0} → List X → Bool
+is_empty [] = true
+is_empty (x ∷ xs) = false
+
+abbrev pub no_entry : {X : Type 0} → List X → Checks
+no_entry xs = (kind.Shape, is_empty xs) ∷ []
+
+abbrev pub simple_shape : ComponentDefinedType → Checks
+simple_shape (d.FixedLengthList v n) = (kind.Shape, n == 0) ∷ too_many max_elements n
+simple_shape x = []
+
+abbrev pub shape_checks : Defined_form → Checks
+shape_checks (record_of fs) = no_entry fs
+shape_checks (variant_of cs) = no_entry cs
+shape_checks (tuple_of vs) = no_entry vs
+shape_checks (flags_of ns) = (kind.Shape, is_empty ns || nat_lt max_flags (length ns)) ∷ []
+shape_checks (enum_of ns) = no_entry ns
+shape_checks (simple x) = simple_shape x
+
+-- ## Features
+
+abbrev pub simple_features : WasmFeatures → ComponentDefinedType → Checks
+simple_features fs (d.Map k v) = lacks fs cm_map
+simple_features fs (d.FixedLengthList v n) = lacks fs cm_fixed_length_lists
+simple_features fs (d.Future o) = lacks fs cm_async
+simple_features fs (d.Stream o) = lacks fs cm_async
+simple_features fs x = []
+
+abbrev pub feature_checks : WasmFeatures → Defined_form → Checks
+feature_checks fs (simple x) = simple_features fs x
+feature_checks fs x = []
+
+-- ## What may stand in it
+
+-- the primitive that a type is, under a name or not
+abbrev pub primitive_of : Type_tree → Option PrimitiveValType
+primitive_of (node (primitive p) ps) = Some p
+primitive_of (node (defined i (tree.named p)) ps) = Some p
+primitive_of t = None
+
+-- a primitive that keys of a map may have
+abbrev pub is_key : Option PrimitiveValType → Bool
+is_key None = false
+is_key (Some prim.F32) = false
+is_key (Some prim.F64) = false
+is_key (Some prim.ErrorContext) = false
+is_key (Some p) = true
+
+abbrev pub is_char : Option PrimitiveValType → Bool
+is_char (Some prim.Char) = true
+is_char o = false
+
+-- no borrowed handle may stand in it
+abbrev pub has_borrow : Type_tree → Checks
+has_borrow t = (kind.Borrow, contains borrow t) ∷ []
+
+abbrev pub bad_key : Type_tree → Checks
+bad_key t = (kind.Shape, not (is_key (primitive_of t))) ∷ []
+
+abbrev pub bad_map_value : Type_tree → Checks
+bad_map_value t = (kind.Shape, contains handle t) ∷ []
+
+abbrev pub bad_element : Type_tree → Checks
+bad_element t = (kind.Shape, is_char (primitive_of t)) ∷ []
+
+abbrev pub simple_content : Context → ComponentDefinedType → Checks
+simple_content c (d.Map k v) = if_found bad_key (value_tree c k) ++ if_found bad_map_value (value_tree c v)
+simple_content c (d.Future o) = if_found has_borrow (option_tree c o)
+simple_content c (d.Stream o) = if_found (λ t. has_borrow t ++ bad_element t) (option_tree c o)
+simple_content c x = []
+
+abbrev pub content_checks : Context → Defined_form → Checks
+content_checks c (simple x) = simple_content c x
+content_checks c x = []
+
+-- ## Limits
+
+-- a type that is too large, too deep, or too large in memory
+abbrev pub size_checks : Type_tree → Checks
+size_checks t = too_many max_size (size t) ++ (too_many max_depth (depth t) ++ (too_many max_abi_size (abi_size 4 t) ++ too_many max_abi_size (abi_size 8 t)))
+
+-- ## All causes, but for the limits that are left to the caller
+
+-- the causes that need no context
+abbrev pub own_checks : WasmFeatures → Defined_form → Checks
+own_checks fs x = shape_checks x ++ (label_checks (names_in x) ++ feature_checks fs x)
+
+abbrev pub defined_checks : WasmFeatures → Context → Defined_form → Checks
+defined_checks fs c x = own_checks fs x ++ (parts_checks fs c (written_parts x) ++ (content_checks c x ++ if_found size_checks (defined_tree (base []) c x)))
+
+-- how long its list is
+abbrev pub list_length : Defined_form → ℕ
+list_length (record_of fs) = length fs
+list_length (variant_of cs) = length cs
+list_length (tuple_of vs) = length vs
+list_length (flags_of ns) = length ns
+list_length (enum_of ns) = length ns
+list_length (simple x) = 0
+
+-- the limits that are left to the caller
+abbrev pub defined_left : Defined_form → Checks
+defined_left x = too_many max_list (list_length x) ++ each_too_long (names_in x)
