@@ -241,6 +241,26 @@ result_stands a s h =
     slot_stands_at a (field_slots s.params.items ((here, option_slot s.result) ∷ [])) (length s.params.items) (here, option_slot s.result) h.parts
     (behind_fields s.params.items (here, option_slot s.result))
 
+-- what stands in the k-th parameter, and in what stands behind them
+pub given_stands : (a : Arena) (fs : List (Text × ComponentValType)) (x : Role × Slot) (k : ℕ) (f : Text × ComponentValType) → All (Stands a) (parts_in (field_slots fs (x ∷ []))) → k < length fs → f ≡ get_or fs k f → SlotStands a (value_slot f.1)
+given_stands a fs x k f h w e = slot_stands_at a (field_slots fs (x ∷ [])) k (label f.0, value_slot f.1) h (field_at fs (x ∷ []) k f (slice_get_read fs (length fs) k f refl w e))
+
+pub given_result : (a : Arena) (fs : List (Text × ComponentValType)) (x : Role × Slot) → All (Stands a) (parts_in (field_slots fs (x ∷ []))) → SlotStands a x.1
+given_result a fs x h = slot_stands_at a (field_slots fs (x ∷ [])) (length fs) x h (behind_fields fs x)
+
+-- fields, and one more slot behind them
+pub fields_behind : (fs : List (Text × ComponentValType)) (x : Role × Slot) → field_slots fs (x ∷ []) ≡ field_slots fs [] ++ x ∷ []
+fields_behind [] x = refl
+fields_behind (f ∷ fs) x = ap (λ (ss : Slots). (label f.0, value_slot f.1) ∷ ss) (fields_behind fs x)
+
+fields_push : (fs : List (Text × ComponentValType)) (f : Text × ComponentValType) → field_slots (fs ++ f ∷ []) [] ≡ field_slots fs [] ++ (label f.0, value_slot f.1) ∷ []
+fields_push [] f = refl
+fields_push (g ∷ fs) f = ap (λ (ss : Slots). (label g.0, value_slot g.1) ∷ ss) (fields_push fs f)
+
+pub fields_next : (fs : List (Text × ComponentValType)) (k : ℕ) (f : Text × ComponentValType) → k < length fs → f ≡ get_or fs k f → field_slots (take (k + 1) fs) [] ≡ field_slots (take k fs) [] ++ (label f.0, value_slot f.1) ∷ []
+fields_next fs k f w e =
+    ap (λ (j : ℕ). field_slots (take j fs) []) (add-one k) ∙ ap (λ gs. field_slots gs []) (take-next fs k f (slice_get_read fs (length fs) k f refl w e)) ∙ fields_push (take k fs) f
+
 -- whether the fields from k on and what stands behind them are named
 abbrev pub named_from : List Type_tree → ComponentFuncType → ℕ → Bool
 named_from ts s k = are_named [] (slot_parts ts (field_slots (drop k s.params.items) ((here, option_slot s.result) ∷ [])))

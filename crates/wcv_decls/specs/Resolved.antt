@@ -1,0 +1,41 @@
+-- What types by ids stand for, in a context where they were looked up.
+use Rattle.std.specs.Prelude.{ℕ, List, [], ◌∷◌, ◌++◌, false, Option, Some, All, ◌≡◌}
+use Rattle.wcv_core.specs.declared.features.WasmFeatures.{WasmFeatures}
+use Rattle.wcv_syntax.specs.declared.component_type.ComponentValType.{ComponentValType as Written_value}
+use Rattle.wcv_syntax.specs.Model.{Defined_form, Func_form}
+use Rattle.wcv_types.specs.Arena.{Arena}
+use Rattle.wcv_types.specs.Entities.{SlotStands}
+use Rattle.wcv_types.specs.Standing.{Stands}
+use Rattle.wcv_types.specs.Tree.{Role, here}
+use Rattle.wcv_types.specs.Unfold.{Slots, value_slot, option_slot, value_slots, value_parts, field_slots, former_of, handles, parts_in, slot_tree, slot_parts, trees}
+use Rattle.wcv_types.specs.declared.shapes.ComponentDefinedType.{ComponentDefinedType}
+use Rattle.wcv_types.specs.declared.shapes.ComponentFuncType.{ComponentFuncType}
+use Rattle.wcv_types.specs.declared.shapes.ComponentValType.{ComponentValType}
+use Rattle.wcv_lower.specs.Checks.{Checks}
+use Rattle.wcv_lower.specs.Context.{Context}
+use Rattle.wcv_lower.specs.Defined.{former, written_parts, content_checks}
+use Rattle.wcv_lower.specs.Types.{func_parts}
+use Rattle.wcv_lower.specs.Values.{option_tree, Written_parts, parts_trees, parts_checks}
+
+-- a value type that may be left out
+pub record IsOption (a : Arena) (c : Context) (w : Option Written_value) (v : Option ComponentValType) : Type 0 where
+  pub stands : SlotStands a (option_slot v)
+  pub tree : option_tree c w ≡ Some (slot_tree (trees a.nodes) (option_slot v))
+
+-- what stands in slots is in the arena, and their trees are those of the value types
+pub record AreSlots (a : Arena) (c : Context) (ps : Written_parts) (ss : Slots) : Type 0 where
+  pub stands : All (Stands a) (parts_in ss)
+  pub trees : parts_trees c ps ≡ Some (slot_parts (trees a.nodes) ss)
+
+pub record IsShape (a : Arena) (c : Context) (x : Defined_form) (s : ComponentDefinedType) : Type 0 where
+  pub formed : former_of s ≡ former x
+  pub values : handles s ≡ false
+  pub slots : AreSlots a c (written_parts x) (value_slots (value_parts s))
+
+pub record IsFuncShape (a : Arena) (c : Context) (f : Func_form) (s : ComponentFuncType) : Type 0 where
+  pub async : s.async_ ≡ f.async
+  pub slots : AreSlots a c (func_parts f) (field_slots s.params.items ((here, option_slot s.result) ∷ []))
+
+-- the causes that are found where value types are looked up
+abbrev pub resolve_checks : WasmFeatures → Context → Defined_form → Checks
+resolve_checks fs c x = parts_checks fs c (written_parts x) ++ content_checks c x

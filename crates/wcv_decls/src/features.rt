@@ -1,0 +1,84 @@
+// Features that a type needs.
+ghost use Rattle.std.specs.Prelude.{◌≡◌, true, false, OnOk, OnErr, IfErr};
+ghost use Rattle.wcv_core.specs.Refusal.{error_kind, error_offset};
+ghost use Rattle.wcv_syntax.specs.View.{defined_view};
+ghost use Rattle.wcv_lower.specs.Checks.{IsFree};
+ghost use Rattle.wcv_lower.specs.Defined.{feature_checks};
+ghost use Rattle.wcv_lower.specs.Values.{has_feature, lacks, cm_async, cm_map, cm_fixed_length_lists, cm_error_context, primitive_checks};
+ghost use Rattle.wcv_state.specs.Promises.{MemoryOrCausedBy};
+
+use bitflags::Flags;
+use wcv_core::{Error, ErrorKind, PrimitiveValType, WasmFeatures};
+use wcv_syntax::ComponentDefinedType;
+
+/// Refuses what needs a feature that is missing, by its name and by what needs it.
+fn check_feature(has: bool, name: &str, needed_by: &str, offset: u64) -> Result<(), Error>
+    ensures ok { OnOk result (has ≡ true) }
+    ensures not { OnErr result (has ≡ false) }
+    ensures err { IfErr result (λ e. (error_kind e ≡ ErrorKind.Feature) × (error_offset e ≡ offset)) }
+{
+    if !has {
+        return Err(Error::new(
+            ErrorKind::Feature,
+            offset,
+            format_args!("{needed_by} needs the feature `{name}`, which the listing does not name"),
+        ));
+    }
+    Ok(())
+}
+
+/// Whether futures, streams and async functions may stand.
+pub fn check_async(features: &WasmFeatures, needed_by: &str, offset: u64) -> Result<(), Error>
+    ensures ok { OnOk result (IsFree (lacks features.now cm_async)) }
+    ensures err { IfErr result (MemoryOrCausedBy (lacks features.now cm_async) offset) }
+{
+    check_feature(features.contains(WasmFeatures::CM_ASYNC), "cm-async", needed_by, offset)
+}
+
+/// Whether a primitive may stand.
+pub fn check_primitive(
+    ty: PrimitiveValType,
+    features: &WasmFeatures,
+    offset: u64,
+) -> Result<(), Error>
+    ensures ok { OnOk result (IsFree (primitive_checks features.now ty)) }
+    ensures err { IfErr result (MemoryOrCausedBy (primitive_checks features.now ty) offset) }
+{
+    match ty {
+        PrimitiveValType::ErrorContext => check_feature(
+            features.contains(WasmFeatures::CM_ERROR_CONTEXT),
+            "cm-error-context",
+            "`error-context`",
+            offset,
+        ),
+        _ => Ok(()),
+    }
+}
+
+/// Whether a defined type of that form may stand.
+pub fn check_features(
+    ty: &ComponentDefinedType,
+    features: &WasmFeatures,
+    offset: u64,
+) -> Result<(), Error>
+    ensures ok { OnOk result (IsFree (feature_checks features.now (defined_view ty.now))) }
+    ensures err { IfErr result (MemoryOrCausedBy (feature_checks features.now (defined_view ty.now)) offset) }
+{
+    match ty {
+        ComponentDefinedType::Map(_, _) => check_feature(
+            features.contains(WasmFeatures::CM_MAP),
+            "cm-map",
+            "a map",
+            offset,
+        ),
+        ComponentDefinedType::FixedLengthList(_, _) => check_feature(
+            features.contains(WasmFeatures::CM_FIXED_LENGTH_LISTS),
+            "cm-fixed-length-lists",
+            "a list of a fixed length",
+            offset,
+        ),
+        ComponentDefinedType::Future(_) => check_async(features, "a future", offset),
+        ComponentDefinedType::Stream(_) => check_async(features, "a stream", offset),
+        _ => Ok(()),
+    }
+}

@@ -1,0 +1,5 @@
+//! Types that items declare.
+#![tactic(auto)]
+
+mod features;
+mod values;
