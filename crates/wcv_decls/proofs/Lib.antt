@@ -1,1 +1,4 @@
-pub mod Values
+pub mod Contents
+pub mod LookedUp
+pub mod Looking
+pub mod Shapes

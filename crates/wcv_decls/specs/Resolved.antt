@@ -1,14 +1,19 @@
 -- What types by ids stand for, in a context where they were looked up.
-use Rattle.std.specs.Prelude.{ℕ, List, [], ◌∷◌, ◌++◌, false, Option, Some, All, ◌≡◌}
+use Rattle.std.specs.Prelude.{ℕ, List, [], ◌∷◌, ◌++◌, Bool, true, false, Option, Some, None, All, ◌≡◌}
 use Rattle.wcv_core.specs.declared.features.WasmFeatures.{WasmFeatures}
+use Rattle.wcv_syntax.specs.declared.component_type.ComponentDefinedType.{ComponentDefinedType as Written_defined}
+use Rattle.wcv_syntax.specs.declared.component_type.ComponentDefinedType.TheVariants as written
 use Rattle.wcv_syntax.specs.declared.component_type.ComponentValType.{ComponentValType as Written_value}
 use Rattle.wcv_syntax.specs.Model.{Defined_form, Func_form}
 use Rattle.wcv_types.specs.Arena.{Arena}
 use Rattle.wcv_types.specs.Entities.{SlotStands}
 use Rattle.wcv_types.specs.Standing.{Stands}
-use Rattle.wcv_types.specs.Tree.{Role, here}
+use Rattle.wcv_syntax.specs.declared.component_type.VariantCase.{VariantCase}
+use Rattle.wcv_types.specs.Tree.{Text, Role, here, label}
 use Rattle.wcv_types.specs.Unfold.{Slots, value_slot, option_slot, value_slots, value_parts, field_slots, former_of, handles, parts_in, slot_tree, slot_parts, trees}
+use Rattle.wcv_core.specs.declared.primitive.PrimitiveValType.{PrimitiveValType}
 use Rattle.wcv_types.specs.declared.shapes.ComponentDefinedType.{ComponentDefinedType}
+use Rattle.wcv_types.specs.declared.shapes.ComponentDefinedType.TheVariants as d
 use Rattle.wcv_types.specs.declared.shapes.ComponentFuncType.{ComponentFuncType}
 use Rattle.wcv_types.specs.declared.shapes.ComponentValType.{ComponentValType}
 use Rattle.wcv_lower.specs.Checks.{Checks}
@@ -16,6 +21,28 @@ use Rattle.wcv_lower.specs.Context.{Context}
 use Rattle.wcv_lower.specs.Defined.{former, written_parts, content_checks}
 use Rattle.wcv_lower.specs.Types.{func_parts}
 use Rattle.wcv_lower.specs.Values.{option_tree, Written_parts, parts_trees, parts_checks}
+
+-- ## Value types in their roles
+
+abbrev pub written_field : Text × Written_value → Role × Option Written_value
+written_field f = (label f.0, Some f.1)
+
+abbrev pub field_part : Text × ComponentValType → Role × Option ComponentValType
+field_part f = (label f.0, Some f.1)
+
+abbrev pub written_case : VariantCase → Role × Option Written_value
+written_case c = (label c.name, c.ty)
+
+abbrev pub case_part : Text × Option ComponentValType → Role × Option ComponentValType
+case_part c = (label c.0, c.1)
+
+abbrev pub written_item : Written_value → Role × Option Written_value
+written_item v = (here, Some v)
+
+abbrev pub item_part : ComponentValType → Role × Option ComponentValType
+item_part v = (here, Some v)
+
+-- ## What was looked up
 
 -- a value type that may be left out
 pub record IsOption (a : Arena) (c : Context) (w : Option Written_value) (v : Option ComponentValType) : Type 0 where
@@ -39,3 +66,17 @@ pub record IsFuncShape (a : Arena) (c : Context) (f : Func_form) (s : ComponentF
 -- the causes that are found where value types are looked up
 abbrev pub resolve_checks : WasmFeatures → Context → Defined_form → Checks
 resolve_checks fs c x = parts_checks fs c (written_parts x) ++ content_checks c x
+
+-- the primitive that is named
+abbrev pub shape_primitive : ComponentDefinedType → Option PrimitiveValType
+shape_primitive (d.Primitive p) = Some p
+shape_primitive s = None
+
+-- a defined type without a list in it
+abbrev pub holds_no_list : Written_defined → Bool
+holds_no_list (written.Record fs) = false
+holds_no_list (written.Variant cs) = false
+holds_no_list (written.Tuple vs) = false
+holds_no_list (written.Flags ns) = false
+holds_no_list (written.Enum ns) = false
+holds_no_list x = true

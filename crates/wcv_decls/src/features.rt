@@ -65,6 +65,9 @@ pub fn check_features(
     ensures err { IfErr result (MemoryOrCausedBy (feature_checks features.now (defined_view ty.now)) offset) }
 {
     match ty {
+        ComponentDefinedType::Primitive(primitive) => {
+            check_primitive(*primitive, features, offset)
+        }
         ComponentDefinedType::Map(_, _) => check_feature(
             features.contains(WasmFeatures::CM_MAP),
             "cm-map",

@@ -13,7 +13,7 @@ use wcv_syntax::ComponentValType as Written;
 use wcv_types::{ComponentValType, TypeAlloc};
 
 /// The value type that is written.
-#[tactic(auto, using(crate::proofs::Values::primitive_is, crate::proofs::Values::index_is, crate::proofs::Values::index_free, crate::proofs::Values::index_caused))]
+#[tactic(auto, using(crate::proofs::LookedUp::primitive_is))]
 pub fn resolve(
     ty: Written,
     state: &ComponentState,
@@ -36,7 +36,7 @@ pub fn resolve(
 }
 
 /// So of one that may be left out.
-#[tactic(auto, using(crate::proofs::Values::nothing_is))]
+#[tactic(auto, using(crate::proofs::LookedUp::nothing_is))]
 pub fn resolve_option(
     ty: Option<Written>,
     state: &ComponentState,

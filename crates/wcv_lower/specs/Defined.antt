@@ -16,7 +16,7 @@ use Rattle.wcv_types.specs.Tree as tree
 use Rattle.wcv_types.specs.Tree.{Text, Former, here, label, defined, primitive, node, Tree}
 use Rattle.wcv_lower.specs.Checks.{Checks, if_found, too_many, each_too_long, label_checks, max_size, max_depth, max_list, max_elements, max_abi_size, max_flags}
 use Rattle.wcv_lower.specs.Context.{Type_tree, Context}
-use Rattle.wcv_lower.specs.Values.{lacks, cm_async, cm_map, cm_fixed_length_lists, value_tree, value_checks, option_tree, Written_parts, parts_trees, parts_checks}
+use Rattle.wcv_lower.specs.Values.{lacks, primitive_checks, cm_async, cm_map, cm_fixed_length_lists, value_tree, value_checks, option_tree, Written_parts, parts_trees, parts_checks}
 
 -- ## What it is made of
 
@@ -103,6 +103,7 @@ shape_checks (simple x) = simple_shape x
 -- ## Features
 
 abbrev pub simple_features : WasmFeatures → ComponentDefinedType → Checks
+simple_features fs (d.Primitive p) = primitive_checks fs p
 simple_features fs (d.Map k v) = lacks fs cm_map
 simple_features fs (d.FixedLengthList v n) = lacks fs cm_fixed_length_lists
 simple_features fs (d.Future o) = lacks fs cm_async

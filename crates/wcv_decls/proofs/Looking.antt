@@ -1,0 +1,118 @@
+-- Lists of value types that were looked up in order.
+use Rattle.std.proofs.Common.{◌≡◌, ℕ, List, [], ◌∷◌, ◌++◌, map, length, refl, sym, ◌∙◌, ap, subst, append_assoc, append-nil, Some, None, inl, inr}
+use Rattle.std.specs.Prelude.{Option, All}
+use Rattle.std.specs.Option.{option_map, option_and_then}
+use Rattle.std.proofs.lemmas.List.{map-append}
+use Rattle.std.proofs.lemmas.List.Elements.{All-append, All-cons, All-nil}
+use Rattle.wcv_core.specs.Names.{Name}
+use Rattle.wcv_core.specs.Refusal.{error_kind}
+use Rattle.wcv_core.specs.declared.error.Error.{Error}
+use Rattle.wcv_core.specs.declared.error.ErrorKind.{ErrorKind}
+use Rattle.wcv_core.specs.declared.features.WasmFeatures.{WasmFeatures}
+use Rattle.wcv_syntax.specs.declared.component_type.ComponentValType.{ComponentValType as Written_value}
+use Rattle.wcv_types.specs.Arena.{Arena}
+use Rattle.wcv_types.specs.Entities.{SlotStands}
+use Rattle.wcv_types.specs.Standing.{Stands}
+use Rattle.wcv_types.specs.Tree.{Role, Parts, none, part}
+use Rattle.wcv_types.specs.Unfold.{Type_tree, Slot, leaf, at, both, Slots, option_slot, value_slots, slot_refs, parts_in, slot_tree, slot_parts, trees}
+use Rattle.wcv_types.specs.declared.ids.Part.{Part}
+use Rattle.wcv_types.specs.declared.shapes.ComponentValType.{ComponentValType}
+use Rattle.wcv_types.proofs.Knowing.{parts_in-append}
+use Rattle.wcv_lower.specs.Checks.{Checks, Cause, IsFree}
+use Rattle.wcv_lower.specs.Context.{Context}
+use Rattle.wcv_lower.specs.Values.{option_tree, Written_parts, behind, parts_trees, option_checks, parts_checks}
+use Rattle.wcv_lower.proofs.Causes.{cause_left, cause_right, free_both, free_left, free_right}
+use Rattle.wcv_state.specs.Promises.{MemoryOrCausedBy}
+use Rattle.wcv_state.proofs.Calls.{caused_more}
+use Rattle.wcv_decls.specs.Resolved.{IsOption, AreSlots}
+
+-- ## One more part
+
+abbrev push_part : Role → Type_tree → Parts Name Name → Parts Name Name
+push_part r t none = part r t none
+push_part r t (part q u ps) = part q u (push_part r t ps)
+
+slots_push : (ts : List Type_tree) (ss : Slots) (x : Role × Slot) → slot_parts ts (ss ++ x ∷ []) ≡ push_part x.0 (slot_tree ts x.1) (slot_parts ts ss)
+slots_push ts [] x = refl
+slots_push ts (s ∷ ss) x = ap (part s.0 (slot_tree ts s.1)) (slots_push ts ss x)
+
+trees_push : (c : Context) (ps : Written_parts) (p : Role × Option Written_value) (qs : Parts Name Name) (t : Type_tree) → parts_trees c ps ≡ Some qs → option_tree c p.1 ≡ Some t → parts_trees c (ps ++ p ∷ []) ≡ Some (push_part p.0 t qs)
+trees_push c [] p qs t e f =
+    let same : none ≡ qs = cc in
+    ap (option_and_then (behind p.0 (Some none))) f ∙ ap (λ (rs : Parts Name Name). Some (push_part p.0 t rs)) same
+trees_push c (q ∷ ps) p qs t e f = go (option_tree c q.1) (parts_trees c ps) refl refl e (λ rs j. trees_push c ps p rs t j f)
+  where
+    go : (o : Option Type_tree) (r : Option (Parts Name Name)) → option_tree c q.1 ≡ o → parts_trees c ps ≡ r → option_and_then (behind q.0 r) o ≡ Some qs →
+        ((rs : Parts Name Name) → parts_trees c ps ≡ Some rs → parts_trees c (ps ++ p ∷ []) ≡ Some (push_part p.0 t rs)) →
+        option_and_then (behind q.0 (parts_trees c (ps ++ p ∷ []))) (option_tree c q.1) ≡ Some (push_part p.0 t qs)
+    go None r i j k more = cc
+    go (Some u) None i j k more = cc
+    go (Some u) (Some rs) i j k more =
+        let same : part q.0 u rs ≡ qs = cc in
+        (λ l. option_and_then (behind q.0 (more rs j l)) (i l)) ∙ ap (λ (xs : Parts Name Name). Some (push_part p.0 t xs)) same
+
+pub refs_of : (a : Arena) (s : Slot) → SlotStands a s → All (Stands a) (slot_refs s)
+refs_of a (leaf o) h = All-nil (Stands a)
+refs_of a (at q) h = All-cons (Stands a) q [] h (All-nil (Stands a))
+refs_of a (both c r) h = All-cons (Stands a) c (r ∷ []) h.0 (All-cons (Stands a) r [] h.1 (All-nil (Stands a)))
+
+pub are_no_slots : (a : Arena) (c : Context) → AreSlots a c [] []
+are_no_slots a c = record { stands = All-nil (Stands a); trees = refl }
+
+pub are_slots_push : (a : Arena) (c : Context) (ps : Written_parts) (ss : Slots) (p : Role × Option Written_value) (v : Option ComponentValType) → AreSlots a c ps ss → IsOption a c p.1 v → AreSlots a c (ps ++ p ∷ []) (ss ++ (p.0, option_slot v) ∷ [])
+are_slots_push a c ps ss p v h o = record {
+  stands = subst (All (Stands a)) (sym (parts_in-append ss ((p.0, option_slot v) ∷ [])))
+      (All-append (Stands a) (parts_in ss) (slot_refs (option_slot v) ++ []) h.stands (subst (All (Stands a)) (sym (append-nil (slot_refs (option_slot v)))) (refs_of a (option_slot v) o.stands)));
+  trees = trees_push c ps p (slot_parts (trees a.nodes) ss) (slot_tree (trees a.nodes) (option_slot v)) h.trees o.tree ∙ ap Some (sym (slots_push (trees a.nodes) ss (p.0, option_slot v)));
+}
+
+free_push : (fs : WasmFeatures) (c : Context) (ps : Written_parts) (p : Role × Option Written_value) → IsFree (parts_checks fs c ps) → IsFree (option_checks fs c p.1) → IsFree (parts_checks fs c (ps ++ p ∷ []))
+free_push fs c [] p h o = free_both (option_checks fs c p.1) [] o tt
+free_push fs c (q ∷ ps) p h o =
+    free_both (option_checks fs c q.1) (parts_checks fs c (ps ++ p ∷ [])) (free_left (option_checks fs c q.1) (parts_checks fs c ps) h) (free_push fs c ps p (free_right (option_checks fs c q.1) (parts_checks fs c ps) h) o)
+
+cause_in : (fs : WasmFeatures) (c : Context) (ps : Written_parts) (p : Role × Option Written_value) (qs : Written_parts) (k : ErrorKind) → Cause (option_checks fs c p.1) k → Cause (parts_checks fs c (ps ++ p ∷ qs)) k
+cause_in fs c [] p qs k h = cause_left (option_checks fs c p.1) (parts_checks fs c qs) k h
+cause_in fs c (q ∷ ps) p qs k h = cause_right (option_checks fs c q.1) (parts_checks fs c (ps ++ p ∷ qs)) k (cause_in fs c ps p qs k h)
+
+-- ## A list, as far as it was looked up
+
+module _ {X Y : Type 0} (a : Arena) (c : Context) (fs : WasmFeatures) (g : X → Role × Option Written_value) (h : Y → Role × Option ComponentValType) where
+  -- the others are left
+  pub record Looked (items rest : List X) (out : List Y) : Type 0 where
+    pub done : List X
+    pub all : done ++ rest ≡ items
+    pub slots : AreSlots a c (map g done) (value_slots (map h out))
+    pub free : IsFree (parts_checks fs c (map g done))
+
+  pub looked_none : (items rest : List X) → rest ≡ items → Looked items rest []
+  looked_none items rest e = record { done = []; all = e; slots = are_no_slots a c; free = tt }
+
+  pub looked_next : (items rest : List X) (out : List Y) (x : X) (y : Y) → Looked items (x ∷ rest) out → (h y).0 ≡ (g x).0 → IsOption a c (g x).1 (h y).1 → IsFree (option_checks fs c (g x).1) → Looked items rest (out ++ y ∷ [])
+  looked_next items rest out x y w e o f =
+      let ps : map g (w.done ++ x ∷ []) ≡ map g w.done ++ g x ∷ [] = map-append g w.done (x ∷ []) in
+      let ss : value_slots (map h (out ++ y ∷ [])) ≡ value_slots (map h out) ++ ((g x).0, option_slot (h y).1) ∷ [] =
+      ap value_slots (map-append h out (y ∷ [])) ∙ map-append (λ p. (p.0, option_slot p.1)) (map h out) (h y ∷ []) ∙
+      ap (λ (r : Role). value_slots (map h out) ++ (r, option_slot (h y).1) ∷ []) e in
+      record {
+        done = w.done ++ x ∷ [];
+        all = append_assoc w.done (x ∷ []) rest ∙ w.all;
+        slots = subst (λ qs. AreSlots a c qs (value_slots (map h (out ++ y ∷ [])))) (sym ps) (subst (AreSlots a c (map g w.done ++ g x ∷ [])) (sym ss) (are_slots_push a c (map g w.done) (value_slots (map h out)) (g x) (h y).1 w.slots o));
+        free = subst (λ qs. IsFree (parts_checks fs c qs)) (sym ps) (free_push fs c (map g w.done) (g x) w.free f);
+      }
+
+  pub looked_all : (items rest : List X) (out : List Y) → rest ≡ [] → Looked items rest out → AreSlots a c (map g items) (value_slots (map h out))
+  looked_all items rest out e w =
+      let all : w.done ≡ items = sym (append-nil w.done) ∙ ap (λ ys. w.done ++ ys) (sym e) ∙ w.all in
+      subst (λ xs. AreSlots a c (map g xs) (value_slots (map h out))) all w.slots
+
+  pub looked_free : (items rest : List X) (out : List Y) → rest ≡ [] → Looked items rest out → IsFree (parts_checks fs c (map g items))
+  looked_free items rest out e w =
+      let all : w.done ≡ items = sym (append-nil w.done) ∙ ap (λ ys. w.done ++ ys) (sym e) ∙ w.all in
+      subst (λ xs. IsFree (parts_checks fs c (map g xs))) all w.free
+
+  pub looked_caused : (items rest : List X) (out : List Y) (x : X) (offset : ℕ) (e : Error) → Looked items (x ∷ rest) out → MemoryOrCausedBy (option_checks fs c (g x).1) offset e → MemoryOrCausedBy (parts_checks fs c (map g items)) offset e
+  looked_caused items rest out x offset e w t =
+      caused_more (option_checks fs c (g x).1) (parts_checks fs c (map g items)) offset e
+      (λ k. subst (λ xs. Cause (parts_checks fs c (map g xs)) (error_kind e)) w.all
+          (subst (λ qs. Cause (parts_checks fs c qs) (error_kind e)) (sym (map-append g w.done (x ∷ rest))) (cause_in fs c (map g w.done) (g x) (map g rest) (error_kind e) k))) t

@@ -1,0 +1,112 @@
+// What may stand in a type.
+ghost use Rattle.std.specs.Prelude.{◌≡◌, OnOk, IfErr};
+ghost use Rattle.wcv_lower.specs.Checks.{IsFree};
+ghost use Rattle.wcv_lower.specs.Defined.{primitive_of, bad_key, bad_map_value, bad_element, has_borrow};
+ghost use Rattle.wcv_state.specs.Promises.{MemoryOrCausedBy};
+ghost use Rattle.wcv_types.specs.Entities.{SlotStands};
+ghost use Rattle.wcv_types.specs.Unfold.{value_slot, option_slot, slot_tree, trees};
+ghost use Rattle.wcv_decls.specs.Resolved.{shape_primitive};
+
+use wcv_core::{Error, ErrorKind, PrimitiveValType};
+use wcv_types::{ComponentDefinedType, ComponentValType, TypeAlloc};
+
+/// The primitive that has a name there.
+fn named_primitive(shape: &ComponentDefinedType) -> Option<PrimitiveValType>
+    ensures { result ≡ shape_primitive shape.now }
+{
+    match shape {
+        ComponentDefinedType::Primitive(primitive) => Some(*primitive),
+        _ => None,
+    }
+}
+
+/// The primitive that a value type is, under a name or not.
+#[tactic(auto, using(crate::proofs::Contents::primitive_shape))]
+fn primitive_in(ty: &ComponentValType, types: &TypeAlloc) -> Option<PrimitiveValType>
+    requires { SlotStands types.now (value_slot ty.now) }
+    ensures { result ≡ primitive_of (slot_tree (trees types.now.nodes) (value_slot ty.now)) }
+{
+    match ty {
+        ComponentValType::Primitive(primitive) => Some(*primitive),
+        ComponentValType::Ty(id) => named_primitive(types.get(*id)),
+    }
+}
+
+/// Whether keys of a map may have the type.
+pub fn check_key(ty: &ComponentValType, types: &TypeAlloc, offset: u64) -> Result<(), Error>
+    requires { SlotStands types.now (value_slot ty.now) }
+    ensures ok { OnOk result (IsFree (bad_key (slot_tree (trees types.now.nodes) (value_slot ty.now)))) }
+    ensures err { IfErr result (MemoryOrCausedBy (bad_key (slot_tree (trees types.now.nodes) (value_slot ty.now))) offset) }
+{
+    match primitive_in(ty, types) {
+        None
+        | Some(PrimitiveValType::F32)
+        | Some(PrimitiveValType::F64)
+        | Some(PrimitiveValType::ErrorContext) => Err(Error::new(
+            ErrorKind::Shape,
+            offset,
+            "the key of a map must be a primitive other than `f32`, `f64` and `error-context`",
+        )),
+        Some(_) => Ok(()),
+    }
+}
+
+/// Whether values of a map may have the type.
+pub fn check_map_value(ty: &ComponentValType, types: &TypeAlloc, offset: u64) -> Result<(), Error>
+    requires { SlotStands types.now (value_slot ty.now) }
+    ensures ok { OnOk result (IsFree (bad_map_value (slot_tree (trees types.now.nodes) (value_slot ty.now)))) }
+    ensures err { IfErr result (MemoryOrCausedBy (bad_map_value (slot_tree (trees types.now.nodes) (value_slot ty.now))) offset) }
+{
+    if types.abi_info(ty).contains_handle {
+        return Err(Error::new(
+            ErrorKind::Shape,
+            offset,
+            "the value of a map may hold no handle, future, stream or `error-context`",
+        ));
+    }
+    Ok(())
+}
+
+/// Whether no borrowed handle stands in what may be left out. Where it stands is for the message.
+pub fn check_borrow(
+    ty: &Option<ComponentValType>,
+    types: &TypeAlloc,
+    place: &str,
+    offset: u64,
+) -> Result<(), Error>
+    requires { SlotStands types.now (option_slot ty.now) }
+    ensures ok { OnOk result (IsFree (has_borrow (slot_tree (trees types.now.nodes) (option_slot ty.now)))) }
+    ensures err { IfErr result (MemoryOrCausedBy (has_borrow (slot_tree (trees types.now.nodes) (option_slot ty.now))) offset) }
+{
+    match ty {
+        Some(ty) if types.abi_info(ty).contains_borrow => Err(Error::new(
+            ErrorKind::Borrow,
+            offset,
+            format_args!("{place} may hold no borrowed handle"),
+        )),
+        _ => Ok(()),
+    }
+}
+
+/// Whether a stream may have elements of the type.
+pub fn check_element(
+    ty: &Option<ComponentValType>,
+    types: &TypeAlloc,
+    offset: u64,
+) -> Result<(), Error>
+    requires { SlotStands types.now (option_slot ty.now) }
+    ensures ok { OnOk result (IsFree (bad_element (slot_tree (trees types.now.nodes) (option_slot ty.now)))) }
+    ensures err { IfErr result (MemoryOrCausedBy (bad_element (slot_tree (trees types.now.nodes) (option_slot ty.now))) offset) }
+{
+    let Some(ty) = ty else {
+        return Ok(());
+    };
+    match primitive_in(ty, types) {
+        Some(PrimitiveValType::Char) => Err(Error::new(
+            ErrorKind::Shape,
+            offset,
+            "a stream of `char` is not allowed: a stream of `u8`, or of `string`, is",
+        )),
+        _ => Ok(()),
+    }
+}
