@@ -2,3 +2,8 @@ pub mod Contents
 pub mod LookedUp
 pub mod Looking
 pub mod Shapes
+pub mod Functions
+pub mod Storing
+pub mod Positions
+pub mod Repeats
+pub mod Texts

@@ -66,12 +66,12 @@ are_slots_push a c ps ss p v h o = record {
   trees = trees_push c ps p (slot_parts (trees a.nodes) ss) (slot_tree (trees a.nodes) (option_slot v)) h.trees o.tree ∙ ap Some (sym (slots_push (trees a.nodes) ss (p.0, option_slot v)));
 }
 
-free_push : (fs : WasmFeatures) (c : Context) (ps : Written_parts) (p : Role × Option Written_value) → IsFree (parts_checks fs c ps) → IsFree (option_checks fs c p.1) → IsFree (parts_checks fs c (ps ++ p ∷ []))
+pub free_push : (fs : WasmFeatures) (c : Context) (ps : Written_parts) (p : Role × Option Written_value) → IsFree (parts_checks fs c ps) → IsFree (option_checks fs c p.1) → IsFree (parts_checks fs c (ps ++ p ∷ []))
 free_push fs c [] p h o = free_both (option_checks fs c p.1) [] o tt
 free_push fs c (q ∷ ps) p h o =
     free_both (option_checks fs c q.1) (parts_checks fs c (ps ++ p ∷ [])) (free_left (option_checks fs c q.1) (parts_checks fs c ps) h) (free_push fs c ps p (free_right (option_checks fs c q.1) (parts_checks fs c ps) h) o)
 
-cause_in : (fs : WasmFeatures) (c : Context) (ps : Written_parts) (p : Role × Option Written_value) (qs : Written_parts) (k : ErrorKind) → Cause (option_checks fs c p.1) k → Cause (parts_checks fs c (ps ++ p ∷ qs)) k
+pub cause_in : (fs : WasmFeatures) (c : Context) (ps : Written_parts) (p : Role × Option Written_value) (qs : Written_parts) (k : ErrorKind) → Cause (option_checks fs c p.1) k → Cause (parts_checks fs c (ps ++ p ∷ qs)) k
 cause_in fs c [] p qs k h = cause_left (option_checks fs c p.1) (parts_checks fs c qs) k h
 cause_in fs c (q ∷ ps) p qs k h = cause_right (option_checks fs c q.1) (parts_checks fs c (ps ++ p ∷ qs)) k (cause_in fs c ps p qs k h)
 

@@ -16,9 +16,10 @@ use Rattle.wcv_types.specs.declared.shapes.ComponentDefinedType.{ComponentDefine
 use Rattle.wcv_types.specs.declared.shapes.ComponentDefinedType.TheVariants as d
 use Rattle.wcv_types.specs.declared.shapes.ComponentFuncType.{ComponentFuncType}
 use Rattle.wcv_types.specs.declared.shapes.ComponentValType.{ComponentValType}
-use Rattle.wcv_lower.specs.Checks.{Checks}
+use Rattle.wcv_types.specs.declared.info.TypeInfo.{TypeInfo}
+use Rattle.wcv_lower.specs.Checks.{Checks, if_found, too_many, max_size, max_depth, max_abi_size}
 use Rattle.wcv_lower.specs.Context.{Context}
-use Rattle.wcv_lower.specs.Defined.{former, written_parts, content_checks}
+use Rattle.wcv_lower.specs.Defined.{former, written_parts, content_checks, has_borrow}
 use Rattle.wcv_lower.specs.Types.{func_parts}
 use Rattle.wcv_lower.specs.Values.{option_tree, Written_parts, parts_trees, parts_checks}
 
@@ -80,3 +81,11 @@ holds_no_list (written.Tuple vs) = false
 holds_no_list (written.Flags ns) = false
 holds_no_list (written.Enum ns) = false
 holds_no_list x = true
+
+-- so of a function type
+abbrev pub func_resolve_checks : WasmFeatures → Context → Func_form → Checks
+func_resolve_checks fs c f = parts_checks fs c (func_parts f) ++ if_found has_borrow (option_tree c f.result)
+
+-- the limits of a type's size, over what the arena keeps
+abbrev pub kept_checks : TypeInfo → ℕ → ℕ → Checks
+kept_checks info size32 size64 = too_many max_size info.size ++ (too_many max_depth info.depth ++ (too_many max_abi_size size32 ++ too_many max_abi_size size64))

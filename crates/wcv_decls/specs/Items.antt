@@ -4,6 +4,8 @@ use Rattle.wcv_core.specs.Names.{Name, Place, number}
 use Rattle.wcv_syntax.specs.Built.{is_built_type}
 use Rattle.wcv_syntax.specs.Model.{Type_form, type_item}
 use Rattle.wcv_types.specs.Arena.{Arena}
+use Rattle.wcv_types.specs.Unfold.{tree_of, trees}
+use Rattle.wcv_types.specs.declared.arena.Node.{Node}
 use Rattle.wcv_lower.specs.Checks.{Checks, IsFree}
 use Rattle.wcv_lower.specs.Context.{Type_tree, Context, Scope, in_types, push, type_entry}
 use Rattle.wcv_lower.specs.Given.{GivenNames, names_of, GivesAt}
@@ -17,7 +19,14 @@ use Rattle.wcv_state.specs.Promises.{numbers_of, Keeps, if_built}
 abbrev pub declare_checks : Bool → Scope → Context → Type_form → Checks
 declare_checks limited sc c t = if_built (is_built_type t) (type_checks limited sc c t)
 
--- the types grew by a node, which is the arena's next one
+-- the node is the arena's next one, and joined the types
+pub record Stored (a b : Arena) (s s' : Contents) (x : Node) : Type 0 where
+  pub grown : context_of b s' ≡ push in_types (type_entry (tree_of (trees a.nodes) x)) (context_of a s)
+  pub nodes : length b.nodes ≡ suc (length a.nodes)
+  pub live : s'.spent ≡ false
+  pub keeps : Keeps a b s s'
+
+-- so of the node of a type item
 pub record Added (a b : Arena) (s s' : Contents) (t : Type_form) : Type 0 where
   pub tree : Type_tree
   pub is_tree : type_tree (number (length a.nodes)) (context_of a s) t ≡ Some tree

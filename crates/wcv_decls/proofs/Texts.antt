@@ -1,0 +1,30 @@
+-- Texts of a list, one after another.
+use Rattle.std.proofs.Common.{◌≡◌, ℕ, suc, ◌+◌, List, [], ◌∷◌, ◌++◌, take, drop, Some, sym, subst, inr}
+use Rattle.std.specs.Prelude.{slice_get}
+use Rattle.wcv_core.specs.Refusal.{error_kind}
+use Rattle.wcv_core.specs.declared.error.Error.{Error}
+use Rattle.wcv_core.specs.declared.error.ErrorKind.{ErrorKind}
+use Rattle.wcv_types.specs.Tree.{Text}
+use Rattle.wcv_lower.specs.Checks.{Cause, IsFree, too_long, each_too_long}
+use Rattle.wcv_lower.proofs.Causes.{cause_left}
+use Rattle.wcv_state.specs.Promises.{MemoryOrCausedBy}
+use Rattle.wcv_state.proofs.Calls.{caused_more}
+use Rattle.wcv_decls.proofs.Positions.{take-at, split-at}
+
+one_more : (ts : List Text) (t : Text) → IsFree (each_too_long ts) → IsFree (too_long t) → IsFree (each_too_long (ts ++ t ∷ []))
+one_more [] t f g = (g.0, tt)
+one_more (u ∷ ts) t f g = (f.0, one_more ts t f.1 g)
+
+one_fails : (ts us : List Text) (t : Text) (k : ErrorKind) → Cause (too_long t) k → Cause (each_too_long (ts ++ t ∷ us)) k
+one_fails [] us t k c = cause_left (too_long t) (each_too_long us) k c
+one_fails (u ∷ ts) us t k c = inr (one_fails ts us t k c)
+
+module _ (ts : List Text) (i : ℕ) (t : Text) (at : slice_get ts i ≡ Some t) where
+  pub texts_push : IsFree (each_too_long (take i ts)) → IsFree (too_long t) → IsFree (each_too_long (take (i + 1) ts))
+  texts_push f g = subst (λ (xs : List Text). IsFree (each_too_long xs)) (sym (take-at ts i t at)) (one_more (take i ts) t f g)
+
+  -- a text that is too long
+  pub texts_caused : (offset : ℕ) (e : Error) → MemoryOrCausedBy (too_long t) offset e → MemoryOrCausedBy (each_too_long ts) offset e
+  texts_caused offset e c =
+      caused_more (too_long t) (each_too_long ts) offset e
+      (λ d. subst (λ (xs : List Text). Cause (each_too_long xs) (error_kind e)) (split-at ts i t at) (one_fails (take i ts) (drop (suc i) ts) t (error_kind e) d)) c

@@ -1,0 +1,125 @@
+// Limits that the adding of a type leaves to its caller.
+ghost use Rattle.std.specs.Prelude.{length, ◌++◌, OnOk, IfErr};
+ghost use Rattle.wcv_syntax.specs.View.{defined_view, func_view, type_view};
+ghost use Rattle.wcv_lower.specs.Checks.{IsFree, too_long, too_many, each_too_long};
+ghost use Rattle.wcv_lower.specs.Defined.{defined_left};
+ghost use Rattle.wcv_lower.specs.Types.{func_left, type_left};
+ghost use Rattle.wcv_state.specs.NameLists.{list_names};
+ghost use Rattle.wcv_state.specs.Promises.{MemoryOrCausedBy};
+
+use wcv_core::{Error, ErrorKind, Excerpt, Text};
+use wcv_state::NameList;
+use wcv_syntax::{ComponentDefinedType, ComponentFuncType, ComponentType};
+
+/// The most parameters of a function.
+const MAX_PARAMS: usize = 1000;
+
+/// The most entries of another list inside an item.
+const MAX_LIST: usize = 100_000;
+
+/// The longest text of an item, in bytes.
+const LONGEST_TEXT: usize = 100_000;
+
+/// Whether a name of a type is not too long. What has the name is for the message.
+fn check_text(text: &Text, word: &str, offset: u64) -> Result<(), Error>
+    ensures ok { OnOk result (IsFree (too_long text.now)) }
+    ensures err { IfErr result (MemoryOrCausedBy (too_long text.now) offset) }
+{
+    let bytes = text.as_str().len();
+    if bytes > LONGEST_TEXT {
+        let excerpt = Excerpt(text.as_str());
+        return Err(Error::new(
+            ErrorKind::Limit,
+            offset,
+            format_args!(
+                "{word} name `{excerpt}` has {bytes} bytes, at most {LONGEST_TEXT} are allowed"
+            ),
+        ));
+    }
+    Ok(())
+}
+
+/// So of each name of a list.
+fn check_texts(list: NameList<'_>, offset: u64) -> Result<(), Error>
+    ensures ok { OnOk result (IsFree (each_too_long (list_names list.entry))) }
+    ensures err { IfErr result (MemoryOrCausedBy (each_too_long (list_names list.entry)) offset) }
+{
+    for k in 0..list.len() {
+        check_text(list.text_at(k), list.word(), offset)?;
+    }
+    Ok(())
+}
+
+/// Whether a type has no more entries than a limit. What it is, and what an entry of it is, are for the message.
+fn check_count(count: usize, limit: usize, ty: &str, word: &str, offset: u64) -> Result<(), Error>
+    ensures ok { OnOk result (IsFree (too_many limit count)) }
+    ensures err { IfErr result (MemoryOrCausedBy (too_many limit count) offset) }
+{
+    if count > limit {
+        return Err(Error::new(
+            ErrorKind::Limit,
+            offset,
+            format_args!("{ty} has {count} {word}s, at most {limit} are allowed"),
+        ));
+    }
+    Ok(())
+}
+
+/// Both limits of a list of names.
+fn check_list(list: NameList<'_>, limit: usize, ty: &str, offset: u64) -> Result<(), Error>
+    ensures ok { OnOk result (IsFree (too_many limit (length (list_names list.entry)) ++ each_too_long (list_names list.entry))) }
+    ensures err { IfErr result (MemoryOrCausedBy (too_many limit (length (list_names list.entry)) ++ each_too_long (list_names list.entry)) offset) }
+{
+    check_count(list.len(), limit, ty, list.word(), offset)?;
+    check_texts(list, offset)
+}
+
+/// The limits of a defined type.
+fn check_defined(ty: &ComponentDefinedType, offset: u64) -> Result<(), Error>
+    ensures ok { OnOk result (IsFree (defined_left (defined_view ty.now))) }
+    ensures err { IfErr result (MemoryOrCausedBy (defined_left (defined_view ty.now)) offset) }
+{
+    match ty {
+        ComponentDefinedType::Record(fields) => {
+            check_list(NameList::Fields(fields), MAX_LIST, "record", offset)
+        }
+        ComponentDefinedType::Variant(cases) => {
+            check_list(NameList::Cases(cases), MAX_LIST, "variant", offset)
+        }
+        ComponentDefinedType::Tuple(types) => {
+            check_count(types.len(), MAX_LIST, "tuple", "type", offset)
+        }
+        ComponentDefinedType::Flags(names) => {
+            check_list(NameList::Flags(names), MAX_LIST, "flags type", offset)
+        }
+        ComponentDefinedType::Enum(names) => {
+            check_list(NameList::EnumCases(names), MAX_LIST, "enum", offset)
+        }
+        _ => Ok(()),
+    }
+}
+
+/// The limits of a function type.
+fn check_func(func: &ComponentFuncType, offset: u64) -> Result<(), Error>
+    ensures ok { OnOk result (IsFree (func_left (func_view func.now))) }
+    ensures err { IfErr result (MemoryOrCausedBy (func_left (func_view func.now)) offset) }
+{
+    check_list(
+        NameList::Params(&func.params),
+        MAX_PARAMS,
+        "function",
+        offset,
+    )
+}
+
+/// Whether a type item keeps the limits of its lists and of its texts.
+pub fn check_limits(ty: &ComponentType, offset: u64) -> Result<(), Error>
+    ensures ok { OnOk result (IsFree (type_left (type_view ty.now))) }
+    ensures err { IfErr result (MemoryOrCausedBy (type_left (type_view ty.now)) offset) }
+{
+    match ty {
+        ComponentType::Defined(defined) => check_defined(defined, offset),
+        ComponentType::Func(func) => check_func(func, offset),
+        _ => Ok(()),
+    }
+}
