@@ -4,6 +4,8 @@ pub mod Looking
 pub mod Shapes
 pub mod Functions
 pub mod Storing
+pub mod Adding
+pub mod Naming
 pub mod Positions
 pub mod Repeats
 pub mod Texts

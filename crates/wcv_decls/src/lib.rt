@@ -1,7 +1,9 @@
 //! Types that items declare.
 #![tactic(auto)]
 
+mod add;
 mod content;
+mod declare;
 mod defined;
 mod features;
 mod func;
@@ -12,3 +14,6 @@ mod shape;
 mod size;
 mod store;
 mod values;
+
+pub use declare::add_type_to;
+pub use limits::check_limits;

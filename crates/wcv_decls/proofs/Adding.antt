@@ -1,0 +1,140 @@
+-- A type item whose node was stored, and its causes.
+use Rattle.std.proofs.Common.{◌≡◌, ℕ, List, [], ◌∷◌, ◌++◌, length, refl, sym, ◌∙◌, ap, subst, Some, None, ◌⊎◌, inl, inr}
+use Rattle.std.specs.Prelude.{Option}
+use Rattle.std.specs.Option.{option_map}
+use Rattle.wcv_core.specs.Names.{Name, base, number}
+use Rattle.wcv_core.specs.Refusal.{error_kind}
+use Rattle.wcv_core.specs.declared.error.Error.{Error}
+use Rattle.wcv_core.specs.declared.features.WasmFeatures.{WasmFeatures}
+use Rattle.wcv_syntax.specs.Model.{Defined_form, Func_form, defined_type, func_type}
+use Rattle.wcv_types.specs.Arena.{Arena}
+use Rattle.wcv_types.specs.Standing.{Stands, Fits}
+use Rattle.wcv_types.specs.Tree.{Former, defined, func, node, Parts, here}
+use Rattle.wcv_types.specs.Unfold.{Type_tree, Slots, former_of, value_slots, value_parts, defined_slots, option_slot, field_slots, slot_parts, tree_of, trees, parts_in}
+use Rattle.wcv_types.specs.declared.arena.Node.TheVariants as n
+use Rattle.wcv_types.specs.declared.shapes.ComponentDefinedType.{ComponentDefinedType}
+use Rattle.wcv_types.specs.declared.shapes.ComponentFuncType.{ComponentFuncType}
+use Rattle.std.specs.Prelude.{All, Bool}
+use Rattle.wcv_types.proofs.Forming.{slots_of_values}
+use Rattle.wcv_types.proofs.Grown.{length-trees}
+use Rattle.wcv_lower.specs.Checks.{Checks, Cause, IsFree, if_found}
+use Rattle.wcv_lower.specs.Context.{Context}
+use Rattle.wcv_lower.specs.Defined.{former, written_parts, defined_tree, has_borrow, own_checks, content_checks, size_checks, defined_checks}
+use Rattle.wcv_lower.specs.Types.{func_parts, func_tree, func_own_checks, func_checks, tree_checks}
+use Rattle.wcv_lower.specs.Values.{option_tree, parts_trees, parts_checks}
+use Rattle.wcv_lower.proofs.Causes.{cause_left, cause_right, cause_either, free_both, free_left, free_right}
+use Rattle.wcv_state.specs.Contents.{Contents, context_of}
+use Rattle.wcv_state.specs.Promises.{MemoryOrCausedBy}
+use Rattle.wcv_state.proofs.Calls.{caused_more}
+use Rattle.wcv_decls.specs.Items.{Stored, Added}
+use Rattle.wcv_decls.specs.Resolved.{IsShape, IsFuncShape, resolve_checks, func_resolve_checks}
+
+-- ## Defined types
+
+module _ (a : Arena) (c : Context) (x : Defined_form) (s : ComponentDefinedType) (h : IsShape a c x s) where
+  abbrev ts : List Type_tree
+  ts = trees a.nodes
+
+  slots_are : defined_slots s ≡ value_slots (value_parts s)
+  slots_are = slots_of_values s h.values
+
+  pub shape_fits : Fits a (n.Defined s)
+  shape_fits = record { parts = subst (λ (ss : Slots). All (Stands a) (parts_in ss)) (sym slots_are) h.slots.stands; info = tt }
+
+  shape_tree : (i : Name) → defined_tree i c x ≡ Some (node (defined i (former_of s)) (slot_parts (trees a.nodes) (defined_slots s)))
+  shape_tree i =
+      ap (option_map (λ (ps : Parts Name Name). node (defined i (former x)) ps)) h.slots.trees ∙
+      (λ j. Some (node (defined i (sym h.formed j)) (slot_parts (trees a.nodes) (sym slots_are j))))
+
+  pub defined_added : (b : Arena) (st st' : Contents) → c ≡ context_of a st → Stored a b st st' (n.Defined s) → Added a b st st' (defined_type x)
+  defined_added b st st' e w = record {
+    tree = tree_of (trees a.nodes) (n.Defined s);
+    is_tree = ap (λ (d : Context). defined_tree (number (length a.nodes)) d x) (sym e) ∙ shape_tree (number (length a.nodes)) ∙
+        ap (λ (k : ℕ). Some (node (defined (number k) (former_of s)) (slot_parts (trees a.nodes) (defined_slots s)))) (sym (length-trees a.nodes));
+    grown = w.grown;
+    nodes = w.nodes;
+    live = w.live;
+    keeps = w.keeps;
+  }
+
+  pub sizes_same : size_checks (tree_of (trees a.nodes) (n.Defined s)) ≡ if_found size_checks (defined_tree (base []) c x)
+  sizes_same = sym (ap (if_found size_checks) (shape_tree (base [])))
+
+module _ (fs : WasmFeatures) (c : Context) (x : Defined_form) where
+  abbrev sizes : Checks
+  sizes = if_found size_checks (defined_tree (base []) c x)
+
+  abbrev parts : Checks
+  parts = parts_checks fs c (written_parts x)
+
+  abbrev content : Checks
+  content = content_checks c x
+
+  pub defined_free : IsFree (own_checks fs x) → IsFree (resolve_checks fs c x) → IsFree (if_found size_checks (defined_tree (base []) c x)) → IsFree (defined_checks fs c x)
+  defined_free o r z = free_both (own_checks fs x) (parts ++ (content ++ sizes)) o (free_both parts (content ++ sizes) (free_left parts content r) (free_both content sizes (free_right parts content r) z))
+
+  pub own_caused : (offset : ℕ) (e : Error) → MemoryOrCausedBy (own_checks fs x) offset e → MemoryOrCausedBy (defined_checks fs c x) offset e
+  own_caused offset e t = caused_more (own_checks fs x) (defined_checks fs c x) offset e (cause_left (own_checks fs x) (parts ++ (content ++ sizes)) (error_kind e)) t
+
+  pub resolve_caused : (offset : ℕ) (e : Error) → MemoryOrCausedBy (resolve_checks fs c x) offset e → MemoryOrCausedBy (defined_checks fs c x) offset e
+  resolve_caused offset e t = caused_more (resolve_checks fs c x) (defined_checks fs c x) offset e
+      (λ k. cause_right (own_checks fs x) (parts ++ (content ++ sizes)) (error_kind e) (go (cause_either parts content (error_kind e) k))) t
+    where
+      go : Cause parts (error_kind e) ⊎ Cause content (error_kind e) → Cause (parts ++ (content ++ sizes)) (error_kind e)
+      go (inl k) = cause_left parts (content ++ sizes) (error_kind e) k
+      go (inr k) = cause_right parts (content ++ sizes) (error_kind e) (cause_left content sizes (error_kind e) k)
+
+  pub size_caused : (offset : ℕ) (e : Error) → MemoryOrCausedBy (if_found size_checks (defined_tree (base []) c x)) offset e → MemoryOrCausedBy (defined_checks fs c x) offset e
+  size_caused offset e t = caused_more sizes (defined_checks fs c x) offset e
+      (λ k. cause_right (own_checks fs x) (parts ++ (content ++ sizes)) (error_kind e) (cause_right parts (content ++ sizes) (error_kind e) (cause_right content sizes (error_kind e) k))) t
+
+-- ## Function types
+
+module _ (a : Arena) (c : Context) (f : Func_form) (s : ComponentFuncType) (h : IsFuncShape a c f s) where
+  func_shape_tree : (i : Name) → func_tree i c f ≡ Some (node (func i s.async_) (slot_parts (trees a.nodes) (field_slots s.params.items ((here, option_slot s.result) ∷ []))))
+  func_shape_tree i =
+      ap (option_map (λ (ps : Parts Name Name). node (func i f.async) ps)) h.slots.trees ∙
+      ap (λ (b : Bool). Some (node (func i b) (slot_parts (trees a.nodes) (field_slots s.params.items ((here, option_slot s.result) ∷ []))))) (sym h.async)
+
+  pub func_added : (b : Arena) (st st' : Contents) → c ≡ context_of a st → Stored a b st st' (n.Func s) → Added a b st st' (func_type f)
+  func_added b st st' e w = record {
+    tree = tree_of (trees a.nodes) (n.Func s);
+    is_tree = ap (λ (d : Context). func_tree (number (length a.nodes)) d f) (sym e) ∙ func_shape_tree (number (length a.nodes)) ∙
+        ap (λ (k : ℕ). Some (node (func (number k) s.async_) (slot_parts (trees a.nodes) (field_slots s.params.items ((here, option_slot s.result) ∷ []))))) (sym (length-trees a.nodes));
+    grown = w.grown;
+    nodes = w.nodes;
+    live = w.live;
+    keeps = w.keeps;
+  }
+
+  pub func_sizes_same : size_checks (tree_of (trees a.nodes) (n.Func s)) ≡ if_found size_checks (func_tree (base []) c f)
+  func_sizes_same = sym (ap (if_found size_checks) (func_shape_tree (base [])))
+
+module _ (fs : WasmFeatures) (c : Context) (f : Func_form) where
+  abbrev func_sizes : Checks
+  func_sizes = if_found size_checks (func_tree (base []) c f)
+
+  abbrev func_values : Checks
+  func_values = parts_checks fs c (func_parts f)
+
+  abbrev gives : Checks
+  gives = if_found has_borrow (option_tree c f.result)
+
+  pub func_free : IsFree (func_own_checks fs f) → IsFree (func_resolve_checks fs c f) → IsFree (if_found size_checks (func_tree (base []) c f)) → IsFree (func_checks fs c f)
+  func_free o r z =
+      free_both (func_own_checks fs f) (func_values ++ (gives ++ func_sizes)) o (free_both func_values (gives ++ func_sizes) (free_left func_values gives r) (free_both gives func_sizes (free_right func_values gives r) z))
+
+  pub func_own_caused : (offset : ℕ) (e : Error) → MemoryOrCausedBy (func_own_checks fs f) offset e → MemoryOrCausedBy (func_checks fs c f) offset e
+  func_own_caused offset e t = caused_more (func_own_checks fs f) (func_checks fs c f) offset e (cause_left (func_own_checks fs f) (func_values ++ (gives ++ func_sizes)) (error_kind e)) t
+
+  pub func_resolve_caused : (offset : ℕ) (e : Error) → MemoryOrCausedBy (func_resolve_checks fs c f) offset e → MemoryOrCausedBy (func_checks fs c f) offset e
+  func_resolve_caused offset e t = caused_more (func_resolve_checks fs c f) (func_checks fs c f) offset e
+      (λ k. cause_right (func_own_checks fs f) (func_values ++ (gives ++ func_sizes)) (error_kind e) (go (cause_either func_values gives (error_kind e) k))) t
+    where
+      go : Cause func_values (error_kind e) ⊎ Cause gives (error_kind e) → Cause (func_values ++ (gives ++ func_sizes)) (error_kind e)
+      go (inl k) = cause_left func_values (gives ++ func_sizes) (error_kind e) k
+      go (inr k) = cause_right func_values (gives ++ func_sizes) (error_kind e) (cause_left gives func_sizes (error_kind e) k)
+
+  pub func_size_caused : (offset : ℕ) (e : Error) → MemoryOrCausedBy (if_found size_checks (func_tree (base []) c f)) offset e → MemoryOrCausedBy (func_checks fs c f) offset e
+  func_size_caused offset e t = caused_more func_sizes (func_checks fs c f) offset e
+      (λ k. cause_right (func_own_checks fs f) (func_values ++ (gives ++ func_sizes)) (error_kind e) (cause_right func_values (gives ++ func_sizes) (error_kind e) (cause_right gives func_sizes (error_kind e) k))) t

@@ -1,0 +1,85 @@
+// Types that items declare, over the states that are open.
+ghost use Rattle.std.specs.Prelude.{◌≡◌, false, List, OnOk, OnErr, IfErr};
+ghost use Rattle.wcv_core.specs.Names.{Place};
+ghost use Rattle.wcv_syntax.specs.View.{type_view};
+ghost use Rattle.wcv_lower.specs.Checks.{IsFree, counts, no_type_room};
+ghost use Rattle.wcv_lower.specs.Context.{Context};
+ghost use Rattle.wcv_state.specs.Contents.{context_of, scope_of, StateStands};
+ghost use Rattle.wcv_state.specs.Promises.{MemoryOrCausedBy, RefusesBy, Keeps};
+ghost use Rattle.wcv_decls.specs.Items.{declare_checks, Added, Declared};
+
+use crate::add::add_built;
+use wcv_core::{Error, ErrorKind};
+use wcv_state::{ComponentState, check_form};
+use wcv_syntax::{ComponentType, TypeForm, is_built_type};
+use wcv_types::TypeAlloc;
+
+/// The most types and core types of a component.
+const MAX_TYPES: usize = 1_000_000;
+
+/// Whether there is room for one more type, where that is to be looked at.
+fn check_types(
+    limited: bool,
+    state: &ComponentState,
+    types: &TypeAlloc,
+    offset: u64,
+) -> Result<(), Error>
+    ensures ok { OnOk result (IsFree (no_type_room limited (counts (context_of types.now state.now)))) }
+    ensures err { IfErr result (MemoryOrCausedBy (no_type_room limited (counts (context_of types.now state.now))) offset) }
+{
+    let _ = types;
+    let count = state.type_count();
+    if limited && count >= MAX_TYPES {
+        return Err(Error::new(
+            ErrorKind::Limit,
+            offset,
+            format_args!(
+                "no room for one more type or core type: there are {count}, at most {MAX_TYPES} are allowed"
+            ),
+        ));
+    }
+    Ok(())
+}
+
+/// A type item, where nothing bars it.
+fn declare(
+    ty: ComponentType,
+    state: &mut ComponentState,
+    types: &mut TypeAlloc,
+    offset: u64,
+    check_limit: bool,
+) -> Result<(), Error>
+    requires live { state.old.spent ≡ false }
+    requires stands { StateStands types.old state.old }
+    ensures ok { OnOk result (Added types.old types.new state.old state.new (type_view ty)) }
+    ensures free { OnOk result ((outer : List Context) → IsFree (declare_checks check_limit (scope_of state.old outer) (context_of types.old state.old) (type_view ty))) }
+    ensures err { IfErr result (λ e. (outer : List Context) → MemoryOrCausedBy (declare_checks check_limit (scope_of state.old outer) (context_of types.old state.old) (type_view ty)) offset e) }
+    ensures keeps { OnErr result (Keeps types.old types.new state.old state.new) }
+{
+    check_form(is_built_type(&ty), TypeForm(&ty), offset)?;
+    check_types(check_limit, state, types, offset)?;
+    add_built(ty, state, types, offset)
+}
+
+/// A type item joins the types of a state. After an error the state is spent.
+pub fn add_type_to(
+    ty: ComponentType,
+    state: &mut ComponentState,
+    types: &mut TypeAlloc,
+    offset: u64,
+    check_limit: bool,
+) -> Result<(), Error>
+    requires live { state.old.spent ≡ false }
+    requires stands { StateStands types.old state.old }
+    ensures ok { OnOk result ((outer : List Context) (p : Place) → Declared check_limit types.old types.new outer p state.old state.new (type_view ty)) }
+    ensures err { IfErr result (λ e. (outer : List Context) → RefusesBy (declare_checks check_limit (scope_of state.old outer) (context_of types.old state.old) (type_view ty)) state.new offset e) }
+    ensures keeps { Keeps types.old types.new state.old state.new }
+{
+    match declare(ty, state, types, offset, check_limit) {
+        Ok(()) => Ok(()),
+        Err(error) => {
+            state.mark_spent();
+            Err(error)
+        }
+    }
+}
