@@ -188,8 +188,7 @@ fn push_fixed_list(
 ) -> Result<(), AllocError>
     ensures { OnOk result (Appends numbers.now (string_bytes text.old) (string_bytes text.new) (λ w. codes "fixed-list " ++ value_text w value ++ codes " " ++ decimal length)) }
 {
-    text.push_str("fixed-list ")?;
-    push_value(text, numbers, value)?;
+    push_one(text, numbers, "fixed-list ", Some(value))?;
     write!(text, " {length}")
 }
 
