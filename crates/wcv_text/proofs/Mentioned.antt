@@ -1,5 +1,5 @@
 -- What a line mentions by ids is what it mentions of the tree.
-use Rattle.std.proofs.Common.{◌≡◌, ℕ, [], ◌++◌, codes, Option, Some, None, refl, ap}
+use Rattle.std.proofs.Common.{◌≡◌, ℕ, [], Option, Some, None, refl, ap}
 use Rattle.std.specs.Prelude.{All}
 use Rattle.std.proofs.lemmas.List.Elements.{All-head}
 use Rattle.wcv_types.specs.Arena.{Arena}

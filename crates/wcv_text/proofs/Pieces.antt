@@ -1,5 +1,5 @@
 -- Pieces that are appended one after another.
-use Rattle.std.proofs.Common.{◌≡◌, ℕ, suc, ◌+◌, ◌<◌, List, ◌∷◌, ◌++◌, length, get_or, drop, drop-cons, add-one, codes, sym, ◌∙◌, ap, append_assoc}
+use Rattle.std.proofs.Common.{◌≡◌, ℕ, suc, ◌+◌, ◌<◌, List, ◌++◌, length, get_or, drop, drop-cons, add-one, codes, sym, ◌∙◌, ap, append_assoc}
 use Rattle.wcv_types.specs.Text.{Written, listed}
 use Rattle.wcv_types.specs.Tree.{Text}
 use Rattle.wcv_types.specs.declared.shapes.ComponentValType.{ComponentValType}

@@ -4,7 +4,7 @@ use Rattle.std.specs.Fmt.{decimal}
 use Rattle.wcv_types.specs.Quoting.{quoted}
 use Rattle.wcv_types.specs.Standing.{identity_of}
 use Rattle.wcv_types.specs.Text.{Written, primitive_name, node_number, param_text, listed, all_quoted}
-use Rattle.wcv_types.specs.Tree.{Text, Role, here, label}
+use Rattle.wcv_types.specs.Tree.{Text, here, label}
 use Rattle.wcv_types.specs.Unfold.{Slots, value_slots}
 use Rattle.wcv_types.specs.declared.ids.AliasableResourceId.{AliasableResourceId}
 use Rattle.wcv_types.specs.declared.ids.Part.TheVariants as part
