@@ -4,12 +4,11 @@ use Rattle.wcv_core.specs.Names.{Name}
 use Rattle.wcv_types.specs.Arena.{Arena}
 use Rattle.wcv_types.specs.Entities.{any_part, entity_tree, entry_name, EntityStands, EntryStands}
 use Rattle.wcv_types.specs.Quoting.{quoted}
-use Rattle.wcv_types.specs.Standing.{Stands, identity_of}
-use Rattle.wcv_types.specs.Text.{Written, node_number, mention, mention_head, entity_text, name_text, entry_text, entry_line, path_text, path_line, with_resource}
+use Rattle.wcv_types.specs.Standing.{identity_of}
+use Rattle.wcv_types.specs.Text.{Written, node_number, mention, entity_text, name_text, entry_text, entry_line, path_text, path_line, with_resource}
 use Rattle.wcv_types.specs.Tree.{Text, Head, head}
 use Rattle.wcv_types.specs.Unfold.{Type_tree, tree_at, trees}
 use Rattle.wcv_types.specs.declared.arena.Node.TheVariants as n
-use Rattle.wcv_types.specs.declared.ids.Part.{Part}
 use Rattle.wcv_types.specs.declared.ids.Part.TheVariants as p
 use Rattle.wcv_types.specs.declared.item_map.ComponentItem.{ComponentItem}
 use Rattle.wcv_types.specs.declared.shapes.ComponentEntityType.{ComponentEntityType}
@@ -19,26 +18,18 @@ use Rattle.wcv_types.proofs.Unfolding.{head_in}
 use Rattle.wcv_text.specs.Mentions.{entity_said, entry_said}
 use Rattle.wcv_text.specs.Numbers.{written, Shows, Appends}
 use Rattle.wcv_text.specs.declared.numbers.Numbers.{Numbers}
+use Rattle.wcv_text.proofs.Mentioned.{mention_is}
 
 -- ## Entities by ids
-
--- a type that stands is mentioned by the number of its line
-mention_is : (a : Arena) (w : Written) (q : Part) → Stands a q → mention w (tree_at a q) ≡ node_number w (identity_of q)
-mention_is a w (p.Resource r) s = refl
-mention_is a w (p.Func i) s = ap (mention_head w) (head_in a.nodes i.index (n.Func s.0) s.1)
-mention_is a w (p.Defined i) s = absurd s
-mention_is a w (p.Instance i) s = absurd s
-mention_is a w (p.Component i) s = absurd s
-mention_is a w (p.Module i) s = absurd s
-mention_is a w (p.CoreInstance i) s = absurd s
-mention_is a w (p.Core i) s = absurd s
 
 entity_is : (a : Arena) (w : Written) (x : ComponentEntityType) → EntityStands a x → entity_text w (head (entity_tree (trees a.nodes) x)) (entity_tree (trees a.nodes) x) ≡ entity_said w x
 entity_is a w (entity.Func i) s =
     let t : Type_tree = tree_at a (p.Func i) in
     ap (λ (h : Head Name Name). entity_text w h t) (head_in a.nodes i.index (n.Func s.0) s.1) ∙ ap (λ (x : Text). codes "func " ++ x) (mention_is a w (p.Func i) s)
 entity_is a w (entity.Value (v.Primitive q)) s = refl
-entity_is a w (entity.Value (v.Ty i)) s = absurd s
+entity_is a w (entity.Value (v.Ty i)) s =
+    let t : Type_tree = tree_at a (p.Defined i) in
+    ap (λ (h : Head Name Name). entity_text w h t) (head_in a.nodes i.index (n.Defined s.0) s.1) ∙ ap (λ (x : Text). codes "value " ++ x) (mention_is a w (p.Defined i) s)
 entity_is a w (entity.Ty c r) s =
     let e : mention w (tree_at a (any_part c)) ≡ node_number w (identity_of (any_part c)) = mention_is a w (any_part c) s.0 in
     let e' : mention w (tree_at a (any_part r)) ≡ node_number w (identity_of (any_part r)) = mention_is a w (any_part r) s.1 in

@@ -1,22 +1,21 @@
 -- The line of a function by ids is that of its tree.
-use Rattle.std.proofs.Common.{◌≡◌, ℕ, ◌≤◌, List, [], ◌∷◌, ◌++◌, length, drop, codes, cond, Option, Some, None, refl, sym, ◌∙◌, ap, append_assoc}
+use Rattle.std.proofs.Common.{◌≡◌, ℕ, ◌≤◌, List, [], ◌∷◌, ◌++◌, length, drop, codes, cond, Option, sym, ◌∙◌, ap, append_assoc}
 use Rattle.std.specs.Prelude.{All}
 use Rattle.std.proofs.Math.ListN.{drop_of_length-le}
-use Rattle.std.proofs.lemmas.List.Elements.{All-head}
 use Rattle.wcv_types.specs.Arena.{Arena}
 use Rattle.wcv_types.specs.Standing.{StandsBefore}
-use Rattle.wcv_types.specs.Text.{Written, mention, param_text, params_text}
+use Rattle.wcv_types.specs.Text.{Written, param_text, params_text}
 use Rattle.wcv_types.specs.Tree.{Text, here, node}
-use Rattle.wcv_types.specs.Unfold.{Type_tree, Slots, value_slot, option_slot, field_slots, slots_of, slot_refs, slot_tree, slot_parts, parts_in, parts_of, head_of, trees}
+use Rattle.wcv_types.specs.Unfold.{Type_tree, Slots, value_slot, option_slot, field_slots, slots_of, slot_refs, slot_parts, parts_in, parts_of, head_of, trees}
 use Rattle.wcv_types.specs.declared.ids.Part.{Part}
-use Rattle.wcv_types.specs.declared.ids.Part.TheVariants as part
 use Rattle.wcv_types.specs.declared.arena.Node.TheVariants as n
 use Rattle.wcv_types.specs.declared.shapes.ComponentFuncType.{ComponentFuncType}
 use Rattle.wcv_types.specs.declared.shapes.ComponentValType.{ComponentValType}
-use Rattle.wcv_types.specs.declared.shapes.ComponentValType.TheVariants as v
+use Rattle.wcv_types.proofs.Unfolding.{all_left, all_right}
 use Rattle.wcv_text.specs.FuncLine.{params_said, func_said}
 use Rattle.wcv_text.specs.Mentions.{value_text, option_text, separator}
 use Rattle.wcv_text.specs.Nodes.{form_of}
+use Rattle.wcv_text.proofs.Mentioned.{value_said, option_said}
 
 -- ## What the code writes
 
@@ -39,22 +38,14 @@ module _ (a : Arena) (bound : ℕ) (w : Written) where
   abbrev S : Part → Type 0
   S q = StandsBefore a bound q
 
-  value_said : (t : ComponentValType) (rest : List Part) → All S (slot_refs (value_slot t) ++ rest) → (mention w (slot_tree (trees a.nodes) (value_slot t)) ≡ value_text w t) × All S rest
-  value_said (v.Primitive p) rest h = (refl, h)
-  value_said (v.Ty i) rest h = absurd (All-head S (part.Defined i) rest h).stands
-
-  option_said : (r : Option ComponentValType) → All S (slot_refs (option_slot r) ++ []) → mention w (slot_tree (trees a.nodes) (option_slot r)) ≡ option_text w r
-  option_said None h = refl
-  option_said (Some t) h = (value_said t [] h).0
-
   params_are : (before : Text) (fs : List (Text × ComponentValType)) (r : Option ComponentValType) → All S (parts_in (field_slots fs ((here, option_slot r) ∷ []))) →
       params_text w before (slot_parts (trees a.nodes) (field_slots fs ((here, option_slot r) ∷ []))) ≡ params_said w before fs r
-  params_are before [] r h = ap (λ (x : Text). codes "} -> " ++ x) (option_said r h)
+  params_are before [] r h = ap (λ (x : Text). codes "} -> " ++ x) (option_said a bound w r (all_left S (slot_refs (option_slot r)) [] h))
   params_are before (f ∷ fs) r h =
       let rest : Slots = (here, option_slot r) ∷ [] in
-      let first = value_said f.1 (parts_in (field_slots fs rest)) h in
-      ap (λ (x : Text). param_text before f.0 x ++ params_text w (codes ", ") (slot_parts (trees a.nodes) (field_slots fs rest))) first.0 ∙
-      ap (λ (x : Text). param_text before f.0 (value_text w f.1) ++ x) (params_are (codes ", ") fs r first.1)
+      ap (λ (x : Text). param_text before f.0 x ++ params_text w (codes ", ") (slot_parts (trees a.nodes) (field_slots fs rest)))
+      (value_said a bound w f.1 (all_left S (slot_refs (value_slot f.1)) (parts_in (field_slots fs rest)) h)) ∙
+      ap (λ (x : Text). param_text before f.0 (value_text w f.1) ++ x) (params_are (codes ", ") fs r (all_right S (slot_refs (value_slot f.1)) (parts_in (field_slots fs rest)) h))
 
   pub func_form : (k : ℕ) (f : ComponentFuncType) (t : Type_tree) → t ≡ node (head_of k (n.Func f)) (slot_parts (trees a.nodes) (slots_of (n.Func f))) → All S (parts_of (n.Func f)) → form_of w t ≡ func_said w f
   func_form k f t e h =

@@ -87,7 +87,7 @@ slots_written a w ((r, both c q) ∷ ss) = slots_written a (write (write w (tree
 known_stands : (a : Arena) (q : Part) → Stands a q → identity_at (head (tree_at a q)) ≡ Some (identity_of q)
 known_stands a (p.Resource r) s = refl
 known_stands a (p.Func i) s = ap identity_at (head_in a.nodes i.index (n.Func s.0) s.1)
-known_stands a (p.Defined i) s = absurd s
+known_stands a (p.Defined i) s = ap identity_at (head_in a.nodes i.index (n.Defined s.0) s.1)
 known_stands a (p.Instance i) s = absurd s
 known_stands a (p.Component i) s = absurd s
 known_stands a (p.Module i) s = absurd s

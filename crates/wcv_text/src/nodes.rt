@@ -7,6 +7,8 @@ ghost use Rattle.wcv_types.specs.Unfold.{parts_at, rank, tree_at};
 ghost use Rattle.wcv_text.specs.Nodes.{form_of, own_line, NoneFrom};
 ghost use Rattle.wcv_text.specs.Numbers.{written, Appends, Writes};
 
+use crate::defined_line::push_defined;
+use crate::defined_parts::defined_parts;
 use crate::func_line::{func_parts, push_func};
 use crate::identity;
 use crate::numbers::Numbers;
@@ -23,6 +25,7 @@ fn parts(types: &TypeAlloc, part: Part) -> Result<Vec<Part>, AllocError>
 {
     let alloc = types.allocator();
     match part {
+        Part::Defined(id) => defined_parts(alloc, types.get(id)),
         Part::Func(id) => func_parts(alloc, types.get(id)),
         Part::Resource(_) => Ok(Vec::new(alloc)),
         _ => unreachable!(),
@@ -41,6 +44,7 @@ fn push_form(
     ensures form { OnOk result (Appends numbers.new (string_bytes text.old) (string_bytes text.new) (λ w. form_of w (tree_at types.now part))) }
 {
     match part {
+        Part::Defined(id) => push_defined(text, numbers, types.get(id)),
         Part::Func(id) => push_func(text, numbers, types.get(id)),
         Part::Resource(id) => push_reference(text, numbers, id.resource()),
         _ => unreachable!(),
