@@ -135,7 +135,7 @@ def is_number(value):
 
 def is_built_func(func):
     values = [param[-1] for param in func["params"]] + [func.get("result", "bool")]
-    return "async" not in func and not any(is_number(it) or it == "error-context" for it in values)
+    return not func.get("async", False) and not any(is_number(it) or it == "error-context" for it in values)
 
 
 def is_built_name(name):
@@ -163,7 +163,7 @@ def first_unread(value, body):
 def is_read(value):
     """Whether the program reads the root and each item, so that a change shows in its answer."""
     root, item, body = places(value)
-    return not root and "features" not in value and item is None and first_unread(value, body) is None
+    return not root and item is None and first_unread(value, body) is None
 
 
 # The program.
@@ -193,8 +193,8 @@ def wanted(program, text):
     except NotJson:
         return "no JSON", *exactly(3, "bad listing: not JSON")
     root, item, body = places(value)
-    if root or "features" in value:  # the features are not read yet
-        return "bad root" if root else "features", *exactly(3, "bad listing at 0")
+    if root:
+        return "bad root", *exactly(3, "bad listing at 0")
     if item is not None:
         return "bad item", *exactly(3, f"bad listing at {item}")
     kind = "accepted" if body is None else "bad body"

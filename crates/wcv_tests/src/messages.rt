@@ -46,6 +46,18 @@ An async function type.
 -
 {"at":0,"type":{"func":{"params":[],"async":true}}}
 => refused Unbuilt at 0
+item 0: async function types are not built yet
+
+A type by its index.
+-
+{"at":0,"type":{"func":{"params":[["x",0]]}}}
+=> refused Unbuilt at 0
+item 0: types by index in a function type are not built yet
+
+A defined type.
+-
+{"at":0,"type":{"defined":{"list":"u8"}}}
+=> refused Unbuilt at 0
 item 0: UNREAD
 
 An export of an instance.

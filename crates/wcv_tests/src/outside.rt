@@ -106,11 +106,33 @@ wcv validate
 => 3
 bad listing at 0
 
-A key that is not read yet.
+A key that no root has.
 wcv validate
-{"version":1,"items":[],"end":0,"features":[]}
+{"version":1,"items":[],"end":0,"feature":[]}
 => 3
 bad listing at 0
+
+A feature that is not known.
+wcv validate
+{"version":1,"items":[],"end":0,"features":["gc","cm_map"]}
+=> 3
+bad listing at 0
+
+Features that are no list.
+wcv validate
+{"version":1,"items":[],"end":0,"features":"gc"}
+=> 3
+bad listing at 0
+
+Features, one of them twice.
+wcv validate
+{"version":1,"items":[],"end":0,"features":["gc","cm-accessors","gc"]}
+=> accepted 0 0
+
+A function type that is said not to be async.
+wcv validate
+{"version":1,"items":[{"at":0,"type":{"func":{"params":[],"async":false}}}],"end":9}
+=> accepted 1 0
 
 An item that is no object.
 wcv validate

@@ -1,0 +1,214 @@
+// Defined types.
+ghost use Rattle.std.specs.Prelude.{◌≡◌, IfOk, map, option_map};
+ghost use Rattle.serde_json.specs.Find.{as_str};
+ghost use Rattle.wcv_listing.specs.Defined.{case_of, map_of, fixed_list_of, result_of, defined_forms, form_of, defined_of};
+ghost use Rattle.wcv_listing.specs.Fields.{array_of, null_or, only_key};
+ghost use Rattle.wcv_listing.specs.Seen.{view};
+ghost use Rattle.wcv_listing.specs.Values.{value_of};
+ghost use Rattle.wcv_syntax.specs.View.{defined_view};
+
+use crate::value::{has_only_keys, index_of, is_null, list_of, member_at, only_key_of, text_of};
+use crate::value_type::{primitive_of, read_optional, read_params, read_value_type};
+use json::Value;
+use std::alloc::Global;
+use wcv_core::{OutOfMemory, Text};
+use wcv_syntax::{ComponentDefinedType, ComponentValType, VariantCase};
+
+// A case of a variant.
+fn read_case(alloc: Global, value: &Value<'_>) -> Result<Option<VariantCase>, OutOfMemory>
+    ensures { IfOk result (λ c. c ≡ case_of (view value.now)) }
+{
+    let Some(list) = list_of(value) else {
+        return Ok(None);
+    };
+    if list.len() != 1 && list.len() != 2 {
+        return Ok(None);
+    }
+    let Some(name) = text_of(&list[0]) else {
+        return Ok(None);
+    };
+    let ty = if list.len() == 2 {
+        let Some(payload) = read_value_type(&list[1]) else {
+            return Ok(None);
+        };
+        Some(payload)
+    } else {
+        None
+    };
+    let name = Text::new(alloc, name)?;
+    Ok(Some(VariantCase { name, ty }))
+}
+
+// The cases of a variant.
+fn read_cases(alloc: Global, value: &Value<'_>) -> Result<Option<Vec<VariantCase>>, OutOfMemory>
+    ensures { IfOk result (λ cases. option_map (λ cs. cs.items) cases ≡ array_of case_of (view value.now)) }
+{
+    let Some(list) = list_of(value) else {
+        return Ok(None);
+    };
+    let mut cases = Vec::with_capacity(alloc, list.len())?;
+    for value in list {
+        match read_case(alloc, value)? {
+            Some(case) => cases.push(case)?,
+            None => return Ok(None),
+        }
+    }
+    Ok(Some(cases))
+}
+
+// The types of a tuple.
+fn read_types(
+    alloc: Global,
+    value: &Value<'_>,
+) -> Result<Option<Vec<ComponentValType>>, OutOfMemory>
+    ensures { IfOk result (λ types. option_map (λ ts. ts.items) types ≡ array_of value_of (view value.now)) }
+{
+    let Some(list) = list_of(value) else {
+        return Ok(None);
+    };
+    let mut types = Vec::with_capacity(alloc, list.len())?;
+    for value in list {
+        match read_value_type(value) {
+            Some(ty) => types.push(ty)?,
+            None => return Ok(None),
+        }
+    }
+    Ok(Some(types))
+}
+
+// The names of flags or of an enum.
+fn read_names(alloc: Global, value: &Value<'_>) -> Result<Option<Vec<Text>>, OutOfMemory>
+    ensures { IfOk result (λ names. option_map (λ ns. ns.items) names ≡ array_of as_str (view value.now)) }
+{
+    let Some(list) = list_of(value) else {
+        return Ok(None);
+    };
+    let mut names = Vec::with_capacity(alloc, list.len())?;
+    for value in list {
+        match text_of(value) {
+            Some(name) => names.push(Text::new(alloc, name)?)?,
+            None => return Ok(None),
+        }
+    }
+    Ok(Some(names))
+}
+
+// A map by the types of its keys and its values.
+fn read_map(value: &Value<'_>) -> Option<ComponentDefinedType>
+    ensures { option_map defined_view result ≡ map_of (view value.now) }
+{
+    let list = list_of(value)?;
+    if list.len() != 2 {
+        return None;
+    }
+    let key = read_value_type(&list[0])?;
+    let value = read_value_type(&list[1])?;
+    Some(ComponentDefinedType::Map(key, value))
+}
+
+// A list by the type of its elements and its length.
+fn read_fixed_list(value: &Value<'_>) -> Option<ComponentDefinedType>
+    ensures { option_map defined_view result ≡ fixed_list_of (view value.now) }
+{
+    let list = list_of(value)?;
+    if list.len() != 2 {
+        return None;
+    }
+    let element = read_value_type(&list[0])?;
+    let length = index_of(&list[1])?;
+    Some(ComponentDefinedType::FixedLengthList(element, length))
+}
+
+// A result by the types of its payloads.
+fn read_result(value: &Value<'_>) -> Option<ComponentDefinedType>
+    ensures { option_map defined_view result ≡ result_of (view value.now) }
+{
+    if !has_only_keys(value, &["ok", "err"]) {
+        return None;
+    }
+    let ok = read_optional(value, "ok")?;
+    let err = read_optional(value, "err")?;
+    Some(ComponentDefinedType::Result { ok, err })
+}
+
+// The type of what a future or a stream hands over, which null says is absent.
+fn read_payload(value: &Value<'_>) -> Option<Option<ComponentValType>>
+    ensures { result ≡ null_or value_of (view value.now) }
+{
+    if is_null(value) {
+        Some(None)
+    } else {
+        read_value_type(value).map(Some)
+    }
+}
+
+// The form that is the only key of the object.
+fn form_name(value: &Value<'_>) -> Option<&'static str>
+    ensures { option_map (λ name. name.now) result ≡ only_key (map (λ row. row.0) defined_forms) (view value.now) }
+{
+    only_key_of(
+        value,
+        &[
+            "record",
+            "variant",
+            "list",
+            "map",
+            "fixed-list",
+            "tuple",
+            "flags",
+            "enum",
+            "option",
+            "result",
+            "own",
+            "borrow",
+            "future",
+            "stream",
+        ],
+    )
+}
+
+// What stands under the name of a form.
+fn read_form(
+    alloc: Global,
+    name: &str,
+    body: &Value<'_>,
+) -> Result<Option<ComponentDefinedType>, OutOfMemory>
+    ensures { IfOk result (λ ty. option_map defined_view ty ≡ form_of name.now (view body.now)) }
+{
+    match name {
+        "record" => Ok(read_params(alloc, body)?.map(ComponentDefinedType::Record)),
+        "variant" => Ok(read_cases(alloc, body)?.map(ComponentDefinedType::Variant)),
+        "list" => Ok(read_value_type(body).map(ComponentDefinedType::List)),
+        "map" => Ok(read_map(body)),
+        "fixed-list" => Ok(read_fixed_list(body)),
+        "tuple" => Ok(read_types(alloc, body)?.map(ComponentDefinedType::Tuple)),
+        "flags" => Ok(read_names(alloc, body)?.map(ComponentDefinedType::Flags)),
+        "enum" => Ok(read_names(alloc, body)?.map(ComponentDefinedType::Enum)),
+        "option" => Ok(read_value_type(body).map(ComponentDefinedType::Option)),
+        "result" => Ok(read_result(body)),
+        "own" => Ok(index_of(body).map(ComponentDefinedType::Own)),
+        "borrow" => Ok(index_of(body).map(ComponentDefinedType::Borrow)),
+        "future" => Ok(read_payload(body).map(ComponentDefinedType::Future)),
+        "stream" => Ok(read_payload(body).map(ComponentDefinedType::Stream)),
+        _ => Ok(None),
+    }
+}
+
+/// A defined type.
+pub fn read_defined(
+    alloc: Global,
+    value: &Value<'_>,
+) -> Result<Option<ComponentDefinedType>, OutOfMemory>
+    ensures { IfOk result (λ ty. option_map defined_view ty ≡ defined_of (view value.now)) }
+{
+    if let Some(name) = text_of(value) {
+        return Ok(primitive_of(name).map(ComponentDefinedType::Primitive));
+    }
+    let Some(name) = form_name(value) else {
+        return Ok(None);
+    };
+    let Some(body) = member_at(value, name) else {
+        return Ok(None);
+    };
+    read_form(alloc, name, body)
+}
