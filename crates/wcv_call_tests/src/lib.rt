@@ -4,6 +4,8 @@
 #[cfg(test)]
 mod base;
 #[cfg(test)]
+mod state;
+#[cfg(test)]
 mod table;
 #[cfg(test)]
 mod text;

@@ -19,7 +19,7 @@ use wcv_types::{
 };
 
 /// A function type with no parameter and no result.
-fn plain(alloc: Global) -> ComponentFuncType
+pub fn plain(alloc: Global) -> ComponentFuncType
     ensures { (a : Arena) → Fits a (node.Func result) }
 {
     ComponentFuncType {
