@@ -182,7 +182,7 @@ const I: &str = r#"{"at":1,"import":{"name":"f","type":{"func":0}}},"#;
 
 // What is said of a body that is none of those that are read.
 const UNREAD: &str =
-    r#"this form of item is not built yet, or its body is none of "type": {"func": {"params": [[NAME, PRIMITIVE], ..], "result": PRIMITIVE}}, "import": {"name": NAME, "type": {"func": INDEX}}, "export": {"name": NAME, "sort": "func", "index": INDEX}"#;
+    r#"this form of item is not built yet, or its body is none of "type": {"func": {"params": [[NAME, TYPE], ..], "result": TYPE}} or {"defined": DEFINED}, "import": {"name": NAME, "type": {"func": INDEX}}, "export": {"name": NAME, "sort": "func", "index": INDEX}"#;
 
 // The listing of these items behind T and I, where they are asked for.
 fn listing(alloc: Global, before: &str, items: &str) -> Result<Vec<u8>, Fail> {
