@@ -173,6 +173,13 @@ next_value s k ty e =
     ap parts_in (drop-cons ss k x (slice_get_within ss k x w.1) ∙ ap (λ (y : Role × Slot). y ∷ drop (suc k) ss) (get_or_from_slice_get ss k x x w.1)) ∙
     ap (λ (j : ℕ). slot_refs (option_slot ty) ++ parts_in (drop j ss)) (sym (add-one k))
 
+-- they are pushed behind others
+pub value_pushed : (s : ComponentDefinedType) (k : ℕ) (ty : Option ComponentValType) (ps qs : List Part) → option_map second (slice_get (value_parts s) k) ≡ Some ty → qs ≡ ps ++ slot_refs (option_slot ty) →
+    qs ++ parts_in (drop (k + 1) (value_slots (value_parts s))) ≡ ps ++ parts_in (drop k (value_slots (value_parts s)))
+value_pushed s k ty ps qs e h =
+    ap (λ (rs : List Part). rs ++ parts_in (drop (k + 1) (value_slots (value_parts s)))) h ∙ append_assoc ps (slot_refs (option_slot ty)) (parts_in (drop (k + 1) (value_slots (value_parts s)))) ∙
+    ap (λ (rs : List Part). ps ++ rs) (sym (next_value s k ty e))
+
 -- and their parts
 pub next_part : (s : ComponentDefinedType) (k : ℕ) (ty : Option ComponentValType) (o : Option Part) → option_map (λ (x : Role × Option ComponentValType). x.1) (slice_get (value_parts s) k) ≡ Some ty → option_to_list o ≡ slot_refs (option_slot ty) →
     parts_in (drop k (value_slots (value_parts s))) ≡ option_to_list o ++ parts_in (drop (k + 1) (value_slots (value_parts s)))

@@ -26,3 +26,5 @@ pub mod Sums
 pub mod Forming
 pub mod Knowing
 pub mod AbiRenamed
+pub mod Refilling
+pub mod Rebuilding

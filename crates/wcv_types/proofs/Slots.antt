@@ -1,5 +1,5 @@
 -- The parts of value types under labels.
-use Rattle.std.proofs.Common.{◌≡◌, ℕ, zero, suc, subst, length-append, append-nil, List, [], ◌∷◌, ◌++◌, length, refl, ap, arith, sym, ◌∙◌, drop, drop-cons, get_or, add-one, ◌<◌, ◌≤◌, ◌+◌}
+use Rattle.std.proofs.Common.{◌≡◌, ℕ, zero, suc, subst, length-append, append_assoc, append-nil, List, [], ◌∷◌, ◌++◌, length, refl, ap, arith, sym, ◌∙◌, drop, drop-cons, get_or, add-one, ◌<◌, ◌≤◌, ◌+◌}
 use Rattle.std.specs.Prelude.{count_by, cond, slice_get, Option, Some, None, option_to_list}
 use Rattle.std.specs.List.{fold}
 use Rattle.std.proofs.Math.ListN.{drop_of_length-le}
@@ -109,3 +109,10 @@ pub no_part_left : (a : Arena) (i : ComponentFuncTypeId) (s : ComponentFuncType)
 no_part_left a i s k h e r l =
     let whole : parts_at a (p.Func i) ≡ parts_in (field_slots s.params.items []) ++ [] = func_parts a i s None h r in
     get_none (parts_in (field_slots s.params.items [])) k e (subst (λ (qs : List Part). k < length qs) (whole ∙ append-nil _) l)
+
+-- the parts of a function type behind others
+pub func_parts_after : (ps qs rs : List Part) (fs : List Field) (o : Option ComponentValType) → qs ≡ ps ++ parts_in (field_slots fs []) → rs ≡ qs ++ slot_refs (option_slot o) →
+    rs ≡ ps ++ parts_in (field_slots fs ((here, option_slot o) ∷ []))
+func_parts_after ps qs rs fs o e f =
+    f ∙ ap (λ qs. qs ++ slot_refs (option_slot o)) e ∙ append_assoc ps (parts_in (field_slots fs [])) (slot_refs (option_slot o)) ∙
+    ap (λ ks. ps ++ ks) (ap (λ qs. parts_in (field_slots fs []) ++ qs) (sym (append-nil (slot_refs (option_slot o)))) ∙ sym (field_parts fs ((here, option_slot o) ∷ [])))

@@ -20,3 +20,4 @@ pub mod ComponentTrees
 pub mod Abi
 pub mod Facts
 pub mod Sums
+pub mod Rebuild

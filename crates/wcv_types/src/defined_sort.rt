@@ -1,12 +1,15 @@
 // Defined value types as nodes of the arena.
-ghost use Rattle.std.specs.Prelude.{◌≡◌, ◌≤◌, length, slice_get, option_to_list};
+ghost use Rattle.std.specs.Prelude.{◌≡◌, ◌≤◌, ◌++◌, length, slice_get, option_to_list, OnOk};
 ghost use Rattle.wcv_types.specs.Unfold.{handle_parts, option_slot, value_parts, value_slots, slot_refs, parts_in};
 
+use crate::again::defined_again;
 use crate::arena::{Node, TypeAlloc};
 use crate::defined_facts::defined_facts;
 use crate::func_sort::option_part;
 use crate::ids::{ComponentDefinedTypeId, Part};
 use crate::info::TypeInfo;
+use crate::parts::{Parts, push_option};
+use crate::refill::Refill;
 use crate::shapes::{ComponentDefinedType, ComponentValType};
 use crate::sorts::{NodeSort, TypeSort};
 use wcv_core::OutOfMemory;
@@ -63,6 +66,27 @@ fn nth_node(shape: &ComponentDefinedType, k: usize) -> Option<Part>
     None
 }
 
+/// The reference of a handle joins the parts.
+fn push_handle(shape: &ComponentDefinedType, parts: &mut Parts) -> Result<(), OutOfMemory>
+    ensures { OnOk result (parts.new ≡ parts.old ++ handle_parts shape.now) }
+{
+    match handle_part(shape) {
+        Some(part) => parts.push(part),
+        None => Ok(()),
+    }
+}
+
+/// So do the nodes among the value types that it is made of.
+#[tactic(auto, using(crate::proofs::Knowing::value_pushed, crate::proofs::Knowing::no_value))]
+fn push_values(shape: &ComponentDefinedType, parts: &mut Parts) -> Result<(), OutOfMemory>
+    ensures { OnOk result (parts.new ≡ parts.old ++ parts_in (value_slots (value_parts shape.now))) }
+{
+    for k in 0..shape.value_count() {
+        push_option(shape.value_at(k), parts)?;
+    }
+    Ok(())
+}
+
 /// The defined type that the node is.
 fn defined_shape(node: &Node) -> &ComponentDefinedType
     requires { (s : ComponentDefinedType) × (node.now ≡ Node.Defined s) }
@@ -105,6 +129,13 @@ impl TypeSort for ComponentDefinedTypeId {
             },
         }
     }
+
+    fn rebuild(self, types: &mut TypeAlloc, parts: &Parts) -> Result<Self, OutOfMemory> {
+        let mut left = Refill::new(parts);
+        let shape = defined_again(types.allocator(), Self::node(types, self), &mut left)?;
+        let made = Self::store(types, shape)?;
+        Ok(made)
+    }
 }
 
 impl NodeSort for ComponentDefinedTypeId {
@@ -117,6 +148,12 @@ impl NodeSort for ComponentDefinedTypeId {
     fn node(types: &TypeAlloc, id: Self) -> &ComponentDefinedType {
         let k = id.index as usize;
         defined_shape(types.nodes.get(k))
+    }
+
+    #[tactic(auto, using(crate::proofs::Rebuilding::defined_parts_after))]
+    fn parts_into(shape: &ComponentDefinedType, parts: &mut Parts) -> Result<(), OutOfMemory> {
+        push_handle(shape, parts)?;
+        push_values(shape, parts)
     }
 
     fn store(types: &mut TypeAlloc, shape: ComponentDefinedType) -> Result<Self, OutOfMemory> {

@@ -1,11 +1,17 @@
 // Function types as nodes of the arena.
-ghost use Rattle.std.specs.Prelude.{◌≡◌, ◌≤◌, List, [], length, slice_get, option_to_list};
-ghost use Rattle.wcv_types.specs.Unfold.{parts_in, field_slots, option_slot, slot_refs};
+ghost use Rattle.std.specs.Prelude.{◌≡◌, ◌≤◌, List, [], length, slice_get, option_to_list, All, IfOk};
+ghost use Rattle.wcv_types.specs.Rebuild.{SameSorts, refill};
+ghost use Rattle.wcv_types.specs.Standing.{Stands, Fits};
+ghost use Rattle.wcv_types.specs.Unfold.{parts_in, parts_of, slots_of, field_slots, option_slot, slot_refs};
+ghost use Rattle.wcv_types.specs.declared.arena.Node.TheVariants as n;
 
+use crate::again::fields_again;
 use crate::arena::{Node, TypeAlloc};
 use crate::func_facts::func_facts;
 use crate::ids::{ComponentFuncTypeId, Part};
 use crate::info::TypeInfo;
+use crate::parts::{Parts, push_fields, push_option};
+use crate::refill::Refill;
 use crate::shapes::{ComponentFuncType, ComponentValType};
 use crate::sorts::{NodeSort, TypeSort};
 use wcv_core::{OutOfMemory, Text};
@@ -45,6 +51,25 @@ pub fn option_part(ty: Option<ComponentValType>) -> Option<Part>
         Some(ComponentValType::Primitive(_)) => None,
         Some(ComponentValType::Ty(id)) => Some(Part::Defined(id)),
     }
+}
+
+/// The function type of the same form with other parts.
+#[tactic(auto, using(crate::proofs::Rebuilding::params_fill, crate::proofs::Rebuilding::result_fills, crate::proofs::Rebuilding::func_refilled))]
+fn func_again(
+    types: &TypeAlloc,
+    shape: &ComponentFuncType,
+    parts: &Parts,
+) -> Result<ComponentFuncType, OutOfMemory>
+    requires sorts { SameSorts (parts_of (n.Func shape.now)) parts.now }
+    requires stand { All (Stands types.now) parts.now }
+    ensures fits { IfOk result (λ s. Fits types.now (n.Func s)) }
+    ensures slots { IfOk result (λ s. slots_of (n.Func s) ≡ refill (slots_of (n.Func shape.now)) parts.now) }
+    ensures mark { IfOk result (λ s. s.async_ ≡ shape.now.async_) }
+{
+    let mut left = Refill::new(parts);
+    let params = fields_again(types.allocator(), &shape.params, &mut left)?;
+    let gives = left.option(shape.result);
+    Ok(ComponentFuncType::over(types, shape.async_, params, gives))
 }
 
 /// The function type that the node is.
@@ -90,6 +115,12 @@ impl TypeSort for ComponentFuncTypeId {
             },
         }
     }
+
+    fn rebuild(self, types: &mut TypeAlloc, parts: &Parts) -> Result<Self, OutOfMemory> {
+        let shape = func_again(types, Self::node(types, self), parts)?;
+        let made = Self::store(types, shape)?;
+        Ok(made)
+    }
 }
 
 impl NodeSort for ComponentFuncTypeId {
@@ -102,6 +133,12 @@ impl NodeSort for ComponentFuncTypeId {
     fn node(types: &TypeAlloc, id: Self) -> &ComponentFuncType {
         let k = id.index as usize;
         func_shape(types.nodes.get(k))
+    }
+
+    #[tactic(auto, using(crate::proofs::Slots::func_parts_after))]
+    fn parts_into(shape: &ComponentFuncType, parts: &mut Parts) -> Result<(), OutOfMemory> {
+        push_fields(&shape.params, parts)?;
+        push_option(shape.result, parts)
     }
 
     fn store(types: &mut TypeAlloc, shape: ComponentFuncType) -> Result<Self, OutOfMemory> {

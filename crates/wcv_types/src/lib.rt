@@ -2,6 +2,7 @@
 #![tactic(auto)]
 
 mod abi;
+mod again;
 mod arena;
 mod component_type;
 mod defined_facts;
@@ -14,8 +15,11 @@ mod info;
 mod item_map;
 mod layout;
 mod nodes;
+mod parts;
+mod refill;
 mod shapes;
 mod sorts;
+mod store;
 mod sum;
 
 ghost use Rattle.std.specs.Prelude.{◌≡◌, ℕ, List, false, Some, None};
@@ -41,8 +45,10 @@ pub use ids::{
 };
 pub use info::TypeInfo;
 pub use item_map::{ComponentItem, ItemMap};
+pub use parts::Parts;
 pub use shapes::{ComponentDefinedType, ComponentEntityType, ComponentFuncType, ComponentValType};
 pub use sorts::{NodeSort, TypeSort};
+pub use store::{NodeStore, Steps};
 
 /// Types that are equal up to renaming of resources and of identities have one text.
 #[tactic(auto, using(crate::proofs::SameText::same_text))]

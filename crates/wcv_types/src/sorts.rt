@@ -1,11 +1,13 @@
 // The sorts of types.
-ghost use Rattle.std.specs.Prelude.{◌≡◌, suc, ◌<◌, List, ◌∷◌, length, slice_get, Some, All, OnErr, IfOk};
+ghost use Rattle.std.specs.Prelude.{◌≡◌, suc, ◌<◌, ◌++◌, List, ◌∷◌, length, slice_get, Some, All, OnOk, OnErr, IfOk};
 ghost use Rattle.wcv_types.specs.Unfold.{place, rank, parts_of, parts_at, tree_at, unfolded, IsInfoOf};
+ghost use Rattle.wcv_types.specs.Rebuild.{Refits, Rebuilt};
 ghost use Rattle.wcv_types.specs.Standing.{Stands, StandsBefore, Fits, with_node};
 
 use crate::arena::TypeAlloc;
 use crate::ids::Part;
 use crate::info::TypeInfo;
+use crate::parts::Parts;
 use wcv_core::OutOfMemory;
 
 /// A sort of types, seen one type at a time.
@@ -34,6 +36,13 @@ pub trait TypeSort: Copy {
         requires stands { Stands types.now (as_part self) }
         requires below { k < length (parts_at types.now (as_part self)) }
         ensures { slice_get (parts_at types.now (as_part self)) k ≡ Some result };
+
+    /// The same type with other parts, as a new node behind all others. What has no parts stays.
+    fn rebuild(self, types: &mut TypeAlloc, parts: &Parts) -> Result<Self, OutOfMemory>
+        requires stands { Stands types.old (as_part self) }
+        requires refits { Refits types.old (as_part self) parts.now }
+        ensures ok { IfOk result (λ made. Rebuilt types.old types.new (as_part self) parts.now (as_part made)) }
+        ensures err { OnErr result (types.new ≡ types.old) };
 }
 
 /// A sort of types that are nodes of the arena.
@@ -52,6 +61,10 @@ pub trait NodeSort: TypeSort {
         ensures found { slice_get types.now.nodes (place (Self.as_part id)) ≡ Some (as_node result.now) }
         ensures unfolds { tree_at types.now (Self.as_part id) ≡ unfolded types.now (place (Self.as_part id)) (as_node result.now) }
         ensures before { All (StandsBefore types.now (rank (Self.as_part id))) (parts_of (as_node result.now)) };
+
+    /// The parts of the node join the list, in order.
+    fn parts_into(shape: &Self::Shape, parts: &mut Parts) -> Result<(), OutOfMemory>
+        ensures { OnOk result (parts.new ≡ parts.old ++ parts_of (as_node shape.now)) };
 
     /// A new node, after all others.
     fn store(types: &mut TypeAlloc, shape: Self::Shape) -> Result<Self, OutOfMemory>

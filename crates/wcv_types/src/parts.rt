@@ -1,0 +1,89 @@
+// Lists of parts.
+ghost use Rattle.std.specs.Prelude.{◌≡◌, [], ◌∷◌, ◌++◌, length, slice_get, option_copied, OnOk, OnErr};
+ghost use Rattle.wcv_types.specs.Unfold.{parts_in, field_slots, option_slot, slot_refs};
+
+use crate::ids::Part;
+use crate::shapes::ComponentValType;
+use std::alloc::Global;
+use std::marker::Model;
+use wcv_core::{OutOfMemory, Text};
+
+/// Parts of a type, in order. Contracts see it as the list of them.
+#[derive(Debug, Drop)]
+pub struct Parts {
+    parts: Vec<Part>,
+}
+
+impl Model for Parts {
+    ghost use Rattle.std.specs.Prelude.{List};
+    ghost use Rattle.wcv_types.specs.declared.ids.Part.{Part};
+
+    ghost Value = { List Part };
+
+    ghost view = { λ p. p.parts.items };
+}
+
+impl Parts {
+    /// No part.
+    pub fn new(alloc: Global) -> Parts
+        ensures { result ≡ [] }
+    {
+        Parts {
+            parts: Vec::new(alloc),
+        }
+    }
+
+    /// One more part, behind all others. Out of memory nothing changes.
+    pub fn push(&mut self, part: Part) -> Result<(), OutOfMemory>
+        ensures ok { OnOk result (self.new ≡ self.old ++ part ∷ []) }
+        ensures err { OnErr result (self.new ≡ self.old) }
+    {
+        self.parts.push(part)?;
+        Ok(())
+    }
+
+    /// How many there are.
+    pub fn len(&self) -> usize
+        ensures { result ≡ length self.now }
+    {
+        self.parts.len()
+    }
+
+    /// All of them, lent.
+    pub fn as_slice(&self) -> &[Part]
+        ensures { result.now ≡ self.now }
+    {
+        self.parts.as_slice()
+    }
+
+    /// The part at this position.
+    pub fn get_index(&self, k: usize) -> Option<&Part>
+        ensures { option_copied result ≡ slice_get self.now k }
+    {
+        self.parts.get(k)
+    }
+}
+
+/// The part that a value type is joins the list, where it is there and is a node.
+pub fn push_option(ty: Option<ComponentValType>, parts: &mut Parts) -> Result<(), OutOfMemory>
+    ensures { OnOk result (parts.new ≡ parts.old ++ slot_refs (option_slot ty)) }
+{
+    match ty {
+        Some(ComponentValType::Ty(id)) => parts.push(Part::Defined(id)),
+        _ => Ok(()),
+    }
+}
+
+/// So of each field, in order.
+#[tactic(auto, using(crate::proofs::Slots::next_field, crate::proofs::Slots::no_field))]
+pub fn push_fields(
+    fields: &[(Text, ComponentValType)],
+    parts: &mut Parts,
+) -> Result<(), OutOfMemory>
+    ensures { OnOk result (parts.new ≡ parts.old ++ parts_in (field_slots fields.now [])) }
+{
+    for field in fields {
+        push_option(Some(field.1), parts)?;
+    }
+    Ok(())
+}
