@@ -9,3 +9,4 @@ pub mod Naming
 pub mod Positions
 pub mod Repeats
 pub mod Texts
+pub mod Stacks

@@ -12,8 +12,10 @@ mod lists;
 mod names;
 mod shape;
 mod size;
+mod stack;
 mod store;
 mod values;
 
 pub use declare::add_type_to;
 pub use limits::check_limits;
+pub use stack::Declare;

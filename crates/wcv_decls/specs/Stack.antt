@@ -1,0 +1,42 @@
+-- The states that are open around an item, the innermost last.
+use Rattle.std.specs.Prelude.{ℕ, List, [], ◌∷◌, ◌++◌, Bool, false, map, reverse, ◌≡◌}
+use Rattle.wcv_core.specs.Names.{Place}
+use Rattle.wcv_core.specs.declared.error.Error.{Error}
+use Rattle.wcv_syntax.specs.Model.{Type_form}
+use Rattle.wcv_types.specs.Arena.{Arena}
+use Rattle.wcv_lower.specs.Context.{Context}
+use Rattle.wcv_state.specs.Contents.{Contents, context_of, scope_of, StateStands}
+use Rattle.wcv_state.specs.Promises.{Keeps, RefusesBy}
+use Rattle.wcv_decls.specs.Items.{declare_checks, Declared}
+
+-- the state may be used, and its ids stand in the arena
+pub record IsOpen (a : Arena) (s : Contents) : Type 0 where
+  pub live : s.spent ≡ false
+  pub stands : StateStands a s
+
+-- the contexts of the states, the nearest first
+abbrev pub contexts_around : Arena → List Contents → List Context
+contexts_around a ss = reverse (map (context_of a) ss)
+
+-- of the states the innermost alone became another
+pub record ChangesLast (ss ss' : List Contents) : Type 0 where
+  pub outer : List Contents
+  pub old : Contents
+  pub new : Contents
+  pub was : ss ≡ outer ++ old ∷ []
+  pub becomes : ss' ≡ outer ++ new ∷ []
+
+-- it grew by the type item at that place
+pub record DeclaresOn (limited : Bool) (a a' : Arena) (p : Place) (ss ss' : List Contents) (t : Type_form) : Type 0 where
+  pub last : ChangesLast ss ss'
+  pub declared : Declared limited a a' (contexts_around a last.outer) p last.old last.new t
+
+-- it was refused by a cause of the type item
+pub record RefusesOn (limited : Bool) (a : Arena) (ss ss' : List Contents) (t : Type_form) (offset : ℕ) (e : Error) : Type 0 where
+  pub last : ChangesLast ss ss'
+  pub refused : RefusesBy (declare_checks limited (scope_of last.old (contexts_around a last.outer)) (context_of a last.old) t) last.new offset e
+
+-- whatever is answered, it keeps what stood
+pub record KeepsOn (a a' : Arena) (ss ss' : List Contents) : Type 0 where
+  pub last : ChangesLast ss ss'
+  pub keeps : Keeps a a' last.old last.new
