@@ -28,3 +28,4 @@ pub mod Knowing
 pub mod AbiRenamed
 pub mod Refilling
 pub mod Rebuilding
+pub mod SortLaws

@@ -3,6 +3,7 @@ use Rattle.std.specs.Prelude.{ℕ, suc, List, [], ◌∷◌, ◌++◌, drop, len
 use Rattle.wcv_core.specs.Names.{Name, number}
 use Rattle.wcv_types.specs.Tree.{Text, Head, defined, func, instance, component, Role, here, label, node, head}
 use Rattle.wcv_types.specs.Arena.{Arena}
+use Rattle.wcv_types.specs.Replacing.{Replacement, replaced}
 use Rattle.wcv_types.specs.Standing.{Stands, KeepsTrees}
 use Rattle.wcv_types.specs.Unfold.{rank, Slot, leaf, at, both, Slots, slot_refs, slots_at, slot_parts, parts_at, trees, tree_at, value_slots}
 use Rattle.wcv_types.specs.declared.ids.Part.{Part}
@@ -120,3 +121,11 @@ pub record Refilling (all : Slots) (qs : List Part) (rest made : Slots) (left : 
   pub fills : Fills rest left
   pub slots : made ++ refill rest left ≡ refill all qs
   pub left_is : after rest left ≡ after all qs
+
+-- ## What becomes of trees
+
+-- the part has the replaced tree of that in whose place it comes
+abbrev pub BecomesIn : Arena → Replacement → List Part → List Part → Type 0
+BecomesIn a m [] [] = Unit {0}
+BecomesIn a m (q ∷ qs) (r ∷ rs) = (tree_at a r ≡ replaced m (tree_at a q)) × BecomesIn a m qs rs
+BecomesIn a m _ _ = ⊥

@@ -22,18 +22,23 @@ mod sorts;
 mod store;
 mod sum;
 
-ghost use Rattle.std.specs.Prelude.{◌≡◌, ℕ, List, false, Some, None};
-ghost use Rattle.wcv_core.specs.Names.{Name};
-ghost use Rattle.wcv_types.specs.Identity.{Identity};
+ghost use Rattle.std.specs.Prelude.{◌≡◌, ◌⊎◌, ℕ, List, Contains, true, false, Some, None};
+ghost use Rattle.wcv_core.specs.Names.{Name, number};
+ghost use Rattle.wcv_types.specs.Arena.{Arena};
+ghost use Rattle.wcv_types.specs.Identity.{Identity, of_node};
 ghost use Rattle.wcv_types.specs.Measure.{size, depth};
 ghost use Rattle.wcv_types.specs.FirstPath.{first_path};
 ghost use Rattle.wcv_types.specs.Paths.{PathLeadsTo};
 ghost use Rattle.wcv_types.specs.Rename.{rename, without_identities, HasWayBack, UpToRenaming};
-ghost use Rattle.wcv_types.specs.Replacing.{Replacement, new_resource, changed, replaced, SparesOwn, GivesSame};
-ghost use Rattle.wcv_types.specs.Resources.{Free, substitute, Admits};
+ghost use Rattle.wcv_types.specs.Replacing.{Replacement, new_resource, changed, changed_in, replaced, SparesOwn, GivesSame};
+ghost use Rattle.wcv_types.specs.Resources.{owns, RefersTo, Free, substitute, Admits};
 ghost use Rattle.wcv_types.specs.Seen.{Within, seen};
+ghost use Rattle.wcv_types.specs.Rebuild.{MadeAgain, BecomesIn};
+ghost use Rattle.wcv_types.specs.Standing.{identity_of, Unfolds};
 ghost use Rattle.wcv_types.specs.Text.{type_text};
-ghost use Rattle.wcv_types.specs.Tree.{Extern_name, Tree};
+ghost use Rattle.wcv_types.specs.Tree.{Extern_name, Tree, head};
+ghost use Rattle.wcv_types.specs.Unfold.{parts_at, place, slot_parts, slots_at, tree_at, trees};
+ghost use Rattle.wcv_types.specs.declared.ids.Part.{Part};
 
 pub use abi::AbiInfo;
 pub use arena::{Node, TypeAlloc};
@@ -147,4 +152,18 @@ pub fn the_first_path_leads_to_its_resource()
 /// Where there is no first path, no path leads to the resource.
 pub fn there_is_a_first_path()
     ensures { (r : Name) (entries : List (Extern_name × Tree Name Name)) → first_path r entries ≡ None → (p : List ℕ) → PathLeadsTo p r entries → ⊥ }
+{}
+
+/// A resource is free in a type of the arena where it is that reference itself, or is free in a part and not owned by the type.
+#[tactic(auto, using(crate::proofs::SortLaws::free_below, crate::proofs::SortLaws::free_above))]
+pub fn what_is_free_in_a_type_is_free_in_a_part()
+    ensures below { (a : Arena) (r : Name) (q : Part) → Unfolds a q → Free r (tree_at a q) → RefersTo r (head (tree_at a q)) ⊎ ((owns (head (tree_at a q)) r ≡ false) × ((p : Part) × Contains (parts_at a q) p × Free r (tree_at a p))) }
+    ensures above { (a : Arena) (r : Name) (q p : Part) → Unfolds a q → owns (head (tree_at a q)) r ≡ false → Contains (parts_at a q) p → Free r (tree_at a p) → Free r (tree_at a q) }
+{}
+
+/// A node that is made again with what its parts become is what the node becomes, where some part becomes another.
+#[tactic(auto, using(crate::proofs::SortLaws::made_replaced))]
+pub fn a_node_made_again_is_the_replaced_node()
+    ensures { (a b : Arena) (m : Replacement) (q made : Part) (qs : List Part) (k : Name) → Unfolds a q → identity_of q ≡ of_node k → MadeAgain a b q qs made → m.again k ≡ number (place made) → m.nodes (of_node k) ≡ None →
+        BecomesIn a m (parts_at a q) qs → changed_in m (slot_parts (trees a.nodes) (slots_at a.nodes q)) ≡ true → tree_at b made ≡ replaced m (tree_at a q) }
 {}
