@@ -29,3 +29,4 @@ pub mod AbiRenamed
 pub mod Refilling
 pub mod Rebuilding
 pub mod SortLaws
+pub mod NamedBySet

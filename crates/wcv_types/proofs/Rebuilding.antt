@@ -59,7 +59,7 @@ refill_both (x ∷ xs) ys qs = ap (λ (zs : Slots). (x.0, refill_slot x.1 qs) �
 
 -- ## Defined types
 
-defined_parts : (s : ComponentDefinedType) → parts_in (defined_slots s) ≡ handle_parts s ++ parts_in (value_slots (value_parts s))
+pub defined_parts : (s : ComponentDefinedType) → parts_in (defined_slots s) ≡ handle_parts s ++ parts_in (value_slots (value_parts s))
 defined_parts (d.Own r) = refl
 defined_parts (d.Borrow r) = refl
 defined_parts (d.Primitive q) = refl

@@ -21,3 +21,5 @@ pub mod Abi
 pub mod Facts
 pub mod Sums
 pub mod Rebuild
+pub mod Sets
+pub mod NamedBySet

@@ -14,6 +14,7 @@ mod ids;
 mod info;
 mod item_map;
 mod layout;
+mod named_types;
 mod nodes;
 mod parts;
 mod refill;
@@ -21,6 +22,7 @@ mod shapes;
 mod sorts;
 mod store;
 mod sum;
+mod type_set;
 
 ghost use Rattle.std.specs.Prelude.{◌≡◌, ◌⊎◌, ℕ, List, Contains, true, false, Some, None};
 ghost use Rattle.wcv_core.specs.Names.{Name, number};
@@ -54,6 +56,7 @@ pub use parts::Parts;
 pub use shapes::{ComponentDefinedType, ComponentEntityType, ComponentFuncType, ComponentValType};
 pub use sorts::{NodeSort, TypeSort};
 pub use store::{NodeStore, Steps};
+pub use type_set::TypeSet;
 
 /// Types that are equal up to renaming of resources and of identities have one text.
 #[tactic(auto, using(crate::proofs::SameText::same_text))]

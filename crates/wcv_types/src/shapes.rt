@@ -1,5 +1,6 @@
 // What nodes of the arena are made of.
 ghost use Rattle.std.specs.Prelude.{◌≡◌};
+ghost use Rattle.wcv_types.specs.NamedBySet.{node_id};
 ghost use Rattle.wcv_types.specs.Unfold.{names_node};
 
 use crate::ids::{
@@ -22,6 +23,16 @@ impl ComponentValType {
         ensures { result ≡ names_node self.now }
     {
         matches!(self, ComponentValType::Ty(_))
+    }
+}
+
+/// The node that the value type is, where it is there and is one.
+pub(crate) fn node_of(ty: Option<ComponentValType>) -> Option<ComponentDefinedTypeId>
+    ensures { result ≡ node_id ty }
+{
+    match ty {
+        Some(ComponentValType::Ty(id)) => Some(id),
+        _ => None,
     }
 }
 

@@ -1,0 +1,222 @@
+-- Whether value types are named by a set of types.
+use Rattle.std.proofs.Common.{◌≡◌, ℕ, zero, suc, ◌+◌, ◌<◌, ◌≤◌, List, [], ◌∷◌, ◌++◌, length, drop, map, refl, sym, ◌∙◌, ap, subst, arith, Bool, true, false, ◌&&◌, ◌||◌, eqb, Some, None, drop-cons, add-one}
+use Rattle.std.specs.Prelude.{Option, slice_get, All}
+use Rattle.std.specs.Option.{option_map}
+use Rattle.std.specs.List.{list_any}
+use Rattle.std.proofs.lemmas.Bool.{false≢true, eqb-true}
+use Rattle.std.proofs.lemmas.List.Elements.{All-head, All-tail}
+use Rattle.std.proofs.lemmas.Option.{slice_get_within, get_or_from_slice_get}
+use Rattle.std.proofs.Math.ListN.{drop_of_length-le}
+use Rattle.wcv_core.specs.Names.{Name, number, stamp, same}
+use Rattle.wcv_types.specs.Tree.{Role, here, defined, node, Parts, none, part}
+use Rattle.wcv_types.specs.Arena.{Arena}
+use Rattle.wcv_types.specs.Entities.{any_part, SlotStands}
+use Rattle.wcv_types.specs.Identity.{Identity, of_node, of_reference, same_identity}
+use Rattle.wcv_types.specs.Named.{is_in, is_named, are_named}
+use Rattle.wcv_types.specs.NamedBySet.{names_itself, handle_of, node_id}
+use Rattle.wcv_types.specs.Sets.{same_type, has_type, AllStand, identities}
+use Rattle.wcv_types.specs.Standing.{Stands, StandsBefore, identity_of}
+use Rattle.wcv_types.specs.Unfold.{Type_tree, Slot, leaf, at, both, Slots, slot_refs, parts_in, handle_parts, value_parts, value_slots, defined_slots, former_of, option_slot, slot_tree, slot_parts, trees, tree_at, unfolded}
+use Rattle.wcv_types.specs.declared.arena.Node.TheVariants as n
+use Rattle.wcv_types.specs.declared.ids.AliasableResourceId.{AliasableResourceId}
+use Rattle.wcv_types.specs.declared.ids.ComponentAnyTypeId.{ComponentAnyTypeId}
+use Rattle.wcv_types.specs.declared.ids.ComponentAnyTypeId.TheVariants as any
+use Rattle.wcv_types.specs.declared.ids.ComponentDefinedTypeId.{ComponentDefinedTypeId}
+use Rattle.wcv_types.specs.declared.ids.ComponentFuncTypeId.{ComponentFuncTypeId}
+use Rattle.wcv_types.specs.declared.ids.Part.{Part}
+use Rattle.wcv_types.specs.declared.ids.Part.TheVariants as p
+use Rattle.wcv_types.specs.declared.shapes.ComponentDefinedType.{ComponentDefinedType}
+use Rattle.wcv_types.specs.declared.shapes.ComponentDefinedType.TheVariants as d
+use Rattle.wcv_types.specs.declared.shapes.ComponentValType.{ComponentValType}
+use Rattle.wcv_types.specs.declared.shapes.ComponentValType.TheVariants as v
+use Rattle.wcv_types.proofs.Rebuilding.{defined_parts}
+use Rattle.wcv_types.proofs.Unfolding.{all_left, all_right}
+use Rattle.wcv_types.proofs.Knowing.{slot_at}
+use Rattle.wcv_types.proofs.Each.{length-mapped}
+
+-- ## Members of a set
+
+-- of a node
+module _ (a : Arena) (i : ComponentDefinedTypeId) (s : Stands a (p.Defined i)) where
+  func_apart : (j : ComponentFuncTypeId) → Stands a (p.Func j) → false ≡ eqb i.index j.index
+  func_apart j t = go (eqb i.index j.index) refl
+    where
+      go : (b : Bool) → eqb i.index j.index ≡ b → false ≡ b
+      go false e = refl
+      go true e =
+          let k : i.index ≡ j.index = eqb-true i.index j.index e in
+          let both : Some (n.Defined s.0) ≡ Some (n.Func t.0) = sym s.1 ∙ ap (slice_get a.nodes) k ∙ t.1 in
+          absurd (cc)
+
+  same_node : (id : ComponentAnyTypeId) → Stands a (any_part id) → same_type (any.Defined i) id ≡ same_identity (of_node (number i.index)) (identity_of (any_part id))
+  same_node (any.Defined j) t = refl
+  same_node (any.Resource r) t = refl
+  same_node (any.Func j) t = func_apart j t
+  same_node (any.Instance j) t = absurd t
+  same_node (any.Component j) t = absurd t
+
+  pub node_in_set : (ids : List ComponentAnyTypeId) → AllStand a ids → has_type ids (any.Defined i) ≡ is_in (identities ids) (of_node (number i.index))
+  node_in_set [] h = refl
+  node_in_set (id ∷ ids) h =
+      let e = same_node id (All-head (λ x. Stands a (any_part x)) id ids h) in
+      let e' = node_in_set ids (All-tail (λ x. Stands a (any_part x)) id ids h) in
+      λ j. e j || e' j
+
+-- of a reference
+same_reference : (a : Arena) (r : AliasableResourceId) (id : ComponentAnyTypeId) → Stands a (any_part id) → same_type (any.Resource r) id ≡ same_identity (of_reference (number r.resource.index) (stamp r.stamp)) (identity_of (any_part id))
+same_reference a r (any.Resource q) t = refl
+same_reference a r (any.Defined j) t = refl
+same_reference a r (any.Func j) t = refl
+same_reference a r (any.Instance j) t = absurd t
+same_reference a r (any.Component j) t = absurd t
+
+pub reference_in_set : (a : Arena) (r : AliasableResourceId) (ids : List ComponentAnyTypeId) → AllStand a ids → has_type ids (any.Resource r) ≡ is_in (identities ids) (of_reference (number r.resource.index) (stamp r.stamp))
+reference_in_set a r [] h = refl
+reference_in_set a r (id ∷ ids) h =
+    let e = same_reference a r id (All-head (λ x. Stands a (any_part x)) id ids h) in
+    let e' = reference_in_set a r ids (All-tail (λ x. Stands a (any_part x)) id ids h) in
+    λ j. e j || e' j
+
+-- ## One defined type
+
+and_true : (b : Bool) → (b && true) ≡ b
+and_true true = refl
+and_true false = refl
+
+some_same : (x y : AliasableResourceId) → Some x ≡ Some y → x ≡ y
+some_same x y e = cc
+
+module _ (ids : List Identity) (ts : List Type_tree) where
+  abbrev shape_named : Name → ComponentDefinedType → Bool
+  shape_named x s = is_named ids (node (defined x (former_of s)) (slot_parts ts (defined_slots s)))
+
+  by_itself : (x : Name) (s : ComponentDefinedType) → names_itself s ≡ true → shape_named x s ≡ is_in ids (of_node x)
+  by_itself x (d.Own a) h = absurd (false≢true h)
+  by_itself x (d.Borrow a) h = absurd (false≢true h)
+  by_itself x (d.Primitive a) h = absurd (false≢true h)
+  by_itself x (d.Record a) h = refl
+  by_itself x (d.Variant a) h = refl
+  by_itself x (d.List a) h = absurd (false≢true h)
+  by_itself x (d.Map a b) h = absurd (false≢true h)
+  by_itself x (d.FixedLengthList a b) h = absurd (false≢true h)
+  by_itself x (d.Tuple a) h = absurd (false≢true h)
+  by_itself x (d.Flags a) h = refl
+  by_itself x (d.Enum a) h = refl
+  by_itself x (d.Option a) h = absurd (false≢true h)
+  by_itself x (d.Result a b) h = absurd (false≢true h)
+  by_itself x (d.Future a) h = absurd (false≢true h)
+  by_itself x (d.Stream a) h = absurd (false≢true h)
+
+  by_handle : (x : Name) (s : ComponentDefinedType) (r : AliasableResourceId) → handle_of s ≡ Some r → shape_named x s ≡ is_in ids (of_reference (number r.resource.index) (stamp r.stamp))
+  by_handle x (d.Own a) q h = and_true (is_in ids (of_reference (number a.resource.index) (stamp a.stamp))) ∙ ap (λ (y : AliasableResourceId). is_in ids (of_reference (number y.resource.index) (stamp y.stamp))) (some_same a q h)
+  by_handle x (d.Borrow a) q h = and_true (is_in ids (of_reference (number a.resource.index) (stamp a.stamp))) ∙ ap (λ (y : AliasableResourceId). is_in ids (of_reference (number y.resource.index) (stamp y.stamp))) (some_same a q h)
+  by_handle x (d.Primitive a) q h = absurd (cc)
+  by_handle x (d.Record a) q h = absurd (cc)
+  by_handle x (d.Variant a) q h = absurd (cc)
+  by_handle x (d.List a) q h = absurd (cc)
+  by_handle x (d.Map a b) q h = absurd (cc)
+  by_handle x (d.FixedLengthList a b) q h = absurd (cc)
+  by_handle x (d.Tuple a) q h = absurd (cc)
+  by_handle x (d.Flags a) q h = absurd (cc)
+  by_handle x (d.Enum a) q h = absurd (cc)
+  by_handle x (d.Option a) q h = absurd (cc)
+  by_handle x (d.Result a b) q h = absurd (cc)
+  by_handle x (d.Future a) q h = absurd (cc)
+  by_handle x (d.Stream a) q h = absurd (cc)
+
+  by_parts : (x : Name) (s : ComponentDefinedType) → names_itself s ≡ false → handle_of s ≡ None → shape_named x s ≡ are_named ids (slot_parts ts (value_slots (value_parts s)))
+  by_parts x (d.Own a) h e = absurd (cc)
+  by_parts x (d.Borrow a) h e = absurd (cc)
+  by_parts x (d.Primitive a) h e = refl
+  by_parts x (d.Record a) h e = absurd (false≢true (sym h))
+  by_parts x (d.Variant a) h e = absurd (false≢true (sym h))
+  by_parts x (d.List a) h e = refl
+  by_parts x (d.Map a b) h e = refl
+  by_parts x (d.FixedLengthList a b) h e = refl
+  by_parts x (d.Tuple a) h e = refl
+  by_parts x (d.Flags a) h e = absurd (false≢true (sym h))
+  by_parts x (d.Enum a) h e = absurd (false≢true (sym h))
+  by_parts x (d.Option a) h e = refl
+  by_parts x (d.Result a b) h e = refl
+  by_parts x (d.Future a) h e = refl
+  by_parts x (d.Stream a) h e = refl
+
+-- ## The value types that it is made of, one after another
+
+-- how far they stand from the first node
+abbrev pub value_rank : Option ComponentValType → ℕ
+value_rank None = 0
+value_rank (Some (v.Primitive q)) = 0
+value_rank (Some (v.Ty i)) = suc i.index
+
+-- those from the k-th on are named
+abbrev pub named_from : List Identity → List Type_tree → ComponentDefinedType → ℕ → Bool
+named_from ids ts s k = are_named ids (slot_parts ts (drop k (value_slots (value_parts s))))
+
+-- the k-th, and those behind it
+values_next : (s : ComponentDefinedType) (k : ℕ) (ty : Option ComponentValType) → option_map (λ (x : Role × Option ComponentValType). x.1) (slice_get (value_parts s) k) ≡ Some ty →
+    (r : Role) × (drop k (value_slots (value_parts s)) ≡ (r, option_slot ty) ∷ drop (k + 1) (value_slots (value_parts s)))
+values_next s k ty e =
+    let ss : Slots = value_slots (value_parts s) in
+    let w = slot_at s k ty e in
+    let x : Role × Slot = (w.0, option_slot ty) in
+    (w.0, drop-cons ss k x (slice_get_within ss k x w.1) ∙ ap (λ (y : Role × Slot). y ∷ drop (suc k) ss) (get_or_from_slice_get ss k x x w.1) ∙ ap (λ (j : ℕ). x ∷ drop j ss) (sym (add-one k)))
+
+pub named_next : (ids : List Identity) (ts : List Type_tree) (s : ComponentDefinedType) (k : ℕ) (ty : Option ComponentValType) → option_map (λ (x : Role × Option ComponentValType). x.1) (slice_get (value_parts s) k) ≡ Some ty →
+    named_from ids ts s k ≡ (is_named ids (slot_tree ts (option_slot ty)) && named_from ids ts s (k + 1))
+named_next ids ts s k ty e = ap (λ ss. are_named ids (slot_parts ts ss)) (values_next s k ty e).1
+
+abbrev slot_of : Role × Option ComponentValType → Role × Slot
+slot_of q = (q.0, option_slot q.1)
+
+pub named_all : (ids : List Identity) (ts : List Type_tree) (s : ComponentDefinedType) (k : ℕ) → length (value_parts s) ≤ k → named_from ids ts s k ≡ true
+named_all ids ts s k h = ap (λ ss. are_named ids (slot_parts ts ss)) (drop_of_length-le (value_slots (value_parts s)) (omega (arith, h, length-mapped slot_of (value_parts s))))
+
+-- a fact of the parts of slots, for those of one slot
+slot_all : (P : Part → Type 0) (ss : Slots) (k : ℕ) (x : Role × Slot) → All P (parts_in ss) → slice_get ss k ≡ Some x → All P (slot_refs x.1)
+slot_all P [] k x h e = absurd (cc)
+slot_all P (s ∷ ss) zero x h e =
+    let same : s ≡ x = cc in
+    subst (λ (y : Role × Slot). All P (slot_refs y.1)) same (all_left P (slot_refs s.1) (parts_in ss) h)
+slot_all P (s ∷ ss) (suc k) x h e = slot_all P ss k x (all_right P (slot_refs s.1) (parts_in ss) h) e
+
+-- it stands, before the whole
+pub value_before : (a : Arena) (bound : ℕ) (s : ComponentDefinedType) (k : ℕ) (ty : Option ComponentValType) → All (StandsBefore a (suc bound)) (parts_in (defined_slots s)) →
+    option_map (λ (x : Role × Option ComponentValType). x.1) (slice_get (value_parts s) k) ≡ Some ty → SlotStands a (option_slot ty) × (value_rank ty < suc bound)
+value_before a bound s k ty h e =
+    let w = slot_at s k ty e in
+    let all : All (StandsBefore a (suc bound)) (parts_in (value_slots (value_parts s))) = all_right (StandsBefore a (suc bound)) (handle_parts s) (parts_in (value_slots (value_parts s))) (subst (All (StandsBefore a (suc bound))) (defined_parts s) h) in
+    go ty (slot_all (StandsBefore a (suc bound)) (value_slots (value_parts s)) k (w.0, option_slot ty) all w.1)
+  where
+    go : (x : Option ComponentValType) → All (StandsBefore a (suc bound)) (slot_refs (option_slot x)) → SlotStands a (option_slot x) × (value_rank x < suc bound)
+    go None w = (tt, omega arith)
+    go (Some (v.Primitive q)) w = (tt, omega arith)
+    go (Some (v.Ty i)) w = let t = All-head (StandsBefore a (suc bound)) (p.Defined i) [] w in (t.stands, t.before)
+
+-- ## The value type itself
+
+module _ (a : Arena) (ids : List ComponentAnyTypeId) (ty : Option ComponentValType) (i : ComponentDefinedTypeId) (s : ComponentDefinedType)
+    (is : ty ≡ Some (v.Ty i)) (stands : SlotStands a (option_slot ty)) (set : AllStand a ids) (unfolds : tree_at a (p.Defined i) ≡ unfolded a i.index (n.Defined s)) where
+  whole : is_named (identities ids) (slot_tree (trees a.nodes) (option_slot ty)) ≡ shape_named (identities ids) (trees a.nodes) (number i.index) s
+  whole = ap (λ (x : Option ComponentValType). is_named (identities ids) (slot_tree (trees a.nodes) (option_slot x))) is ∙ ap (is_named (identities ids)) unfolds
+
+  pub named_itself : names_itself s ≡ true → has_type ids (any.Defined i) ≡ is_named (identities ids) (slot_tree (trees a.nodes) (option_slot ty))
+  named_itself h =
+      node_in_set a i (subst (λ (x : Option ComponentValType). SlotStands a (option_slot x)) is stands) ids set ∙
+      sym (by_itself (identities ids) (trees a.nodes) (number i.index) s h) ∙ sym whole
+
+  pub named_handle : (r : AliasableResourceId) → handle_of s ≡ Some r → has_type ids (any.Resource r) ≡ is_named (identities ids) (slot_tree (trees a.nodes) (option_slot ty))
+  named_handle r h = reference_in_set a r ids set ∙ sym (by_handle (identities ids) (trees a.nodes) (number i.index) s r h) ∙ sym whole
+
+  pub named_parts : names_itself s ≡ false → handle_of s ≡ None → named_from (identities ids) (trees a.nodes) s 0 ≡ is_named (identities ids) (slot_tree (trees a.nodes) (option_slot ty))
+  named_parts h e = sym (by_parts (identities ids) (trees a.nodes) (number i.index) s h e) ∙ sym whole
+
+pub named_leaf : (ids : List Identity) (ts : List Type_tree) (ty : Option ComponentValType) → node_id ty ≡ None → is_named ids (slot_tree ts (option_slot ty)) ≡ true
+named_leaf ids ts None h = refl
+named_leaf ids ts (Some (v.Primitive q)) h = refl
+named_leaf ids ts (Some (v.Ty i)) h = absurd (cc)
+
+pub is_node : (ty : Option ComponentValType) (i : ComponentDefinedTypeId) → node_id ty ≡ Some i → ty ≡ Some (v.Ty i)
+is_node None i h = cc
+is_node (Some (v.Primitive q)) i h = cc
+is_node (Some (v.Ty j)) i h = let e : j ≡ i = cc in ap (λ k. Some (v.Ty k)) e

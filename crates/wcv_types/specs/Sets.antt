@@ -1,0 +1,31 @@
+-- Sets of identities of types.
+use Rattle.std.specs.Prelude.{List, [], ◌∷◌, ◌++◌, map, Bool, true, false, cond, eqb, ◌&&◌, All}
+use Rattle.std.specs.List.{list_any}
+use Rattle.wcv_types.specs.Arena.{Arena}
+use Rattle.wcv_types.specs.Entities.{any_part}
+use Rattle.wcv_types.specs.Identity.{Identity}
+use Rattle.wcv_types.specs.Standing.{Stands, identity_of}
+use Rattle.wcv_types.specs.declared.ids.ComponentAnyTypeId.{ComponentAnyTypeId}
+use Rattle.wcv_types.specs.declared.ids.ComponentAnyTypeId.TheVariants as any
+
+abbrev pub same_type : ComponentAnyTypeId → ComponentAnyTypeId → Bool
+same_type (any.Resource q) (any.Resource r) = eqb q.resource.index r.resource.index && eqb q.stamp r.stamp
+same_type (any.Defined i) (any.Defined j) = eqb i.index j.index
+same_type (any.Func i) (any.Func j) = eqb i.index j.index
+same_type (any.Instance i) (any.Instance j) = eqb i.index j.index
+same_type (any.Component i) (any.Component j) = eqb i.index j.index
+same_type _ _ = false
+
+abbrev pub has_type : List ComponentAnyTypeId → ComponentAnyTypeId → Bool
+has_type ids id = list_any (same_type id) ids
+
+-- the set with that id, which it may have already
+abbrev pub with_type : List ComponentAnyTypeId → ComponentAnyTypeId → List ComponentAnyTypeId
+with_type ids id = cond (has_type ids id) ids (ids ++ id ∷ [])
+
+-- all of them are of the arena
+abbrev pub AllStand : Arena → List ComponentAnyTypeId → Type 0
+AllStand a ids = All (λ id. Stands a (any_part id)) ids
+
+abbrev pub identities : List ComponentAnyTypeId → List Identity
+identities ids = map (λ id. identity_of (any_part id)) ids
