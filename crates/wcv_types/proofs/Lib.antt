@@ -30,3 +30,4 @@ pub mod Refilling
 pub mod Rebuilding
 pub mod SortLaws
 pub mod NamedBySet
+pub mod SameTypes

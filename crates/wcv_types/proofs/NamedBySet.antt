@@ -166,7 +166,7 @@ pub named_next : (ids : List Identity) (ts : List Type_tree) (s : ComponentDefin
     named_from ids ts s k ≡ (is_named ids (slot_tree ts (option_slot ty)) && named_from ids ts s (k + 1))
 named_next ids ts s k ty e = ap (λ ss. are_named ids (slot_parts ts ss)) (values_next s k ty e).1
 
-abbrev slot_of : Role × Option ComponentValType → Role × Slot
+abbrev pub slot_of : Role × Option ComponentValType → Role × Slot
 slot_of q = (q.0, option_slot q.1)
 
 pub named_all : (ids : List Identity) (ts : List Type_tree) (s : ComponentDefinedType) (k : ℕ) → length (value_parts s) ≤ k → named_from ids ts s k ≡ true

@@ -23,3 +23,4 @@ pub mod Sums
 pub mod Rebuild
 pub mod Sets
 pub mod NamedBySet
+pub mod Alike

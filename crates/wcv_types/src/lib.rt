@@ -18,6 +18,7 @@ mod named_types;
 mod nodes;
 mod parts;
 mod refill;
+mod same_types;
 mod shapes;
 mod sorts;
 mod store;
