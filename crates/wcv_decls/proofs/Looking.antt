@@ -85,9 +85,6 @@ module _ {X Y : Type 0} (a : Arena) (c : Context) (fs : WasmFeatures) (g : X →
     pub slots : AreSlots a c (map g done) (value_slots (map h out))
     pub free : IsFree (parts_checks fs c (map g done))
 
-  pub looked_none : (items rest : List X) → rest ≡ items → Looked items rest []
-  looked_none items rest e = record { done = []; all = e; slots = are_no_slots a c; free = tt }
-
   pub looked_next : (items rest : List X) (out : List Y) (x : X) (y : Y) → Looked items (x ∷ rest) out → (h y).0 ≡ (g x).0 → IsOption a c (g x).1 (h y).1 → IsFree (option_checks fs c (g x).1) → Looked items rest (out ++ y ∷ [])
   looked_next items rest out x y w e o f =
       let ps : map g (w.done ++ x ∷ []) ≡ map g w.done ++ g x ∷ [] = map-append g w.done (x ∷ []) in
@@ -100,16 +97,6 @@ module _ {X Y : Type 0} (a : Arena) (c : Context) (fs : WasmFeatures) (g : X →
         slots = subst (λ qs. AreSlots a c qs (value_slots (map h (out ++ y ∷ [])))) (sym ps) (subst (AreSlots a c (map g w.done ++ g x ∷ [])) (sym ss) (are_slots_push a c (map g w.done) (value_slots (map h out)) (g x) (h y).1 w.slots o));
         free = subst (λ qs. IsFree (parts_checks fs c qs)) (sym ps) (free_push fs c (map g w.done) (g x) w.free f);
       }
-
-  pub looked_all : (items rest : List X) (out : List Y) → rest ≡ [] → Looked items rest out → AreSlots a c (map g items) (value_slots (map h out))
-  looked_all items rest out e w =
-      let all : w.done ≡ items = sym (append-nil w.done) ∙ ap (λ ys. w.done ++ ys) (sym e) ∙ w.all in
-      subst (λ xs. AreSlots a c (map g xs) (value_slots (map h out))) all w.slots
-
-  pub looked_free : (items rest : List X) (out : List Y) → rest ≡ [] → Looked items rest out → IsFree (parts_checks fs c (map g items))
-  looked_free items rest out e w =
-      let all : w.done ≡ items = sym (append-nil w.done) ∙ ap (λ ys. w.done ++ ys) (sym e) ∙ w.all in
-      subst (λ xs. IsFree (parts_checks fs c (map g xs))) all w.free
 
   pub looked_caused : (items rest : List X) (out : List Y) (x : X) (offset : ℕ) (e : Error) → Looked items (x ∷ rest) out → MemoryOrCausedBy (option_checks fs c (g x).1) offset e → MemoryOrCausedBy (parts_checks fs c (map g items)) offset e
   looked_caused items rest out x offset e w t =

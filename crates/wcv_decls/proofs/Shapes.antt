@@ -45,9 +45,6 @@ module _ (a : Arena) (c : Context) (fs : WasmFeatures) where
   pub looked_up : (ps : List (Role × Option Written_value)) (ds : Checks) (offset : ℕ) (e : Error) → MemoryOrCausedBy (parts_checks fs c ps) offset e → MemoryOrCausedBy (parts_checks fs c ps ++ ds) offset e
   looked_up ps ds offset e t = caused_more (parts_checks fs c ps) (parts_checks fs c ps ++ ds) offset e (cause_left (parts_checks fs c ps) ds (error_kind e)) t
 
-  pub behind_them : (ps : List (Role × Option Written_value)) (cs ds : Checks) (offset : ℕ) (e : Error) → (Cause cs (error_kind e) → Cause ds (error_kind e)) → MemoryOrCausedBy cs offset e → MemoryOrCausedBy (parts_checks fs c ps ++ ds) offset e
-  behind_them ps cs ds offset e h t = caused_more cs (parts_checks fs c ps ++ ds) offset e (λ k. cause_right (parts_checks fs c ps) ds (error_kind e) (h k)) t
-
   pub one_caused : (o : Option Written_value) (offset : ℕ) (e : Error) → MemoryOrCausedBy (option_checks fs c o) offset e → MemoryOrCausedBy (parts_checks fs c ((here, o) ∷ [])) offset e
   one_caused o offset e t = caused_more (option_checks fs c o) (parts_checks fs c ((here, o) ∷ [])) offset e (cause_left (option_checks fs c o) [] (error_kind e)) t
 

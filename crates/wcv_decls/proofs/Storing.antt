@@ -43,23 +43,3 @@ module _ (a b : Arena) (s : Contents) (x : Node) (eb : b ≡ with_node a x) (h :
     live = live;
     keeps = keeps_trans a b b s s (with_id in_types id s) node_keeps (keeps_with_id b in_types id s node_stands (stands, stands));
   })
-
--- ## Sizes
-
--- a number is too great where it is so as it is kept
-over_kept : (limit n k : ℕ) → limit < k → nat_lt limit (min n k) ≡ nat_lt limit n
-over_kept limit n k h = grind (arith, nat_tests)
-
-pub sizes_are : (info : TypeInfo) (abi : AbiInfo) (t : Type_tree) → IsInfoOf info t → IsAbiOf abi t → kept_checks info abi.size32 abi.size64 ≡ size_checks t
-sizes_are info abi t i h =
-    let one : too_many max_size info.size ≡ too_many max_size (size t) = ap (too_many max_size) i.size ∙ ap (λ (x : Bool). (kind.Limit, x) ∷ []) (over_kept max_size (size t) 4294967295 (omega arith)) in
-    let two : too_many max_depth info.depth ≡ too_many max_depth (depth t) = ap (too_many max_depth) i.depth ∙ ap (λ (x : Bool). (kind.Limit, x) ∷ []) (over_kept max_depth (depth t) 4294967295 (omega arith)) in
-    let three : too_many max_abi_size abi.size32 ≡ too_many max_abi_size (abi_size 4 t) = ap (too_many max_abi_size) h.size32 ∙ ap (λ (x : Bool). (kind.Limit, x) ∷ []) (over_kept max_abi_size (abi_size 4 t) 18446744073709551615 (omega arith)) in
-    let four : too_many max_abi_size abi.size64 ≡ too_many max_abi_size (abi_size 8 t) = ap (too_many max_abi_size) h.size64 ∙ ap (λ (x : Bool). (kind.Limit, x) ∷ []) (over_kept max_abi_size (abi_size 8 t) 18446744073709551615 (omega arith)) in
-    λ j. one j ++ (two j ++ (three j ++ four j))
-
--- a function takes no bytes
-pub func_sizes_are : (info : TypeInfo) (i : Name) (b : Bool) (ps : Parts Name Name) → IsInfoOf info (node (func i b) ps) → kept_checks info 0 0 ≡ size_checks (node (func i b) ps)
-func_sizes_are info i b ps h =
-    sizes_are info (record { size32 = 0; align32 = 1; size64 = 0; align64 = 1; contains_ptr = false; contains_handle = false; contains_borrow = false }) (node (func i b) ps) h
-    (record { size32 = refl; align32 = refl; size64 = refl; align64 = refl; contains_ptr = refl; contains_handle = refl; contains_borrow = refl })
