@@ -1,29 +1,17 @@
 -- A node that joined the arena and the types of a state, and its size.
-use Rattle.std.proofs.Common.{◌≡◌, ℕ, suc, ◌+◌, ◌≤◌, ◌<◌, min, List, [], ◌∷◌, ◌++◌, length, refl, sym, ◌∙◌, ap, subst, arith, length-append, Bool, true, false}
-use Rattle.std.specs.Prelude.{nat_lt}
-use Rattle.std.proofs.lemmas.Bool.Decides.{nat_tests}
-use Rattle.wcv_core.specs.Names.{Name}
-use Rattle.wcv_core.specs.declared.error.ErrorKind.TheVariants as kind
-use Rattle.wcv_types.specs.Abi.{abi_size, kept_size, IsAbiOf}
+use Rattle.std.proofs.Common.{◌≡◌, [], ◌∷◌, length, sym, ◌∙◌, ap, subst, arith, length-append, false}
 use Rattle.wcv_types.specs.Arena.{Arena}
 use Rattle.wcv_types.specs.Entities.{any_part}
-use Rattle.wcv_types.specs.Measure.{size, depth}
 use Rattle.wcv_types.specs.Standing.{Stands, Extends, with_node}
-use Rattle.wcv_types.specs.Tree.{func, node, Parts}
-use Rattle.wcv_types.specs.Unfold.{Type_tree, capped, tree_at, tree_of, trees, IsInfoOf}
-use Rattle.wcv_types.specs.declared.abi.AbiInfo.{AbiInfo}
+use Rattle.wcv_types.specs.Unfold.{tree_at, tree_of, trees}
 use Rattle.wcv_types.specs.declared.arena.Node.{Node}
 use Rattle.wcv_types.specs.declared.ids.ComponentAnyTypeId.{ComponentAnyTypeId}
-use Rattle.wcv_types.specs.declared.info.TypeInfo.{TypeInfo}
 use Rattle.wcv_types.proofs.Grown.{extends_push}
-use Rattle.wcv_lower.specs.Checks.{Checks, too_many, max_size, max_depth, max_abi_size}
 use Rattle.wcv_lower.specs.Context.{in_types, push, type_entry}
-use Rattle.wcv_lower.specs.Defined.{size_checks}
 use Rattle.wcv_state.specs.Contents.{Contents, with_id, StateStands}
 use Rattle.wcv_state.specs.Promises.{Keeps}
 use Rattle.wcv_state.proofs.Keeping.{state_stands, same_context, keeps_grown, keeps_trans, keeps_with_id, with_id_context}
 use Rattle.wcv_decls.specs.Items.{Stored}
-use Rattle.wcv_decls.specs.Resolved.{kept_checks}
 
 module _ (a b : Arena) (s : Contents) (x : Node) (eb : b ≡ with_node a x) (h : StateStands a s) where
   grew : Extends a b

@@ -1,5 +1,5 @@
 -- How a type lies in memory, and what stands in it, are the same under a renaming.
-use Rattle.std.proofs.Common.{◌≡◌, ℕ, suc, max, ◌+◌, refl, ap, ◌∙◌, Bool, ◌||◌}
+use Rattle.std.proofs.Common.{◌≡◌, ℕ, suc, max, ◌+◌, refl, ap, ◌∙◌, ◌||◌}
 use Rattle.wcv_types.specs.Abi.{align_up, former_size, former_align, former_has, count, abi_align, greatest_align, abi_size, end_of, greatest_size, Mark, contains, any_contains}
 use Rattle.wcv_types.specs.Rename.{rename, rename_parts}
 use Rattle.wcv_types.specs.Tree.{nothing, primitive, resource, defined, func, instance, component, type_entity, Tree, node, Parts, none, part}

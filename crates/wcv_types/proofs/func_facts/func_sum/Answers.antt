@@ -1,4 +1,4 @@
-use Rattle.std.proofs.Common.{rules, ◌≡◌, ◌≤◌, ◌+◌, ℕ, List, [], ◌∷◌, ◌++◌, length, take, take_all, sym, ◌∙◌, ap, subst}
+use Rattle.std.proofs.Common.{rules, ◌≤◌, List, [], length, take, take_all, sym, subst}
 use Rattle.wcv_types.specs.Sums.{IsSumOf}
 use Rattle.wcv_types.specs.Tree.{Text, Role, here, label}
 use Rattle.wcv_types.specs.Unfold.{Type_tree, Slot, Slots, value_slot, option_slot, field_slots, slot_parts, trees}
