@@ -1,6 +1,5 @@
 -- A type item whose node was stored, and its causes.
-use Rattle.std.proofs.Common.{◌≡◌, ℕ, List, [], ◌∷◌, ◌++◌, length, refl, sym, ◌∙◌, ap, subst, Some, None, ◌⊎◌, inl, inr}
-use Rattle.std.specs.Prelude.{Option}
+use Rattle.std.proofs.Common.{◌≡◌, ℕ, List, [], ◌∷◌, ◌++◌, length, sym, ◌∙◌, ap, subst, Some, ◌⊎◌, inl, inr}
 use Rattle.std.specs.Option.{option_map}
 use Rattle.wcv_core.specs.Names.{Name, base, number}
 use Rattle.wcv_core.specs.Refusal.{error_kind}
@@ -9,7 +8,7 @@ use Rattle.wcv_core.specs.declared.features.WasmFeatures.{WasmFeatures}
 use Rattle.wcv_syntax.specs.Model.{Defined_form, Func_form, defined_type, func_type}
 use Rattle.wcv_types.specs.Arena.{Arena}
 use Rattle.wcv_types.specs.Standing.{Stands, Fits}
-use Rattle.wcv_types.specs.Tree.{Former, defined, func, node, Parts, here}
+use Rattle.wcv_types.specs.Tree.{defined, func, node, Parts, here}
 use Rattle.wcv_types.specs.Unfold.{Type_tree, Slots, former_of, value_slots, value_parts, defined_slots, option_slot, field_slots, slot_parts, tree_of, trees, parts_in}
 use Rattle.wcv_types.specs.declared.arena.Node.TheVariants as n
 use Rattle.wcv_types.specs.declared.shapes.ComponentDefinedType.{ComponentDefinedType}
@@ -20,8 +19,8 @@ use Rattle.wcv_types.proofs.Grown.{length-trees}
 use Rattle.wcv_lower.specs.Checks.{Checks, Cause, IsFree, if_found}
 use Rattle.wcv_lower.specs.Context.{Context}
 use Rattle.wcv_lower.specs.Defined.{former, written_parts, defined_tree, has_borrow, own_checks, content_checks, size_checks, defined_checks}
-use Rattle.wcv_lower.specs.Types.{func_parts, func_tree, func_own_checks, func_checks, tree_checks}
-use Rattle.wcv_lower.specs.Values.{option_tree, parts_trees, parts_checks}
+use Rattle.wcv_lower.specs.Types.{func_parts, func_tree, func_own_checks, func_checks}
+use Rattle.wcv_lower.specs.Values.{option_tree, parts_checks}
 use Rattle.wcv_lower.proofs.Causes.{cause_left, cause_right, cause_either, free_both, free_left, free_right}
 use Rattle.wcv_state.specs.Contents.{Contents, context_of}
 use Rattle.wcv_state.specs.Promises.{MemoryOrCausedBy}

@@ -1,5 +1,5 @@
 -- The primitive that a defined type names.
-use Rattle.std.proofs.Common.{◌≡◌, refl, Some, None}
+use Rattle.std.proofs.Common.{◌≡◌, refl}
 use Rattle.wcv_core.specs.Names.{Name}
 use Rattle.wcv_types.specs.Tree.{defined, node, Parts}
 use Rattle.wcv_types.specs.Unfold.{former_of}

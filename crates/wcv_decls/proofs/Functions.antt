@@ -1,15 +1,14 @@
 -- The nodes of function types, from value types that were looked up.
-use Rattle.std.proofs.Common.{◌≡◌, ℕ, List, [], ◌∷◌, ◌++◌, map, refl, sym, ◌∙◌, ap, subst, Some, None, inl, inr}
+use Rattle.std.proofs.Common.{◌≡◌, ℕ, List, [], ◌∷◌, ◌++◌, map, refl, sym, ◌∙◌, ap, subst, inl, inr}
 use Rattle.std.specs.Prelude.{Option, ◌⊎◌}
 use Rattle.wcv_core.specs.Refusal.{error_kind}
 use Rattle.wcv_core.specs.declared.error.Error.{Error}
 use Rattle.wcv_core.specs.declared.error.ErrorKind.{ErrorKind}
 use Rattle.wcv_core.specs.declared.features.WasmFeatures.{WasmFeatures}
 use Rattle.wcv_syntax.specs.Model.{Func_form}
-use Rattle.wcv_syntax.specs.declared.component_type.ComponentValType.{ComponentValType as Written_value}
 use Rattle.wcv_types.specs.Arena.{Arena}
-use Rattle.wcv_types.specs.Tree.{Text, Role, here, label}
-use Rattle.wcv_types.specs.Unfold.{Slot, Slots, value_slot, option_slot, value_slots, field_slots}
+use Rattle.wcv_types.specs.Tree.{Text, here, label}
+use Rattle.wcv_types.specs.Unfold.{Slots, value_slot, option_slot, value_slots, field_slots}
 use Rattle.wcv_types.specs.declared.shapes.ComponentValType.{ComponentValType}
 use Rattle.wcv_types.proofs.Knowing.{fields_behind}
 use Rattle.wcv_lower.specs.Checks.{Checks, Cause, IsFree}

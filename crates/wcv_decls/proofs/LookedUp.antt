@@ -1,5 +1,5 @@
 -- Value types that were looked up.
-use Rattle.std.proofs.Common.{◌≡◌, ℕ, refl, sym, ◌∙◌, ap, subst, true, cond, Some, None, inr}
+use Rattle.std.proofs.Common.{◌≡◌, ℕ, refl, sym, ◌∙◌, ap, subst, cond, Some, None, inr}
 use Rattle.std.specs.Prelude.{slice_get, Option}
 use Rattle.std.specs.Option.{option_map, option_and_then}
 use Rattle.wcv_core.specs.declared.error.Error.{Error}
@@ -8,14 +8,14 @@ use Rattle.wcv_core.specs.declared.primitive.PrimitiveValType.{PrimitiveValType}
 use Rattle.wcv_syntax.specs.declared.component_type.ComponentValType.TheVariants as w
 use Rattle.wcv_types.specs.Arena.{Arena}
 use Rattle.wcv_types.specs.Standing.{Stands}
-use Rattle.wcv_types.specs.Tree.{Sort, sort, is_value, referenced}
+use Rattle.wcv_types.specs.Tree.{Sort, is_value, referenced}
 use Rattle.wcv_types.specs.Unfold.{trees, part_tree}
 use Rattle.wcv_types.specs.declared.ids.ComponentAnyTypeId.TheVariants as any
 use Rattle.wcv_types.specs.declared.ids.ComponentDefinedTypeId.{ComponentDefinedTypeId}
 use Rattle.wcv_types.specs.declared.ids.Part.TheVariants as part
 use Rattle.wcv_types.specs.declared.shapes.ComponentValType.TheVariants as v
 use Rattle.wcv_types.proofs.Unfolding.{sort_stands}
-use Rattle.wcv_lower.specs.Checks.{Checks, IsFree, missing_of, same_sort}
+use Rattle.wcv_lower.specs.Checks.{IsFree, missing_of, same_sort}
 use Rattle.wcv_lower.specs.Context.{Type_tree, Context, in_types}
 use Rattle.wcv_lower.specs.Values.{type_at, if_sort, option_checks}
 use Rattle.wcv_state.specs.Contents.{Contents, context_of, id_tree, StateStands}

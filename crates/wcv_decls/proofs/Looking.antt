@@ -1,7 +1,7 @@
 -- Lists of value types that were looked up in order.
-use Rattle.std.proofs.Common.{◌≡◌, ℕ, List, [], ◌∷◌, ◌++◌, map, length, refl, sym, ◌∙◌, ap, subst, append_assoc, append-nil, Some, None, inl, inr}
+use Rattle.std.proofs.Common.{◌≡◌, ℕ, List, [], ◌∷◌, ◌++◌, map, refl, sym, ◌∙◌, ap, subst, append_assoc, append-nil, Some, None}
 use Rattle.std.specs.Prelude.{Option, All}
-use Rattle.std.specs.Option.{option_map, option_and_then}
+use Rattle.std.specs.Option.{option_and_then}
 use Rattle.std.proofs.lemmas.List.{map-append}
 use Rattle.std.proofs.lemmas.List.Elements.{All-append, All-cons, All-nil}
 use Rattle.wcv_core.specs.Names.{Name}
@@ -15,10 +15,9 @@ use Rattle.wcv_types.specs.Entities.{SlotStands}
 use Rattle.wcv_types.specs.Standing.{Stands}
 use Rattle.wcv_types.specs.Tree.{Role, Parts, none, part}
 use Rattle.wcv_types.specs.Unfold.{Type_tree, Slot, leaf, at, both, Slots, option_slot, value_slots, slot_refs, parts_in, slot_tree, slot_parts, trees}
-use Rattle.wcv_types.specs.declared.ids.Part.{Part}
 use Rattle.wcv_types.specs.declared.shapes.ComponentValType.{ComponentValType}
 use Rattle.wcv_types.proofs.Knowing.{parts_in-append}
-use Rattle.wcv_lower.specs.Checks.{Checks, Cause, IsFree}
+use Rattle.wcv_lower.specs.Checks.{Cause, IsFree}
 use Rattle.wcv_lower.specs.Context.{Context}
 use Rattle.wcv_lower.specs.Values.{option_tree, Written_parts, behind, parts_trees, option_checks, parts_checks}
 use Rattle.wcv_lower.proofs.Causes.{cause_left, cause_right, free_both, free_left, free_right}
@@ -85,9 +84,6 @@ module _ {X Y : Type 0} (a : Arena) (c : Context) (fs : WasmFeatures) (g : X →
     pub slots : AreSlots a c (map g done) (value_slots (map h out))
     pub free : IsFree (parts_checks fs c (map g done))
 
-  pub looked_none : (items rest : List X) → rest ≡ items → Looked items rest []
-  looked_none items rest e = record { done = []; all = e; slots = are_no_slots a c; free = tt }
-
   pub looked_next : (items rest : List X) (out : List Y) (x : X) (y : Y) → Looked items (x ∷ rest) out → (h y).0 ≡ (g x).0 → IsOption a c (g x).1 (h y).1 → IsFree (option_checks fs c (g x).1) → Looked items rest (out ++ y ∷ [])
   looked_next items rest out x y w e o f =
       let ps : map g (w.done ++ x ∷ []) ≡ map g w.done ++ g x ∷ [] = map-append g w.done (x ∷ []) in
@@ -101,18 +97,8 @@ module _ {X Y : Type 0} (a : Arena) (c : Context) (fs : WasmFeatures) (g : X →
         free = subst (λ qs. IsFree (parts_checks fs c qs)) (sym ps) (free_push fs c (map g w.done) (g x) w.free f);
       }
 
-  pub looked_all : (items rest : List X) (out : List Y) → rest ≡ [] → Looked items rest out → AreSlots a c (map g items) (value_slots (map h out))
-  looked_all items rest out e w =
-      let all : w.done ≡ items = sym (append-nil w.done) ∙ ap (λ ys. w.done ++ ys) (sym e) ∙ w.all in
-      subst (λ xs. AreSlots a c (map g xs) (value_slots (map h out))) all w.slots
-
-  pub looked_free : (items rest : List X) (out : List Y) → rest ≡ [] → Looked items rest out → IsFree (parts_checks fs c (map g items))
-  looked_free items rest out e w =
-      let all : w.done ≡ items = sym (append-nil w.done) ∙ ap (λ ys. w.done ++ ys) (sym e) ∙ w.all in
-      subst (λ xs. IsFree (parts_checks fs c (map g xs))) all w.free
-
   pub looked_caused : (items rest : List X) (out : List Y) (x : X) (offset : ℕ) (e : Error) → Looked items (x ∷ rest) out → MemoryOrCausedBy (option_checks fs c (g x).1) offset e → MemoryOrCausedBy (parts_checks fs c (map g items)) offset e
   looked_caused items rest out x offset e w t =
       caused_more (option_checks fs c (g x).1) (parts_checks fs c (map g items)) offset e
       (λ k. subst (λ xs. Cause (parts_checks fs c (map g xs)) (error_kind e)) w.all
-          (subst (λ qs. Cause (parts_checks fs c qs) (error_kind e)) (sym (map-append g w.done (x ∷ rest))) (cause_in fs c (map g w.done) (g x) (map g rest) (error_kind e) k))) t
+      (subst (λ qs. Cause (parts_checks fs c qs) (error_kind e)) (sym (map-append g w.done (x ∷ rest))) (cause_in fs c (map g w.done) (g x) (map g rest) (error_kind e) k))) t

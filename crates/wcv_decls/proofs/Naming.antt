@@ -1,15 +1,14 @@
 -- The names that a type item gives.
-use Rattle.std.proofs.Common.{◌≡◌, ℕ, suc, List, [], ◌∷◌, ◌++◌, length, refl, sym, ◌∙◌, ap, subst, arith, Bool, true, cond, Some, None}
+use Rattle.std.proofs.Common.{◌≡◌, suc, List, [], ◌∷◌, length, refl, sym, ◌∙◌, ap, arith, Bool, cond, Some, None}
 use Rattle.std.specs.Prelude.{Option}
 use Rattle.std.specs.Option.{option_map}
 use Rattle.wcv_core.specs.Names.{Name, Place, number}
 use Rattle.wcv_core.proofs.Places.{under-refl}
-use Rattle.wcv_syntax.specs.Model.{Type_form, type_item}
+use Rattle.wcv_syntax.specs.Model.{Type_form}
 use Rattle.wcv_types.specs.Arena.{Arena}
 use Rattle.wcv_lower.specs.Checks.{IsFree}
 use Rattle.wcv_lower.specs.Context.{Type_tree, Context, in_types, type_entry}
-use Rattle.wcv_lower.specs.Given.{GivenNames, named, names_of, or_by_place, GivesAt}
-use Rattle.wcv_lower.specs.Growth.{grow}
+use Rattle.wcv_lower.specs.Given.{GivenNames, named, or_by_place, GivesAt}
 use Rattle.wcv_lower.specs.Names.{introduced, Under}
 use Rattle.wcv_lower.specs.Step.{Step, apply, appends}
 use Rattle.wcv_lower.specs.Types.{type_tree}

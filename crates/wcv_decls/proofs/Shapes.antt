@@ -1,27 +1,21 @@
 -- The nodes of defined types, from value types that were looked up.
-use Rattle.std.proofs.Common.{◌≡◌, ℕ, List, [], ◌∷◌, ◌++◌, refl, sym, ◌∙◌, ap, subst, append-nil, Some, None, inl, inr}
+use Rattle.std.proofs.Common.{◌≡◌, ℕ, List, [], ◌∷◌, ◌++◌, sym, subst, Some}
 use Rattle.std.specs.Prelude.{Option}
 use Rattle.wcv_core.specs.Refusal.{error_kind}
 use Rattle.wcv_core.specs.declared.error.Error.{Error}
-use Rattle.wcv_core.specs.declared.error.ErrorKind.{ErrorKind}
 use Rattle.wcv_core.specs.declared.features.WasmFeatures.{WasmFeatures}
-use Rattle.wcv_syntax.specs.declared.component_type.ComponentDefinedType.TheVariants as written
 use Rattle.wcv_syntax.specs.declared.component_type.ComponentValType.{ComponentValType as Written_value}
-use Rattle.wcv_syntax.specs.Model.{simple}
 use Rattle.wcv_types.specs.Arena.{Arena}
 use Rattle.wcv_types.specs.Tree.{Role, here}
-use Rattle.wcv_types.specs.Unfold.{Type_tree, option_slot, slot_tree, trees}
-use Rattle.wcv_types.specs.declared.shapes.ComponentDefinedType.{ComponentDefinedType}
-use Rattle.wcv_types.specs.declared.shapes.ComponentDefinedType.TheVariants as d
+use Rattle.wcv_types.specs.Unfold.{Type_tree, option_slot}
 use Rattle.wcv_types.specs.declared.shapes.ComponentValType.{ComponentValType}
-use Rattle.wcv_lower.specs.Checks.{Checks, Cause, IsFree, if_found}
+use Rattle.wcv_lower.specs.Checks.{Checks, IsFree, if_found}
 use Rattle.wcv_lower.specs.Context.{Context}
-use Rattle.wcv_lower.specs.Defined.{has_borrow, bad_key, bad_map_value, bad_element}
-use Rattle.wcv_lower.specs.Values.{value_tree, option_tree, option_checks, parts_checks}
+use Rattle.wcv_lower.specs.Values.{option_checks, parts_checks}
 use Rattle.wcv_lower.proofs.Causes.{cause_left, cause_right, free_both}
 use Rattle.wcv_state.specs.Promises.{MemoryOrCausedBy}
 use Rattle.wcv_state.proofs.Calls.{caused_more}
-use Rattle.wcv_decls.specs.Resolved.{IsOption, AreSlots, IsShape, resolve_checks}
+use Rattle.wcv_decls.specs.Resolved.{IsOption, AreSlots}
 use Rattle.wcv_decls.proofs.Looking.{are_no_slots, are_slots_push}
 
 module _ (a : Arena) (c : Context) (fs : WasmFeatures) where
@@ -44,9 +38,6 @@ module _ (a : Arena) (c : Context) (fs : WasmFeatures) where
   -- the looked-up checks of a list of parts, and what stands behind them
   pub looked_up : (ps : List (Role × Option Written_value)) (ds : Checks) (offset : ℕ) (e : Error) → MemoryOrCausedBy (parts_checks fs c ps) offset e → MemoryOrCausedBy (parts_checks fs c ps ++ ds) offset e
   looked_up ps ds offset e t = caused_more (parts_checks fs c ps) (parts_checks fs c ps ++ ds) offset e (cause_left (parts_checks fs c ps) ds (error_kind e)) t
-
-  pub behind_them : (ps : List (Role × Option Written_value)) (cs ds : Checks) (offset : ℕ) (e : Error) → (Cause cs (error_kind e) → Cause ds (error_kind e)) → MemoryOrCausedBy cs offset e → MemoryOrCausedBy (parts_checks fs c ps ++ ds) offset e
-  behind_them ps cs ds offset e h t = caused_more cs (parts_checks fs c ps ++ ds) offset e (λ k. cause_right (parts_checks fs c ps) ds (error_kind e) (h k)) t
 
   pub one_caused : (o : Option Written_value) (offset : ℕ) (e : Error) → MemoryOrCausedBy (option_checks fs c o) offset e → MemoryOrCausedBy (parts_checks fs c ((here, o) ∷ [])) offset e
   one_caused o offset e t = caused_more (option_checks fs c o) (parts_checks fs c ((here, o) ∷ [])) offset e (cause_left (option_checks fs c o) [] (error_kind e)) t

@@ -1,6 +1,6 @@
 -- What a type item does to a state.
-use Rattle.std.specs.Prelude.{ℕ, suc, List, Bool, false, Some, length, ◌≡◌}
-use Rattle.wcv_core.specs.Names.{Name, Place, number}
+use Rattle.std.specs.Prelude.{suc, List, Bool, false, Some, length, ◌≡◌}
+use Rattle.wcv_core.specs.Names.{Place, number}
 use Rattle.wcv_syntax.specs.Built.{is_built_type}
 use Rattle.wcv_syntax.specs.Model.{Type_form, type_item}
 use Rattle.wcv_types.specs.Arena.{Arena}

@@ -1,5 +1,5 @@
 -- What types by ids stand for, in a context where they were looked up.
-use Rattle.std.specs.Prelude.{ℕ, List, [], ◌∷◌, ◌++◌, Bool, true, false, Option, Some, None, All, ◌≡◌}
+use Rattle.std.specs.Prelude.{ℕ, [], ◌∷◌, ◌++◌, Bool, true, false, Option, Some, None, All, ◌≡◌}
 use Rattle.wcv_core.specs.declared.features.WasmFeatures.{WasmFeatures}
 use Rattle.wcv_syntax.specs.declared.component_type.ComponentDefinedType.{ComponentDefinedType as Written_defined}
 use Rattle.wcv_syntax.specs.declared.component_type.ComponentDefinedType.TheVariants as written
@@ -10,7 +10,7 @@ use Rattle.wcv_types.specs.Entities.{SlotStands}
 use Rattle.wcv_types.specs.Standing.{Stands}
 use Rattle.wcv_syntax.specs.declared.component_type.VariantCase.{VariantCase}
 use Rattle.wcv_types.specs.Tree.{Text, Role, here, label}
-use Rattle.wcv_types.specs.Unfold.{Slots, value_slot, option_slot, value_slots, value_parts, field_slots, former_of, handles, parts_in, slot_tree, slot_parts, trees}
+use Rattle.wcv_types.specs.Unfold.{Slots, option_slot, value_slots, value_parts, field_slots, former_of, handles, parts_in, slot_tree, slot_parts, trees}
 use Rattle.wcv_core.specs.declared.primitive.PrimitiveValType.{PrimitiveValType}
 use Rattle.wcv_types.specs.declared.shapes.ComponentDefinedType.{ComponentDefinedType}
 use Rattle.wcv_types.specs.declared.shapes.ComponentDefinedType.TheVariants as d

@@ -109,12 +109,8 @@ fn resolve_simple(
 {
     match ty {
         Written::Primitive(primitive) => Ok(ComponentDefinedType::Primitive(primitive)),
-        Written::List(ty) => Ok(ComponentDefinedType::List(resolve(
-            ty, state, types, offset,
-        )?)),
-        Written::Option(ty) => Ok(ComponentDefinedType::Option(resolve(
-            ty, state, types, offset,
-        )?)),
+        Written::List(ty) => Ok(ComponentDefinedType::List(resolve(ty, state, types, offset)?)),
+        Written::Option(ty) => Ok(ComponentDefinedType::Option(resolve(ty, state, types, offset)?)),
         Written::FixedLengthList(ty, len) => Ok(ComponentDefinedType::FixedLengthList(
             resolve(ty, state, types, offset)?,
             len,

@@ -32,7 +32,12 @@ pub fn check_async(features: &WasmFeatures, needed_by: &str, offset: u64) -> Res
     ensures ok { OnOk result (IsFree (lacks features.now cm_async)) }
     ensures err { IfErr result (MemoryOrCausedBy (lacks features.now cm_async) offset) }
 {
-    check_feature(features.contains(WasmFeatures::CM_ASYNC), "cm-async", needed_by, offset)
+    check_feature(
+        features.contains(WasmFeatures::CM_ASYNC),
+        "cm-async",
+        needed_by,
+        offset,
+    )
 }
 
 /// Whether a primitive may stand.

@@ -44,7 +44,12 @@ pub fn check_size(info: TypeInfo, size32: u64, size64: u64, offset: u64) -> Resu
         return Err(too_large(offset, "takes this many bytes:", size32, MAX_ABI_SIZE));
     }
     if size64 > MAX_ABI_SIZE {
-        return Err(too_large(offset, "takes this many bytes with 64-bit pointers:", size64, MAX_ABI_SIZE));
+        return Err(too_large(
+            offset,
+            "takes this many bytes with 64-bit pointers:",
+            size64,
+            MAX_ABI_SIZE,
+        ));
     }
     Ok(())
 }

@@ -1,5 +1,5 @@
 -- Defined value types under a renaming.
-use Rattle.std.proofs.Common.{◌≡◌, ℕ, [], ◌∷◌, ◌++◌, refl, sym, ◌∙◌, ap, Bool, Some, None}
+use Rattle.std.proofs.Common.{◌≡◌, [], ◌∷◌, ◌++◌, refl, ◌∙◌, ap, Bool, Some, None}
 use Rattle.std.specs.Prelude.{Option, not}
 use Rattle.std.specs.Option.{option_map}
 use Rattle.wcv_core.specs.Names.{Name, base}
@@ -10,7 +10,7 @@ use Rattle.wcv_syntax.specs.declared.component_type.ComponentDefinedType.{Compon
 use Rattle.wcv_syntax.specs.declared.component_type.ComponentDefinedType.TheVariants as d
 use Rattle.wcv_syntax.specs.declared.component_type.ComponentValType.{ComponentValType}
 use Rattle.wcv_syntax.specs.Model.{Defined_form, record_of, variant_of, tuple_of, flags_of, enum_of, simple}
-use Rattle.wcv_types.specs.Abi.{Mark, handle, borrow, contains, abi_size}
+use Rattle.wcv_types.specs.Abi.{handle, borrow, abi_size}
 use Rattle.wcv_types.specs.Measure.{size, depth}
 use Rattle.wcv_types.specs.Rename.{rename, rename_parts}
 use Rattle.wcv_types.specs.Tree as tree

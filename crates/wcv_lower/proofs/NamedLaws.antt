@@ -1,13 +1,13 @@
 -- Which entries are named is the same under a renaming.
-use Rattle.std.proofs.Common.{◌≡◌, [], ◌∷◌, List, map, refl, ap, ◌∙◌, Bool, not, ◌&&◌, ◌||◌, Some, None}
+use Rattle.std.proofs.Common.{◌≡◌, [], ◌∷◌, List, map, refl, ap, ◌∙◌, not, ◌&&◌, ◌||◌, Some, None}
 use Rattle.std.specs.Prelude.{Option}
 use Rattle.std.specs.Option.{option_map}
 use Rattle.wcv_core.specs.Names.{Name}
 use Rattle.wcv_core.specs.declared.error.ErrorKind.TheVariants as kind
 use Rattle.wcv_types.specs.Identity.{Identity, of_node, of_reference, identity_at, rename_identity}
-use Rattle.wcv_types.specs.Named.{is_in, is_named, passes, is_named_entry}
-use Rattle.wcv_types.specs.Rename.{rename, rename_parts, EachName}
-use Rattle.wcv_types.specs.Tree.{Head, nothing, primitive, resource, defined, func, instance, component, type_entity, node, none, part, head, referenced}
+use Rattle.wcv_types.specs.Named.{is_named, passes, is_named_entry}
+use Rattle.wcv_types.specs.Rename.{rename, EachName}
+use Rattle.wcv_types.specs.Tree.{nothing, primitive, resource, defined, func, instance, component, type_entity, node, head, referenced}
 use Rattle.wcv_types.proofs.Each.{Each}
 use Rattle.wcv_types.proofs.Identity.{IdentityKept, identity-same}
 use Rattle.wcv_types.proofs.Named.{is_in-same, is_named-same, passes-same}

@@ -1,5 +1,5 @@
 -- Value types under a renaming; where there is no cause, they are found.
-use Rattle.std.proofs.Common.{◌≡◌, ℕ, [], ◌∷◌, ◌++◌, map, refl, sym, ◌∙◌, ap, Bool, true, false, cond, Some, None}
+use Rattle.std.proofs.Common.{◌≡◌, ℕ, [], ◌∷◌, ◌++◌, refl, sym, ◌∙◌, ap, Bool, true, false, cond, Some, None}
 use Rattle.std.specs.Prelude.{slice_get, Option, not}
 use Rattle.std.specs.Option.{option_map, option_and_then}
 use Rattle.std.proofs.lemmas.Bool.{false≢true}
@@ -9,7 +9,7 @@ use Rattle.wcv_syntax.specs.declared.component_type.ComponentValType.{ComponentV
 use Rattle.wcv_syntax.specs.declared.component_type.ComponentValType.TheVariants.{Primitive, Ty}
 use Rattle.wcv_types.specs.Rename.{rename, rename_parts}
 use Rattle.wcv_types.specs.Tree.{Sort, is_value, sort, referenced, Role, nothing, node, Parts, none, part}
-use Rattle.wcv_lower.specs.Checks.{Checks, IsFree, missing_of, same_sort}
+use Rattle.wcv_lower.specs.Checks.{IsFree, missing_of, same_sort}
 use Rattle.wcv_lower.specs.Context.{Type_tree, Context, types}
 use Rattle.wcv_lower.specs.Renamed.{rename_context}
 use Rattle.wcv_lower.specs.Values.{type_at, if_sort, value_tree, value_checks, Written_parts, option_tree, behind, parts_trees, option_checks, parts_checks}

@@ -8,15 +8,14 @@ use Rattle.wcv_core.specs.declared.primitive.PrimitiveValType.{PrimitiveValType}
 use Rattle.wcv_core.specs.declared.primitive.PrimitiveValType.TheVariants as prim
 use Rattle.wcv_syntax.specs.declared.component_type.ComponentDefinedType.{ComponentDefinedType}
 use Rattle.wcv_syntax.specs.declared.component_type.ComponentDefinedType.TheVariants as d
-use Rattle.wcv_syntax.specs.declared.component_type.ComponentValType.{ComponentValType}
 use Rattle.wcv_syntax.specs.Model.{Defined_form, record_of, variant_of, tuple_of, flags_of, enum_of, simple}
-use Rattle.wcv_types.specs.Abi.{Mark, handle, borrow, contains, abi_size}
+use Rattle.wcv_types.specs.Abi.{handle, borrow, contains, abi_size}
 use Rattle.wcv_types.specs.Measure.{size, depth}
 use Rattle.wcv_types.specs.Tree as tree
 use Rattle.wcv_types.specs.Tree.{Text, Former, here, label, defined, primitive, node, Tree}
 use Rattle.wcv_lower.specs.Checks.{Checks, if_found, too_many, each_too_long, label_checks, max_size, max_depth, max_list, max_elements, max_abi_size, max_flags}
 use Rattle.wcv_lower.specs.Context.{Type_tree, Context}
-use Rattle.wcv_lower.specs.Values.{lacks, primitive_checks, cm_async, cm_map, cm_fixed_length_lists, value_tree, value_checks, option_tree, Written_parts, parts_trees, parts_checks}
+use Rattle.wcv_lower.specs.Values.{lacks, primitive_checks, cm_async, cm_map, cm_fixed_length_lists, value_tree, option_tree, Written_parts, parts_trees, parts_checks}
 
 -- ## What it is made of
 

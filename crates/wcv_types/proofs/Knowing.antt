@@ -40,13 +40,6 @@ known_at ks xs k x e h w r =
     let within : k < length ks = omega (arith, w, ap (λ (ys : List Node). length ys) e, length-mapped (λ (y : Known). y.node) ks) in
     subst (λ (ys : List Node). IsFactsOf x.facts (tree_in (trees ys) k)) e (h k x (slice_get_read ks (length ks) k x refl within r))
 
--- the node itself
-pub node_at : (ks : List Known) (xs : List Node) (k : ℕ) (x : Known) → nodes_of ks ≡ xs → k < length xs → x ≡ get_or ks k x → slice_get xs k ≡ Some x.node
-node_at ks xs k x e w r =
-    let within : k < length ks = omega (arith, w, ap (λ (ys : List Node). length ys) e, length-mapped (λ (y : Known). y.node) ks) in
-    ap (λ (ys : List Node). slice_get ys k) (sym e) ∙ slice_get-map (λ (y : Known). y.node) ks k ∙
-    ap (option_map (λ (y : Known). y.node)) (slice_get_read ks (length ks) k x refl within r)
-
 -- one more node
 pub known_push : (ks ls : List Known) (x : Known) → ls ≡ ks ++ x ∷ [] → AllKnown ks → IsFactsOf x.facts (tree_of (trees (nodes_of ks)) x.node) → AllKnown ls
 known_push ks ls x e h f = subst AllKnown (sym e) pushed

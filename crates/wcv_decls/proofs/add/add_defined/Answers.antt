@@ -1,12 +1,10 @@
-use Rattle.std.proofs.Common.{◌≡◌, [], refl, subst, sym}
+use Rattle.std.proofs.Common.{refl, subst}
 use Rattle.std.proofs.lemmas.Result.{err_from_is_err_and, on_ok_weaker, IfErr-weaker}
 use Rattle.wcv_core.specs.declared.features.WasmFeatures.{WasmFeatures}
-use Rattle.wcv_core.specs.declared.error.Error.{Error}
-use Rattle.wcv_core.specs.Names.{base}
 use Rattle.wcv_syntax.specs.Model.{Defined_form}
 use Rattle.wcv_syntax.specs.View.{defined_view}
 use Rattle.wcv_types.specs.Arena.{Arena}
-use Rattle.wcv_lower.specs.Checks.{Checks, IsFree, if_found}
+use Rattle.wcv_lower.specs.Checks.{Checks, IsFree}
 use Rattle.wcv_lower.specs.Context.{Context}
 use Rattle.wcv_lower.specs.Defined.{own_checks}
 use Rattle.wcv_state.specs.Contents.{context_of}

@@ -1,4 +1,4 @@
-use Rattle.std.proofs.Common.{◌≡◌, ap, subst, sym, refl, true}
+use Rattle.std.proofs.Common.{ap, subst, sym, refl, true}
 use Rattle.wcv_syntax.specs.View.{type_view}
 use Rattle.wcv_state.specs.Contents.{Contents, spent}
 use Rattle.wcv_state.specs.Promises.{Keeps}

@@ -1,4 +1,4 @@
-use Rattle.std.proofs.Common.{◌≡◌, [], ◌∷◌, ◌++◌, Some}
+use Rattle.std.proofs.Common.{[], ◌∷◌, ◌++◌, Some}
 use Rattle.std.proofs.lemmas.Result.{err_from_is_err_and}
 use Rattle.wcv_core.specs.declared.features.WasmFeatures.{WasmFeatures}
 use Rattle.wcv_types.specs.Arena.{Arena}
@@ -31,5 +31,5 @@ returns-clause-free c =
     let value : Checks = if_found bad_map_value (value_tree x c.args.value) in
     free_both (parts_checks fs x ((here, Some c.args.key) ∷ (here, Some c.args.value) ∷ [])) (key ++ value) (two_free a x fs (Some c.args.key) (Some c.args.value) c.in_ok-key.ensures.free c.in_ok-value.ensures.free)
     (free_both key value
-        (found_free a x fs bad_key (value_tree x c.args.key) (slot_tree (trees a.nodes) (value_slot c.in_ok-key.key)) c.in_ok-key.ensures.ok.tree c.in_ok-check_key.ensures.ok)
-        (found_free a x fs bad_map_value (value_tree x c.args.value) (slot_tree (trees a.nodes) (value_slot c.in_ok-value.value)) c.in_ok-value.ensures.ok.tree c.in_ok-check_map_value.ensures.ok))
+    (found_free a x fs bad_key (value_tree x c.args.key) (slot_tree (trees a.nodes) (value_slot c.in_ok-key.key)) c.in_ok-key.ensures.ok.tree c.in_ok-check_key.ensures.ok)
+    (found_free a x fs bad_map_value (value_tree x c.args.value) (slot_tree (trees a.nodes) (value_slot c.in_ok-value.value)) c.in_ok-value.ensures.ok.tree c.in_ok-check_map_value.ensures.ok))

@@ -10,7 +10,7 @@ use Rattle.wcv_types.specs.Tree.{Text, here}
 use Rattle.wcv_types.specs.declared.shapes.ComponentFuncType.{ComponentFuncType}
 use Rattle.wcv_types.specs.declared.shapes.ComponentValType.{ComponentValType}
 use Rattle.wcv_types.specs.Unfold.{option_slot, field_slots, slot_tree, trees}
-use Rattle.wcv_lower.specs.Checks.{Checks, if_found}
+use Rattle.wcv_lower.specs.Checks.{if_found}
 use Rattle.wcv_lower.specs.Context.{Context}
 use Rattle.wcv_lower.specs.Defined.{has_borrow}
 use Rattle.wcv_lower.specs.Types.{func_parts}

@@ -1,6 +1,5 @@
-use Rattle.std.proofs.Common.{◌≡◌, subst, sym, refl, true}
-use Rattle.std.specs.Prelude.{OnErr}
-use Rattle.std.proofs.lemmas.Result.{err_from_is_err_and, on_err_weaker}
+use Rattle.std.proofs.Common.{subst, sym, refl, true}
+use Rattle.std.proofs.lemmas.Result.{err_from_is_err_and}
 use Rattle.wcv_types.specs.declared.arena.Node.TheVariants as node
 use Rattle.wcv_types.specs.declared.ids.ComponentAnyTypeId.TheVariants as any
 use Rattle.wcv_state.specs.Contents.{Contents}

@@ -1,4 +1,4 @@
-use Rattle.std.proofs.Common.{◌≡◌, sym, subst, Some}
+use Rattle.std.proofs.Common.{sym, subst, Some}
 use Rattle.std.proofs.lemmas.Result.{err_from_is_err_and}
 use Rattle.wcv_syntax.specs.declared.component_type.ComponentValType.{ComponentValType as Written}
 use Rattle.wcv_types.specs.declared.shapes.ComponentValType.TheVariants as v
