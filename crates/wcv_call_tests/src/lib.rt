@@ -4,6 +4,12 @@
 #[cfg(test)]
 mod base;
 #[cfg(test)]
+mod declared;
+#[cfg(test)]
+mod layouts;
+#[cfg(test)]
+mod lines;
+#[cfg(test)]
 mod state;
 #[cfg(test)]
 mod table;
@@ -11,3 +17,5 @@ mod table;
 mod text;
 #[cfg(test)]
 mod types;
+#[cfg(test)]
+mod written;

@@ -2,8 +2,9 @@
 ghost use Rattle.std.specs.Prelude.{◌≡◌, [], ◌∷◌, ◌++◌, OnOk, IfOk, All};
 ghost use Rattle.wcv_types.specs.Arena.{Arena};
 ghost use Rattle.wcv_types.specs.ComponentTrees.{ComponentStands, ResourceStands};
-ghost use Rattle.wcv_types.specs.Entities.{EntityStands, EntryStands};
+ghost use Rattle.wcv_types.specs.Entities.{EntityStands, EntryStands, SlotStands};
 ghost use Rattle.wcv_types.specs.Standing.{Fits, Stands};
+ghost use Rattle.wcv_types.specs.Unfold.{value_slot};
 ghost use Rattle.wcv_types.specs.declared.arena.Node.TheVariants as node;
 ghost use Rattle.wcv_types.specs.declared.ids.Part.TheVariants as part;
 
@@ -245,11 +246,14 @@ fn a_component_type_has_its_text(rt: HostRuntime) -> Result<(), Fail> {
     Ok(())
 }
 
-/// The component type that imports a value of a primitive type under this name.
-fn of_one_value(alloc: Global, name: &str) -> Result<ComponentType, OutOfMemory>
-    ensures { IfOk result (λ t. (a : Arena) → ComponentStands a t) }
+/// The component type that imports a value of this type under this name.
+fn of_one_value(
+    alloc: Global,
+    name: &str,
+    value: ComponentValType,
+) -> Result<ComponentType, OutOfMemory>
+    ensures { IfOk result (λ t. (a : Arena) → SlotStands a (value_slot value) → ComponentStands a t) }
 {
-    let value = ComponentValType::Primitive(PrimitiveValType::F32);
     let mut imports = ItemMap::new(alloc);
     push(
         alloc,
@@ -267,8 +271,15 @@ fn of_one_value(alloc: Global, name: &str) -> Result<ComponentType, OutOfMemory>
 }
 
 /// The text of that component type.
-fn text_of(alloc: Global, types: &TypeAlloc, name: &str) -> Result<String, OutOfMemory> {
-    let ty = of_one_value(alloc, name)?;
+pub fn text_of(
+    alloc: Global,
+    types: &TypeAlloc,
+    name: &str,
+    value: ComponentValType,
+) -> Result<String, OutOfMemory>
+    requires { SlotStands types.now (value_slot value) }
+{
+    let ty = of_one_value(alloc, name, value)?;
     let mut text = String::new(alloc);
     push_type(alloc, &mut text, types, &ty)?;
     Ok(text)
@@ -282,9 +293,10 @@ const NAMES: &str =
 fn names_stand_between_quotes(rt: HostRuntime) -> Result<(), Fail> {
     let alloc = rt.alloc();
     let types = TypeAlloc::new(alloc, WasmFeatures::default());
+    let value = ComponentValType::Primitive(PrimitiveValType::F32);
     for row in NAMES.split('|') {
         let (name, quoted) = case(row)?;
-        let text = text_of(alloc, &types, name)?;
+        let text = text_of(alloc, &types, name, value)?;
         let due = format!(in alloc; "import {quoted} value f32\n")?;
         assert_eq!(rt; text, due);
     }

@@ -5,6 +5,8 @@
 #[cfg(test)]
 mod bounds;
 #[cfg(test)]
+mod defined;
+#[cfg(test)]
 mod driver;
 #[cfg(test)]
 mod ends;

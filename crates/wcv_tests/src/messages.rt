@@ -4,7 +4,7 @@ use std::alloc::Global;
 use std::test::Fail;
 
 // A row has a line that says what it shows, which of the items T and I stand before, its items, and after
-// `=> ` the two lines of the refusal.
+// `=> ` the two lines of the refusal. N says that the listing names no feature, in place of the default.
 const ROWS: &str = r#"
 A typo in a body (`param` for `params`).
 -
@@ -39,26 +39,68 @@ item 2: export name `[method]a.b`: names with `[` are not built yet
 `error-context`.
 -
 {"at":0,"type":{"func":{"params":[["x","error-context"]]}}}
-=> refused Unbuilt at 0
-item 0: `error-context` in a function type is not built yet
+=> refused Feature at 0
+item 0: `error-context` needs the feature `cm-error-context`, which the listing does not name
 
-An async function type.
--
+An async function type, where no feature is named.
+N
 {"at":0,"type":{"func":{"params":[],"async":true}}}
-=> refused Unbuilt at 0
-item 0: async function types are not built yet
+=> refused Feature at 0
+item 0: an async function needs the feature `cm-async`, which the listing does not name
 
-A type by its index.
+A type by its own index.
 -
 {"at":0,"type":{"func":{"params":[["x",0]]}}}
-=> refused Unbuilt at 0
-item 0: types by index in a function type are not built yet
+=> refused OutOfBounds at 0
+item 0: type index 0 is out of bounds: no type stands before this item
 
-A defined type.
+A function type as a value type.
+T
+{"at":1,"type":{"defined":{"list":0}}}
+=> refused WrongSort at 1
+item 1: type index 0 is not of a value type
+
+A value type as the type of a function.
 -
-{"at":0,"type":{"defined":{"list":"u8"}}}
+{"at":0,"type":{"defined":{"list":"u8"}}},{"at":1,"import":{"name":"f","type":{"func":0}}}
+=> refused WrongSort at 1
+item 1: type index 0 is not of a function type
+
+A handle.
+T
+{"at":1,"type":{"defined":{"own":0}}}
+=> refused Unbuilt at 1
+item 1: handles (`own` and `borrow`) are not built yet
+
+A typo in a defined type (`tupel`).
+-
+{"at":0,"type":{"defined":{"tupel":["u8"]}}}
 => refused Unbuilt at 0
 item 0: UNREAD
+
+A record without fields.
+-
+{"at":0,"type":{"defined":{"record":[]}}}
+=> refused Shape at 0
+item 0: a record needs at least one field
+
+A field in camel case.
+-
+{"at":0,"type":{"defined":{"record":[["firstName","string"]]}}}
+=> refused Name at 0
+item 0: field name `firstName` is not a label: the letters of a word must have one case; `first-name` is a label
+
+Two flags that differ in case alone.
+-
+{"at":0,"type":{"defined":{"flags":["a-b","A-B"]}}}
+=> refused Conflict at 0
+item 0: flag name `A-B` conflicts with flag 0, `a-b`: names must differ in more than case
+
+A function over a record that has no name.
+-
+{"at":0,"type":{"defined":{"record":[["a","u8"]]}}},{"at":1,"type":{"func":{"params":[["x",0]]}}},{"at":2,"import":{"name":"f","type":{"func":1}}}
+=> refused Unnamed at 2
+item 2: import `f` uses a record, a variant, flags or an enum that has no name yet: such a type must be imported or exported before a function over it is
 
 An export of an instance.
 -
@@ -194,7 +236,11 @@ fn listing(alloc: Global, before: &str, items: &str) -> Result<Vec<u8>, Fail> {
         text.push_str(I)?;
     }
     text.push_str(items)?;
-    text.push_str("],\"end\":99}")?;
+    text.push_str("]")?;
+    if before.find('N').is_some() {
+        text.push_str(",\"features\":[]")?;
+    }
+    text.push_str(",\"end\":99}")?;
     Ok(text.as_bytes().to_vec(alloc)?)
 }
 

@@ -80,6 +80,24 @@ export "y" func 1
 export "x" func 0
 export "a" func 1
 
+An error context stands where its feature is named.
+wcv validate
+{"version":1,"items":[
+{"at":0,"type":{"func":{"params":[["x","error-context"]],"result":"error-context"}}},
+{"at":1,"import":{"name":"f","type":{"func":0}}}],"end":99,"features":["cm-error-context"]}
+=> accepted 1 1
+0: func {"x" error-context} -> error-context
+import "f" func 0
+
+An async function stands with the default features.
+wcv validate
+{"version":1,"items":[
+{"at":0,"type":{"func":{"params":[],"async":true}}},
+{"at":1,"import":{"name":"f","type":{"func":0}}}],"end":99}
+=> accepted 1 1
+0: async func {} -> -
+import "f" func 0
+
 Labels are words of one case that are joined by single dashes. A first word begins with a letter.
 wcv validate
 {"version":1,"items":[
@@ -179,21 +197,27 @@ wcv validate
 => 1
 refused Unbuilt at 7
 
-A parameter that is an error context is not built.
+An error context without its feature, as a parameter.
 wcv validate
 {"version":1,"items":[{"at":5,"type":{"func":{"params":[["x","error-context"]]}}}],"end":99}
 => 1
-refused Unbuilt at 5
+refused Feature at 5
 
-A result that is an error context is not built.
+So as a result.
 wcv validate
 {"version":1,"items":[{"at":5,"type":{"func":{"params":[],"result":"error-context"}}}],"end":99}
 => 1
-refused Unbuilt at 5
+refused Feature at 5
 
-An async function type is not built.
+An async function type, where no feature is named.
 wcv validate
-{"version":1,"items":[{"at":5,"type":{"func":{"params":[],"async":true}}}],"end":99}
+{"version":1,"items":[{"at":5,"type":{"func":{"params":[],"async":true}}}],"end":99,"features":[]}
+=> 1
+refused Feature at 5
+
+A handle is not built.
+wcv validate
+{"version":1,"items":[{"at":5,"type":{"defined":{"own":0}}}],"end":99}
 => 1
 refused Unbuilt at 5
 

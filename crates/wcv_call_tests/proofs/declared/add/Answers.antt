@@ -1,0 +1,5 @@
+use Rattle.std.proofs.Common.{[]}
+use Rattle.wcv_call_tests.proofs.declared.add.Goals as goal
+
+pub returns-in-Ok-clause-live : goal.returns-in-Ok-clause-live
+returns-in-Ok-clause-live c = (c.in-Ok.ensures.ok [] []).live

@@ -1,0 +1,121 @@
+// The lines of defined types.
+use crate::declared::declared;
+use crate::text::text_of;
+use std::alloc::Global;
+use std::test::Fail;
+
+// Types behind an owning and a borrowing handle, which have the indices 0 and 1, and the lines of a value of
+// the last one.
+const ROWS: &str = r#"
+0
+=> 0: resource r0
+1: own 0
+import "v" value 1
+
+1
+=> 0: resource r0
+1: borrow 0
+import "v" value 1
+
+tuple 1 0 1
+=> 0: resource r0
+1: borrow 0
+2: own 0
+3: tuple {1, 2, 1}
+import "v" value 3
+
+prim char
+=> 0: prim char
+import "v" value 0
+
+record u8 string
+=> 0: record {"n0" u8, "n1" string}
+import "v" value 0
+
+variant - u8 -
+=> 0: variant {"n0", "n1" u8, "n2"}
+import "v" value 0
+
+flags 3
+=> 0: flags {"n0", "n1", "n2"}
+import "v" value 0
+
+enum 1
+=> 0: enum {"n0"}
+import "v" value 0
+
+list f32
+=> 0: list f32
+import "v" value 0
+
+fixed-list s16 65536
+=> 0: fixed-list s16 65536
+import "v" value 0
+
+option bool
+=> 0: option bool
+import "v" value 0
+
+map string u64
+=> 0: map string u64
+import "v" value 0
+
+result - -
+=> 0: result - -
+import "v" value 0
+
+result u8 -
+=> 0: result u8 -
+import "v" value 0
+
+result - u8
+=> 0: result - u8
+import "v" value 0
+
+result u8 error-context
+=> 0: result u8 error-context
+import "v" value 0
+
+future -
+=> 0: future -
+import "v" value 0
+
+future u8
+=> 0: future u8
+import "v" value 0
+
+stream -
+=> 0: stream -
+import "v" value 0
+
+stream u8
+=> 0: stream u8
+import "v" value 0
+
+enum 1; flags 2; record 3 2 3; variant 4 - 0; list 5
+=> 0: flags {"n0", "n1"}
+1: enum {"n0"}
+2: record {"n0" 0, "n1" 1, "n2" 0}
+3: resource r0
+4: own 3
+5: variant {"n0" 2, "n1", "n2" 4}
+6: list 5
+import "v" value 6
+"#;
+
+// The lines of a value of the last of these types.
+fn lines(alloc: Global, text: &str) -> Result<String, Fail> {
+    let (types, ty) = declared(alloc, text)?;
+    Ok(text_of(alloc, &types, "v", ty)?)
+}
+
+#[test]
+fn defined_types_have_their_lines(rt: HostRuntime) -> Result<(), Fail> {
+    let alloc = rt.alloc();
+    for row in ROWS.trim().split("\n\n") {
+        let (asked, due) = row.split_once("\n=> ").ok_or("a row has no lines")?;
+        let text = lines(alloc, asked)?;
+        assert_eq!(rt; text.as_str().trim_end(), due, "{asked}");
+    }
+    Ok(())
+}

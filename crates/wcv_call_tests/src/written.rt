@@ -1,0 +1,131 @@
+// Defined types by words. A value type is a primitive or an index, and `-` is one that is left out.
+use std::alloc::Global;
+use std::test::Fail;
+use wcv_core::{PrimitiveValType, Text};
+use wcv_syntax::{ComponentDefinedType, ComponentValType, VariantCase};
+
+const PRIMITIVES: [(&str, PrimitiveValType); 14] = [
+    ("bool", PrimitiveValType::Bool),
+    ("s8", PrimitiveValType::S8),
+    ("u8", PrimitiveValType::U8),
+    ("s16", PrimitiveValType::S16),
+    ("u16", PrimitiveValType::U16),
+    ("s32", PrimitiveValType::S32),
+    ("u32", PrimitiveValType::U32),
+    ("s64", PrimitiveValType::S64),
+    ("u64", PrimitiveValType::U64),
+    ("f32", PrimitiveValType::F32),
+    ("f64", PrimitiveValType::F64),
+    ("char", PrimitiveValType::Char),
+    ("string", PrimitiveValType::String),
+    ("error-context", PrimitiveValType::ErrorContext),
+];
+
+fn primitive(word: &str) -> Option<PrimitiveValType> {
+    for (name, primitive) in PRIMITIVES {
+        if name == word {
+            return Some(primitive);
+        }
+    }
+    None
+}
+
+fn value(word: &str) -> Result<ComponentValType, Fail> {
+    match primitive(word) {
+        Some(primitive) => Ok(ComponentValType::Primitive(primitive)),
+        None => Ok(ComponentValType::Ty(word.parse()?)),
+    }
+}
+
+fn optional(word: &str) -> Result<Option<ComponentValType>, Fail> {
+    if word == "-" {
+        return Ok(None);
+    }
+    Ok(Some(value(word)?))
+}
+
+// The k-th name of a list.
+fn name(alloc: Global, k: usize) -> Result<Text, Fail> {
+    let name = format!(in alloc; "n{k}")?;
+    Ok(Text::new(alloc, name.as_str())?)
+}
+
+fn names(alloc: Global, count: usize) -> Result<Vec<Text>, Fail> {
+    let mut names = Vec::new(alloc);
+    for k in 0..count {
+        names.push(name(alloc, k)?)?;
+    }
+    Ok(names)
+}
+
+fn fields(alloc: Global, words: &str) -> Result<Vec<(Text, ComponentValType)>, Fail> {
+    let mut fields = Vec::new(alloc);
+    for (k, word) in words.split(' ').enumerate() {
+        fields.push((name(alloc, k)?, value(word)?))?;
+    }
+    Ok(fields)
+}
+
+fn cases(alloc: Global, words: &str) -> Result<Vec<VariantCase>, Fail> {
+    let mut cases = Vec::new(alloc);
+    for (k, word) in words.split(' ').enumerate() {
+        let name = name(alloc, k)?;
+        let ty = optional(word)?;
+        cases.push(VariantCase { name, ty })?;
+    }
+    Ok(cases)
+}
+
+// So many cases, each with the payload.
+fn cases_of(alloc: Global, count: usize, word: &str) -> Result<Vec<VariantCase>, Fail> {
+    let mut cases = Vec::new(alloc);
+    for k in 0..count {
+        let name = name(alloc, k)?;
+        let ty = optional(word)?;
+        cases.push(VariantCase { name, ty })?;
+    }
+    Ok(cases)
+}
+
+fn values(alloc: Global, words: &str) -> Result<Vec<ComponentValType>, Fail> {
+    let mut values = Vec::new(alloc);
+    for word in words.split(' ') {
+        values.push(value(word)?)?;
+    }
+    Ok(values)
+}
+
+// A type that is written by two words behind its form.
+fn of_two(alloc: Global, form: &str, rest: &str) -> Result<ComponentDefinedType, Fail> {
+    let (first, second) = rest.split_once(' ').ok_or("a type has no second word")?;
+    match form {
+        "map" => Ok(ComponentDefinedType::Map(value(first)?, value(second)?)),
+        "fixed-list" => Ok(ComponentDefinedType::FixedLengthList(value(first)?, second.parse()?)),
+        "result" => Ok(ComponentDefinedType::Result {
+            ok: optional(first)?,
+            err: optional(second)?,
+        }),
+        "cases" => Ok(ComponentDefinedType::Variant(cases_of(alloc, first.parse()?, second)?)),
+        _ => Err("a type has no form".into()),
+    }
+}
+
+/// The type that the words give: its form, and then the types of its parts. Fields, cases and names are
+/// called `n0`, `n1` and so on: of flags and enums there stands how many, and `cases` are the cases of a
+/// variant, of which there are so many with that payload.
+pub fn written(alloc: Global, words: &str) -> Result<ComponentDefinedType, Fail> {
+    let (form, rest) = words.split_once(' ').ok_or("a type has no parts")?;
+    match form {
+        "prim" => Ok(ComponentDefinedType::Primitive(primitive(rest).ok_or("no primitive")?)),
+        "record" => Ok(ComponentDefinedType::Record(fields(alloc, rest)?)),
+        "variant" => Ok(ComponentDefinedType::Variant(cases(alloc, rest)?)),
+        "tuple" => Ok(ComponentDefinedType::Tuple(values(alloc, rest)?)),
+        "flags" => Ok(ComponentDefinedType::Flags(names(alloc, rest.parse()?)?)),
+        "enum" => Ok(ComponentDefinedType::Enum(names(alloc, rest.parse()?)?)),
+        "list" => Ok(ComponentDefinedType::List(value(rest)?)),
+        "option" => Ok(ComponentDefinedType::Option(value(rest)?)),
+        "future" => Ok(ComponentDefinedType::Future(optional(rest)?)),
+        "stream" => Ok(ComponentDefinedType::Stream(optional(rest)?)),
+        _ => of_two(alloc, form, rest),
+    }
+}
