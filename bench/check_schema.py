@@ -5,8 +5,8 @@
 
 The listings that are changed are those in examples/, one for each example of a form in the schema, one for
 each canonical function, and the .json files below each FOLDER; each second change is one of a listing whose
-forms are all built. In examples/functions.json each place is also changed in each way. The same seed makes the
-same listings. What disagrees is printed, and the last line has counts. Needs Python 3.10 and its package
+forms are all built. In examples/functions.json and examples/defined.json each place is also changed in each
+way. The same seed makes the same listings. What disagrees is printed, and the last line has counts. Needs Python 3.10 and its package
 `jsonschema`, 4.0, or later versions of both.
 
 What must hold of each text:
@@ -133,11 +133,6 @@ def is_number(value):
     return isinstance(value, int) and not isinstance(value, bool)
 
 
-def is_built_func(func):
-    values = [param[-1] for param in func["params"]] + [func.get("result", "bool")]
-    return not func.get("async", False) and not any(is_number(it) or it == "error-context" for it in values)
-
-
 def is_built_name(name):
     return isinstance(name, str) and "[" not in name and ":" not in name
 
@@ -145,8 +140,10 @@ def is_built_name(name):
 def is_built(item):
     """Whether an item that has a form is of one that is read and built today."""
     match item:
-        case {"type": {"func": func}}:
-            return is_built_func(func)
+        case {"type": {"func": _}}:
+            return True
+        case {"type": {"defined": defined}}:
+            return isinstance(defined, str) or not {"own", "borrow"} & set(defined)
         case {"import": {"name": name, "type": {"func": _}}}:
             return is_built_name(name)
         case {"export": {"name": name, "sort": "func", **others}}:
@@ -445,7 +442,8 @@ def main():
     in_turn = zip(itertools.cycle(seeds), itertools.cycle(filter(is_read, seeds)))
     changes = Changes(random.Random(given.seed), seeds)
     changed = itertools.islice(itertools.chain.from_iterable(in_turn), given.count)
-    texts = [*map(write, seeds), *every_change(read_example("functions.json")), *map(changes.make, changed)]
+    whole = [text for name in ("functions.json", "defined.json") for text in every_change(read_example(name))]
+    texts = [*map(write, seeds), *whole, *map(changes.make, changed)]
     wrong, said, statuses = list(check_parts()), collections.Counter(), collections.Counter()
 
     def check(text):

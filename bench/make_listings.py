@@ -90,3 +90,84 @@ def nested(limit, around):
         body = around(body)
     for _ in range(limit // (len(json.dumps(body, separators=(",", ":"))) + 26)):
         yield {"component": body}
+
+
+def defined(body):
+    return {"type": {"defined": body}}
+
+
+def bounded(limit, make):
+    """What `make` gives for 0, 1, .., one item a line, until the lines have so many bytes."""
+    size, k = 60, 0
+    while True:
+        item = make(k)
+        size += len(json.dumps({"at": 31 + 23 * k, **item})) + 2
+        if size > limit:
+            return
+        yield item
+        k += 1
+
+
+DOUBLINGS = 18  # of a primitive: the type then has the size 524,287, and one more would pass the limit
+
+
+def twice(limit):
+    """Tuples that name the type before twice, from a primitive on, and again from one where the next tuple
+    would pass the limit on a type's size."""
+    run = DOUBLINGS + 1
+    yield from bounded(limit, lambda k: defined({"tuple": [k - 1, k - 1]} if k % run else PRIMITIVES[k // run % 13]))
+
+
+def largest(limit):
+    """Types that name the largest so far: tuples that name it twice, then records of it, until both limits on
+    a type are near, and then records that all name the same one."""
+    deepest = 510
+
+    def make(k):
+        if k == 0:
+            return defined("u8")
+        before = min(k - 1, deepest)
+        return defined({"tuple": [before, before]} if k <= DOUBLINGS else {"record": [["inner", before]]})
+
+    yield from bounded(limit, make)
+
+
+def fields(count, seed):
+    """Fields with names of words that differ, over primitives."""
+    return [[f"{WORDS[k * 7 % 31]}-{WORDS[(k + seed) % 31]}-n{k}", PRIMITIVES[(k + seed) % 13]] for k in range(count)]
+
+
+def records(limit, count):
+    """Records with so many fields."""
+    yield from bounded(limit, lambda k: defined({"record": fields(count, k)}))
+
+
+def functions_over(limit):
+    """Groups of ten items: eight types, a function over three of them, and its import, so that the report has
+    them. The largest listing keeps below the limits on types and on a component's size."""
+
+    def make(k):
+        first, place = k // 10 * 9, k % 10
+        if place == 9:
+            return import_of(words_name("imported", k), first + 8)
+        if place == 8:
+            return func_type([["x", first + 4], ["y", first + 5]], first + 6)
+        return defined(
+            (
+                PRIMITIVES[k // 10 % 13],
+                {"tuple": [first, "u32"]},
+                {"result": {"err": "u32"}},
+                {"stream": "u8"},
+                {"list": "string"},
+                {"option": "u32"},
+                {"result": {"ok": "u8"}},
+                {"future": None},
+            )[place]
+        )
+
+    yield from bounded(limit, make)
+
+
+def long_list(count):
+    """One enum with so many cases."""
+    yield defined({"enum": [f"{WORDS[k * 7 % 31]}-{WORDS[k % 31]}-n{k}" for k in range(count)]})

@@ -1,16 +1,16 @@
 #!/usr/bin/env python3
 """Measures the programs that are built and prints the figures as tables in Markdown.
 
-    bench/measure.py [RUNS]
+    bench/measure.py [RUNS] [TABLE ..]
 
-Times and memory are medians of RUNS runs, 5 if not given, in which the programs that are compared take
-turns. Where valgrind is there, the instructions of one run are counted too: they do not depend on what
-else the machine does.
+The tables are `small`, `front`, `long`, `nested` and `types`, all of them if none is named. Times are the
+smallest of RUNS runs, 5 if not given, in which the programs that are compared take turns: what else the
+machine does can only add to them. Peak memory is the largest resident size of one more run. Where valgrind
+is there, the instructions of one run are counted too: they do not depend on what else the machine does.
 """
 import os
 import re
 import shutil
-import statistics
 import subprocess
 import sys
 import tempfile
@@ -25,8 +25,7 @@ VALIDATE = [f"{ROOT}/crates/wcv/out/wcv", "validate"]
 
 
 def run_once(words, file):
-    """The wall time, the user time, the whole time of the processor and the peak memory of one run, in
-    seconds and bytes."""
+    """The wall time, the user time and the whole time of the processor of one run, in seconds."""
     started = time.perf_counter()
     child = os.fork()
     if child == 0:
@@ -36,7 +35,15 @@ def run_once(words, file):
     _, status, used = os.wait4(child, 0)
     if status:
         sys.exit(f"{words[0]} ended with {os.waitstatus_to_exitcode(status)} on {file}")
-    return time.perf_counter() - started, used.ru_utime, used.ru_utime + used.ru_stime, used.ru_maxrss * 1024
+    return time.perf_counter() - started, used.ru_utime, used.ru_utime + used.ru_stime
+
+
+def peak_memory(words, file):
+    """The peak memory of one run, in bytes. A child of this program would begin with the memory of this one,
+    so a small program starts it: GNU time."""
+    with open(file, "rb") as given:
+        ran = subprocess.run(["/usr/bin/time", "-f", "%M", *words], stdin=given, capture_output=True, check=True)
+    return int(ran.stderr) * 1024
 
 
 def count_instructions(words, file, room):
@@ -50,12 +57,12 @@ def count_instructions(words, file, room):
 
 
 def measure(programs, file, runs):
-    """The medians of what each of the programs takes on the file."""
+    """The least times that each of the programs takes on the file, and its peak memory."""
     taken = [[] for _ in programs]
     for _ in range(runs):
         for program, rows in zip(programs, taken):
             rows.append(run_once(program, file))
-    return [[statistics.median(column) for column in zip(*rows)] for rows in taken]
+    return [[*map(min, zip(*rows)), peak_memory(program, file)] for program, rows in zip(programs, taken)]
 
 
 def print_table(first, programs, listings, runs, separators=None):
@@ -80,22 +87,56 @@ def print_table(first, programs, listings, runs, separators=None):
                 print(f"| {what} | {program} | {' | '.join(units)} |", flush=True)
 
 
-def main(runs):
-    print(f"{os.cpu_count()} processors, load {os.getloadavg()[0]:.1f} at the start, medians of {runs} runs. In brackets: times the bare parse.")
-    ordinary = [(f"{n} MB", make_listings.ordinary(n * 1_000_000), n < 64) for n in (1, 8, 64)]
-    programs = [("bare parse", PARSE), ("reading", READ), ("validation", VALIDATE)]
-    print_table("Listing", programs, ordinary, runs)
-    fronts = [(f"{n} MB", make_listings.ordinary(n * 1_000_000, make_listings.front_name), n < 64) for n in (1, 8, 64)]
-    print_table("Listing of names with one front", programs, fronts, runs)
-    largest = [
-        ("long names", make_listings.long_names(), False),
-        ("many parameters", make_listings.many_params(), False),
-    ]
-    print_table("Listing of long texts", programs, largest, runs)
+SIZES = (1, 8, 64)
+ALL = [("bare parse", PARSE), ("reading", READ), ("validation", VALIDATE)]
+
+
+def by_size(make, counted=(1, 8)):
+    return [(f"{n} MB", make(n * 1_000_000), n in counted) for n in SIZES]
+
+
+def small(runs):
+    print_table("Listing", ALL, by_size(make_listings.ordinary), runs)
+
+
+def front(runs):
+    name = make_listings.front_name
+    print_table("Listing of names with one front", ALL, by_size(lambda n: make_listings.ordinary(n, name)), runs)
+
+
+def long(runs):
+    makers = ("long names", make_listings.long_names()), ("many parameters", make_listings.many_params())
+    print_table("Listing of long texts", ALL, [(*maker, False) for maker in makers], runs)
+
+
+def nested(runs):
     shapes = [("arrays of one", lambda x: [x]), ("arrays of two", lambda x: [0, x]), ("objects of one", lambda x: {"": x})]
     deep = [(f"{name}, {n} MB", make_listings.nested(n * 1_000_000, around), n < 8) for name, around in shapes for n in (1, 8)]
-    print_table("Listing of nested parts", programs[:2], deep, runs, (",", ":"))
+    print_table("Listing of nested parts", ALL[:2], deep, runs, (",", ":"))
+
+
+def types(runs):
+    makers = (
+        ("types that name the one before twice", make_listings.twice),
+        ("types that name the largest so far", make_listings.largest),
+        ("records of 3 fields", lambda n: make_listings.records(n, 3)),
+        ("records of 10,000 fields", lambda n: make_listings.records(n, 10_000)),
+        ("types, functions over them and imports", make_listings.functions_over),
+    )
+    rows = [(f"{name}, {size}", items, is_counted) for name, make in makers for size, items, is_counted in by_size(make, (1,))]
+    rows.append(("an enum of 100,000 cases", make_listings.long_list(100_000), True))
+    print_table("Listing of types", ALL, rows, runs)
+
+
+TABLES = {"small": small, "front": front, "long": long, "nested": nested, "types": types}
+
+
+def main(runs, names):
+    load = os.getloadavg()[0]
+    print(f"{os.cpu_count()} processors, load {load:.1f} at the start, the least of {runs} runs. In brackets: times the bare parse.")
+    for name in names or TABLES:
+        TABLES[name](runs)
     print(f"\nLoad {os.getloadavg()[0]:.1f} at the end.")
 
 
-main(int(sys.argv[1]) if len(sys.argv) > 1 else 5)
+main(int(sys.argv[1]) if len(sys.argv) > 1 else 5, sys.argv[2:])

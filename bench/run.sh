@@ -1,6 +1,7 @@
 #!/usr/bin/env bash
 # Builds the program and the two that it is measured beside, as `rt` builds a release, and measures them.
-# The tables go to standard output. An argument is the number of runs for each figure.
+# The tables go to standard output. Arguments are the number of runs for each figure, and the tables that are
+# wanted (see measure.py).
 set -eu
 cd "$(dirname "$(readlink -f "${BASH_SOURCE[0]}")")/.."
 for crate in bench_parse bench_read wcv; do
