@@ -1,14 +1,13 @@
 -- Whether value types are named by a set of types.
-use Rattle.std.proofs.Common.{◌≡◌, ℕ, zero, suc, ◌+◌, ◌<◌, ◌≤◌, List, [], ◌∷◌, ◌++◌, length, drop, map, refl, sym, ◌∙◌, ap, subst, arith, Bool, true, false, ◌&&◌, ◌||◌, eqb, Some, None, drop-cons, add-one}
+use Rattle.std.proofs.Common.{◌≡◌, ℕ, zero, suc, ◌+◌, ◌<◌, ◌≤◌, List, [], ◌∷◌, length, drop, refl, sym, ◌∙◌, ap, subst, arith, Bool, true, false, ◌&&◌, ◌||◌, eqb, Some, None, drop-cons, add-one}
 use Rattle.std.specs.Prelude.{Option, slice_get, All}
 use Rattle.std.specs.Option.{option_map}
-use Rattle.std.specs.List.{list_any}
 use Rattle.std.proofs.lemmas.Bool.{false≢true, eqb-true}
 use Rattle.std.proofs.lemmas.List.Elements.{All-head, All-tail}
 use Rattle.std.proofs.lemmas.Option.{slice_get_within, get_or_from_slice_get}
 use Rattle.std.proofs.Math.ListN.{drop_of_length-le}
-use Rattle.wcv_core.specs.Names.{Name, number, stamp, same}
-use Rattle.wcv_types.specs.Tree.{Role, here, defined, node, Parts, none, part}
+use Rattle.wcv_core.specs.Names.{Name, number, stamp}
+use Rattle.wcv_types.specs.Tree.{Role, defined, node}
 use Rattle.wcv_types.specs.Arena.{Arena}
 use Rattle.wcv_types.specs.Entities.{any_part, SlotStands}
 use Rattle.wcv_types.specs.Identity.{Identity, of_node, of_reference, same_identity}
@@ -16,7 +15,7 @@ use Rattle.wcv_types.specs.Named.{is_in, is_named, are_named}
 use Rattle.wcv_types.specs.NamedBySet.{names_itself, handle_of, node_id}
 use Rattle.wcv_types.specs.Sets.{same_type, has_type, AllStand, identities}
 use Rattle.wcv_types.specs.Standing.{Stands, StandsBefore, identity_of}
-use Rattle.wcv_types.specs.Unfold.{Type_tree, Slot, leaf, at, both, Slots, slot_refs, parts_in, handle_parts, value_parts, value_slots, defined_slots, former_of, option_slot, slot_tree, slot_parts, trees, tree_at, unfolded}
+use Rattle.wcv_types.specs.Unfold.{Type_tree, Slot, Slots, slot_refs, parts_in, handle_parts, value_parts, value_slots, defined_slots, former_of, option_slot, slot_tree, slot_parts, trees, tree_at, unfolded}
 use Rattle.wcv_types.specs.declared.arena.Node.TheVariants as n
 use Rattle.wcv_types.specs.declared.ids.AliasableResourceId.{AliasableResourceId}
 use Rattle.wcv_types.specs.declared.ids.ComponentAnyTypeId.{ComponentAnyTypeId}

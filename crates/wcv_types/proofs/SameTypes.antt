@@ -5,15 +5,15 @@ use Rattle.std.proofs.lemmas.Option.{slice_get-map, slice_get_within, slice_get-
 use Rattle.std.specs.Option.{option_map}
 use Rattle.std.proofs.lemmas.Bool.{false≢true}
 use Rattle.std.proofs.Math.ListN.{drop_of_length-le}
-use Rattle.wcv_core.specs.Names.{Name, number, stamp}
+use Rattle.wcv_core.specs.Names.{Name, number}
 use Rattle.wcv_core.specs.declared.primitive.PrimitiveValType.{PrimitiveValType}
-use Rattle.wcv_types.specs.Alike.{Alike, LooksFormed, LeafIs, form_number, form_primitive, form_length, form_names, role_of, resource_of}
+use Rattle.wcv_types.specs.Alike.{Alike, LooksFormed, LeafIs, form_number, form_primitive, form_length, form_names, resource_of}
 use Rattle.wcv_types.specs.Arena.{Arena}
 use Rattle.wcv_types.specs.NamedBySet.{handle_of, node_id}
 use Rattle.wcv_types.specs.Rebuild.{tuple_value}
 use Rattle.wcv_types.specs.Seen.{Within, outer, seen, seen_parts, seen_defined}
-use Rattle.wcv_types.specs.Tree.{Text, Former, named, record_of, variant_of, list_of, map_of, tuple_of, option_of, result_of, own_of, borrow_of, future_of, stream_of, fixed_list_of, flags_of, enum_of, Head, nothing, primitive, resource, defined, func, instance, component, type_entity, Role, here, label, Tree, node, Parts, none, part}
-use Rattle.wcv_types.specs.Unfold.{Type_tree, Slot, leaf, at, Slots, leaf_tree, reference, former_of, defined_slots, value_parts, value_slots, option_slot, slot_tree, slot_parts, trees, tree_at, unfolded}
+use Rattle.wcv_types.specs.Tree.{Text, Former, named, record_of, variant_of, list_of, map_of, tuple_of, option_of, result_of, own_of, borrow_of, future_of, stream_of, fixed_list_of, flags_of, enum_of, Head, nothing, primitive, resource, defined, Role, here, Tree, node, Parts, none, part}
+use Rattle.wcv_types.specs.Unfold.{Type_tree, Slot, leaf, at, Slots, leaf_tree, former_of, defined_slots, value_parts, value_slots, option_slot, slot_tree, slot_parts, trees, tree_at, unfolded}
 use Rattle.wcv_types.specs.declared.arena.Node.TheVariants as n
 use Rattle.wcv_types.specs.declared.ids.AliasableResourceId.{AliasableResourceId}
 use Rattle.wcv_types.specs.declared.ids.ComponentDefinedTypeId.{ComponentDefinedTypeId}

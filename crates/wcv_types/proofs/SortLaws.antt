@@ -1,16 +1,16 @@
 -- Types by ids agree with their trees: what is free in them, and what they become.
-use Rattle.std.proofs.Common.{◌≡◌, ℕ, zero, suc, List, [], ◌∷◌, ◌++◌, length, refl, sym, ◌∙◌, ap, subst, inl, inr, Bool, true, false, ◌||◌, Some, None, arith}
+use Rattle.std.proofs.Common.{◌≡◌, ℕ, zero, suc, List, [], ◌∷◌, length, refl, sym, ◌∙◌, ap, subst, inl, inr, Bool, true, false, ◌||◌, Some, None, arith}
 use Rattle.std.specs.Prelude.{◌⊎◌, Option, Contains}
 use Rattle.std.proofs.lemmas.List.Elements.{Contains-append_left, Contains-append_right}
 use Rattle.wcv_core.specs.Names.{Name, number}
-use Rattle.wcv_types.specs.Tree.{Head, nothing, primitive, resource, defined, func, instance, component, type_entity, Role, here, node, Parts, part, none, head, type_of}
+use Rattle.wcv_types.specs.Tree.{Head, nothing, primitive, resource, defined, func, instance, component, type_entity, node, Parts, part, head, type_of}
 use Rattle.wcv_types.specs.Arena.{Arena}
-use Rattle.wcv_types.specs.Identity.{Identity, of_node, of_reference, identity_at}
+use Rattle.wcv_types.specs.Identity.{Identity, of_node, identity_at}
 use Rattle.wcv_types.specs.Resources.{owns, RefersTo, Free, FreeIn}
-use Rattle.wcv_types.specs.Replacing.{Replacement, given_at, given_or, moves, changed_in, again_head, new_head, replaced, replaced_in}
+use Rattle.wcv_types.specs.Replacing.{Replacement, given_at, given_or, moves, changed_in, new_head, replaced, replaced_in}
 use Rattle.wcv_types.specs.Rebuild.{refill, anew, MadeAgain, BecomesIn}
 use Rattle.wcv_types.specs.Standing.{identity_of, Unfolds}
-use Rattle.wcv_types.specs.Unfold.{Type_tree, Slot, leaf, at, both, Slots, leaf_tree, part_tree, slot_refs, slot_tree, slots_at, slot_parts, parts_in, parts_at, place, rank, trees, tree_at}
+use Rattle.wcv_types.specs.Unfold.{Slot, leaf, at, both, Slots, leaf_tree, part_tree, slot_refs, slot_tree, slots_at, slot_parts, parts_in, parts_at, place, rank, trees, tree_at}
 use Rattle.wcv_types.specs.declared.ids.Part.{Part}
 use Rattle.wcv_types.specs.declared.ids.Part.TheVariants as p
 

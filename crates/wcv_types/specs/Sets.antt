@@ -1,5 +1,5 @@
 -- Sets of identities of types.
-use Rattle.std.specs.Prelude.{List, [], ◌∷◌, ◌++◌, map, Bool, true, false, cond, eqb, ◌&&◌, All}
+use Rattle.std.specs.Prelude.{List, [], ◌∷◌, ◌++◌, map, Bool, false, cond, eqb, ◌&&◌, All}
 use Rattle.std.specs.List.{list_any}
 use Rattle.wcv_types.specs.Arena.{Arena}
 use Rattle.wcv_types.specs.Entities.{any_part}

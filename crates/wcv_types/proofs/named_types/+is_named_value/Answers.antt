@@ -1,5 +1,5 @@
-use Rattle.std.proofs.Common.{◌≡◌, ℕ, ◌+◌, sym, ◌∙◌, ap, Some, None, true, false, Bool, ◌&&◌, arith}
-use Rattle.wcv_types.specs.NamedBySet.{names_itself, handle_of}
+use Rattle.std.proofs.Common.{◌≡◌, ◌+◌, sym, ◌∙◌, ap, Some, None, true, false, Bool, ◌&&◌, arith}
+use Rattle.wcv_types.specs.NamedBySet.{handle_of}
 use Rattle.wcv_types.specs.Sets.{identities}
 use Rattle.wcv_types.specs.Unfold.{trees}
 use Rattle.wcv_types.specs.declared.shapes.ComponentValType.TheVariants as v

@@ -1,4 +1,4 @@
-use Rattle.std.proofs.Common.{◌≡◌, ℕ, sym, ◌∙◌, ap, Some, true, false, refl, arith}
+use Rattle.std.proofs.Common.{◌≡◌, sym, ◌∙◌, ap, Some, refl, arith}
 use Rattle.std.proofs.lemmas.Bool.{false≢true}
 use Rattle.wcv_types.specs.Unfold.{trees}
 use Rattle.wcv_types.specs.declared.shapes.ComponentValType.TheVariants as v
@@ -41,8 +41,9 @@ loop-k-preserved t c =
     alike_next (trees c.args.types.now.nodes) c.get-x.result.now c.get-y.result.now c.loop-k.k c.value_at.result c.value_at-in-loop-k.result c.value_at.ensures c.value_at-in-loop-k.ensures (c.same_label.ensures.0 c.if-not-same_label.false) (c.same_value.ensures.0 c.if-not-same_value.false) c.loop-k.invariant
 
 pub returns : goal.returns
-returns t c =
-    (λ e. from_nodes c.args.types.now c.args.a c.args.b c.in-Some.nodes.0 c.in-Some.nodes.1 c.in-Some.ensures.both.0 c.in-Some.ensures.both.1
-        (alike_whole c.args.types.now c.in-Some.nodes.0 c.in-Some.nodes.1 c.get-x.result.now c.get-y.result.now c.get-x.ensures.unfolds c.get-y.ensures.unfolds (c.same_former.ensures.0 c.if-not-same_former.false) (c.same_resource.ensures.0 c.if-not-same_resource.false)
-        (alike_end (trees c.args.types.now.nodes) c.get-x.result.now c.get-y.result.now c.loop-k.k (sym c.value_count.ensures ∙ c.if-value_count.false ∙ c.value_count-2.ensures) (omega (arith, c.loop-k-test.false, c.value_count-k-end.ensures)) c.loop-k.invariant)),
-     λ h. refl)
+returns t c = (
+  λ e. from_nodes c.args.types.now c.args.a c.args.b c.in-Some.nodes.0 c.in-Some.nodes.1 c.in-Some.ensures.both.0 c.in-Some.ensures.both.1
+      (alike_whole c.args.types.now c.in-Some.nodes.0 c.in-Some.nodes.1 c.get-x.result.now c.get-y.result.now c.get-x.ensures.unfolds c.get-y.ensures.unfolds (c.same_former.ensures.0 c.if-not-same_former.false) (c.same_resource.ensures.0 c.if-not-same_resource.false)
+      (alike_end (trees c.args.types.now.nodes) c.get-x.result.now c.get-y.result.now c.loop-k.k (sym c.value_count.ensures ∙ c.if-value_count.false ∙ c.value_count-2.ensures) (omega (arith, c.loop-k-test.false, c.value_count-k-end.ensures)) c.loop-k.invariant)),
+  λ h. refl,
+)
