@@ -10,7 +10,7 @@ use Rattle.wcv_lower.specs.Context.{Context}
 use Rattle.wcv_state.specs.Contents.{Contents, context_of, scope_of}
 use Rattle.wcv_state.specs.Promises.{Keeps, RefusesBy}
 use Rattle.wcv_decls.specs.Items.{declare_checks, Declared}
-use Rattle.wcv_decls.specs.Stack.{ChangesLast, DeclaresOn, RefusesOn, KeepsOn, contexts_around}
+use Rattle.wcv_decls.specs.Stack.{DeclaresOn, RefusesOn, KeepsOn, contexts_around}
 
 -- the last of a list, before and after it is set
 record LastSet {X : Type 0} (xs : List X) (k : ℕ) (x : X) (y : X) : Type 0 where

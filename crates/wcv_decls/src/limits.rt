@@ -90,10 +90,10 @@ fn check_defined(ty: &ComponentDefinedType, offset: u64) -> Result<(), Error>
             check_count(types.len(), MAX_LIST, "tuple", "type", offset)
         }
         ComponentDefinedType::Flags(names) => {
-            check_list(NameList::Flags(names), MAX_LIST, "flags type", offset)
+            check_list(NameList::Flags(names), MAX_LIST, "type", offset)
         }
         ComponentDefinedType::Enum(names) => {
-            check_list(NameList::EnumCases(names), MAX_LIST, "enum", offset)
+            check_list(NameList::EnumCases(names), MAX_LIST, "type", offset)
         }
         _ => Ok(()),
     }

@@ -100,7 +100,7 @@ A function over a record that has no name.
 -
 {"at":0,"type":{"defined":{"record":[["a","u8"]]}}},{"at":1,"type":{"func":{"params":[["x",0]]}}},{"at":2,"import":{"name":"f","type":{"func":1}}}
 => refused Unnamed at 2
-item 2: import `f` uses a record, a variant, flags or an enum that has no name yet: such a type must be imported or exported before a function over it is
+item 2: import `f`: the type of parameter `x` is, or has in it, a record, variant, flags or enum that was not imported or exported before
 
 An export of an instance.
 -

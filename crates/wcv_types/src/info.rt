@@ -32,7 +32,7 @@ impl TypeInfo {
             return Err(Error::new(
                 ErrorKind::Limit,
                 offset,
-                format_args!("type size {size} is greater than {MAX_SIZE}"),
+                format_args!("type has the size {size}, at most {MAX_SIZE} is allowed"),
             ));
         }
         let below = other.depth as u64 + 1;
@@ -41,7 +41,7 @@ impl TypeInfo {
             return Err(Error::new(
                 ErrorKind::Limit,
                 offset,
-                format_args!("type depth {depth} is greater than {MAX_DEPTH}"),
+                format_args!("type has the depth {depth}, at most {MAX_DEPTH} is allowed"),
             ));
         }
         self.size = size as u32;
