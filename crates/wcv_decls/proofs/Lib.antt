@@ -10,3 +10,4 @@ pub mod Positions
 pub mod Repeats
 pub mod Texts
 pub mod Stacks
+pub mod Ascending

@@ -1,3 +1,4 @@
 pub mod Resolved
 pub mod Items
 pub mod Stack
+pub mod Numbers

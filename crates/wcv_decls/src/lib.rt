@@ -2,6 +2,7 @@
 #![tactic(auto)]
 
 mod add;
+mod alike;
 mod content;
 mod declare;
 mod defined;

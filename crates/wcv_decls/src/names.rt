@@ -6,6 +6,7 @@ ghost use Rattle.wcv_lower.specs.Defined.{names_in};
 ghost use Rattle.wcv_state.specs.NameLists.{list_names};
 ghost use Rattle.wcv_state.specs.Promises.{MemoryOrCausedBy};
 
+use crate::alike::are_seen_to_differ;
 use std::alloc::Global;
 use wcv_core::{Error, LabelSet};
 use wcv_state::{NameList, insert_label};
@@ -16,6 +17,9 @@ pub fn check_labels(alloc: Global, list: NameList<'_>, offset: u64) -> Result<()
     ensures ok { OnOk result (IsFree (label_checks (list_names list.entry))) }
     ensures err { IfErr result (MemoryOrCausedBy (label_checks (list_names list.entry)) offset) }
 {
+    if are_seen_to_differ(alloc, list)? {
+        return Ok(());
+    }
     let mut keys = LabelSet::new(alloc);
     for k in 0..list.len() {
         insert_label(&mut keys, list.text_at(k), list, offset)?;

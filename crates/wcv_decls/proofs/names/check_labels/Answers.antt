@@ -7,7 +7,7 @@ use Rattle.wcv_decls.proofs.names.check_labels.Goals as goal
 
 pub returns-in_err-insert_label-clause-err : goal.returns-in_err-insert_label-clause-err
 returns-in_err-insert_label-clause-err c =
-    let p = err_from_is_err_and c.from_residual.result c.from_residual.ensures.1 in
+    let p = err_from_is_err_and c.from_residual-in_err-insert_label.result c.from_residual-in_err-insert_label.ensures.1 in
     rw (p.1, p.2)
     (names_caused c.loop-k.keys (list_names c.args.list) c.loop-k.k c.text_at.result.now c.text_at.ensures c.args.offset c.in_err-insert_label.field-0.0 c.loop-k.invariant.keys c.in_err-insert_label.ensures.err)
 
