@@ -1,5 +1,5 @@
 // Limits that the adding of a type leaves to its caller.
-ghost use Rattle.std.specs.Prelude.{length, ◌++◌, OnOk, IfErr};
+ghost use Rattle.std.specs.Prelude.{◌≡◌, true, length, ◌++◌, OnOk, IfErr};
 ghost use Rattle.wcv_syntax.specs.View.{defined_view, func_view, type_view};
 ghost use Rattle.wcv_lower.specs.Checks.{IsFree, too_long, too_many, each_too_long};
 ghost use Rattle.wcv_lower.specs.Defined.{defined_left};
@@ -39,11 +39,34 @@ fn check_text(text: &Text, word: &str, offset: u64) -> Result<(), Error>
     Ok(())
 }
 
+/// Whether a name is not too long.
+fn is_short(text: &Text) -> bool
+    ensures { result ≡ true → IsFree (too_long text.now) }
+{
+    text.as_str().len() <= LONGEST_TEXT
+}
+
+/// Whether no name of a list is.
+#[tactic(auto, using(crate::proofs::Texts::texts_push))]
+fn are_short(list: NameList<'_>) -> bool
+    ensures { result ≡ true → IsFree (each_too_long (list_names list.entry)) }
+{
+    for k in 0..list.len() {
+        if !is_short(list.text_at(k)) {
+            return false;
+        }
+    }
+    true
+}
+
 /// So of each name of a list.
 fn check_texts(list: NameList<'_>, offset: u64) -> Result<(), Error>
     ensures ok { OnOk result (IsFree (each_too_long (list_names list.entry))) }
     ensures err { IfErr result (MemoryOrCausedBy (each_too_long (list_names list.entry)) offset) }
 {
+    if are_short(list) {
+        return Ok(());
+    }
     for k in 0..list.len() {
         check_text(list.text_at(k), list.word(), offset)?;
     }
