@@ -1,8 +1,8 @@
 -- The own line of a node.
-use Rattle.std.proofs.Common.{◌≡◌, ℕ, ◌<◌, get_or, List, [], ◌∷◌, ◌++◌, length, refl, sym, ◌∙◌, ap, subst, append_assoc, Bool, true, false, cond, Option, Some, None}
+use Rattle.std.proofs.Common.{◌≡◌, ℕ, List, [], ◌∷◌, ◌++◌, length, refl, sym, ◌∙◌, ap, subst, append_assoc, Bool, true, false, cond, Option, Some, None}
 use Rattle.std.specs.Prelude.{slice_get}
 use Rattle.std.proofs.lemmas.List.Elements.{All-get_or}
-use Rattle.std.proofs.lemmas.Option.{get_or_from_slice_get, slice_get-get_or, slice_get_within}
+use Rattle.std.proofs.lemmas.Option.{get_or_from_slice_get, slice_get_within}
 use Rattle.wcv_core.specs.Names.{Name}
 use Rattle.wcv_types.specs.Arena.{Arena}
 use Rattle.wcv_types.specs.Identity.{Identity, identity_at}
@@ -65,10 +65,6 @@ line_shown old mid new before text next w number q t count given said added h =
     })
 
 -- ## Parts before the whole
-
--- what stands at a place of a list stands there in the same list
-pub at_part : {X : Type 0} (xs ys : List X) (k : ℕ) (x : X) → xs ≡ ys → k < length xs → x ≡ get_or xs k x → slice_get ys k ≡ Some x
-at_part {X = X} xs ys k x same below e = ap (λ (zs : List X). slice_get zs k) (sym same) ∙ slice_get-get_or xs k x below ∙ ap Some (sym e)
 
 -- a part of a type stands before it
 pub part_before : (a : Arena) (q r : Part) (k : ℕ) → Unfolds a q → slice_get (parts_at a q) k ≡ Some r → StandsBefore a (rank q) r

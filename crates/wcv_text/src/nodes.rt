@@ -1,35 +1,53 @@
 // The lines of nodes, each after the lines of its parts.
-ghost use Rattle.std.specs.Prelude.{◌≡◌, [], ◌∷◌, ◌++◌, Some, false, string_bytes, OnOk, IfOk};
+ghost use Rattle.std.specs.Prelude.{◌≡◌, ◌<◌, [], ◌∷◌, ◌++◌, length, slice_get, Some, false, string_bytes, OnOk, IfOk};
 ghost use Rattle.wcv_types.specs.Standing.{Stands, Unfolds, identity_of};
 ghost use Rattle.wcv_types.specs.Text.{has_line, with_resources, write};
 ghost use Rattle.wcv_types.specs.Tree.{Text, head};
-ghost use Rattle.wcv_types.specs.Unfold.{parts_at, rank, tree_at};
+ghost use Rattle.wcv_types.specs.Unfold.{parts_at, parts_of, rank, tree_at};
 ghost use Rattle.wcv_text.specs.Nodes.{form_of, own_line, NoneFrom};
 ghost use Rattle.wcv_text.specs.Numbers.{written, Appends, Writes};
 
 use crate::defined_line::push_defined;
-use crate::defined_parts::defined_parts;
-use crate::func_line::{func_parts, push_func};
+use crate::func_line::push_func;
 use crate::identity;
 use crate::numbers::Numbers;
 use crate::resource_line::push_reference;
-use std::alloc::AllocError;
+use std::alloc::{AllocError, Global};
 use std::fmt::Write;
-use wcv_types::{Part, TypeAlloc};
+use wcv_types::{ComponentDefinedTypeId, ComponentFuncTypeId, NodeSort, Part, Parts, TypeAlloc};
+
+/// The parts of a node.
+fn parts_in<S: NodeSort>(alloc: Global, shape: &S::Shape) -> Result<Parts, AllocError>
+    ensures { IfOk result (λ ps. ps ≡ parts_of (S.as_node shape.now)) }
+{
+    let mut parts = Parts::new(alloc);
+    match S::parts_into(shape, &mut parts) {
+        Ok(()) => Ok(parts),
+        Err(_) => Err(AllocError),
+    }
+}
 
 /// The parts of the type, which stand before it.
-fn parts(types: &TypeAlloc, part: Part) -> Result<Vec<Part>, AllocError>
+fn parts(types: &TypeAlloc, part: Part) -> Result<Parts, AllocError>
     requires { Stands types.now part }
-    ensures parts { IfOk result (λ ps. ps.items ≡ parts_at types.now part) }
+    ensures parts { IfOk result (λ ps. ps ≡ parts_at types.now part) }
     ensures unfolds { Unfolds types.now part }
 {
     let alloc = types.allocator();
     match part {
-        Part::Defined(id) => defined_parts(alloc, types.get(id)),
-        Part::Func(id) => func_parts(alloc, types.get(id)),
-        Part::Resource(_) => Ok(Vec::new(alloc)),
+        Part::Defined(id) => parts_in::<ComponentDefinedTypeId>(alloc, types.get(id)),
+        Part::Func(id) => parts_in::<ComponentFuncTypeId>(alloc, types.get(id)),
+        Part::Resource(_) => Ok(Parts::new(alloc)),
         _ => unreachable!(),
     }
+}
+
+/// The part at that position.
+fn part_at(parts: &Parts, k: usize) -> Part
+    requires { k < length parts.now }
+    ensures { slice_get parts.now k ≡ Some result }
+{
+    parts.as_slice()[k]
 }
 
 /// Appends the form of the type, and gives numbers to the resources that it mentions.
@@ -86,7 +104,7 @@ pub fn push_node(
     }
     let inner = parts(types, part)?;
     for k in 0..inner.len() {
-        push_node(text, numbers, types, inner[k])?;
+        push_node(text, numbers, types, part_at(&inner, k))?;
     }
     push_line(text, numbers, types, part)
 }

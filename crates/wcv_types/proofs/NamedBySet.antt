@@ -210,11 +210,6 @@ module _ (a : Arena) (ids : List ComponentAnyTypeId) (ty : Option ComponentValTy
   pub named_parts : names_itself s ≡ false → handle_of s ≡ None → named_from (identities ids) (trees a.nodes) s 0 ≡ is_named (identities ids) (slot_tree (trees a.nodes) (option_slot ty))
   named_parts h e = sym (by_parts (identities ids) (trees a.nodes) (number i.index) s h e) ∙ sym whole
 
-pub named_leaf : (ids : List Identity) (ts : List Type_tree) (ty : Option ComponentValType) → node_id ty ≡ None → is_named ids (slot_tree ts (option_slot ty)) ≡ true
-named_leaf ids ts None h = refl
-named_leaf ids ts (Some (v.Primitive q)) h = refl
-named_leaf ids ts (Some (v.Ty i)) h = absurd (cc)
-
 pub is_node : (ty : Option ComponentValType) (i : ComponentDefinedTypeId) → node_id ty ≡ Some i → ty ≡ Some (v.Ty i)
 is_node None i h = cc
 is_node (Some (v.Primitive q)) i h = cc

@@ -9,7 +9,7 @@ use Rattle.wcv_types.specs.declared.ids.Part.{Part}
 use Rattle.wcv_text.specs.Nodes.{write_all}
 use Rattle.wcv_text.specs.Numbers.{written, Shows}
 use Rattle.wcv_text.proofs.Folds.{fold_step}
-use Rattle.wcv_text.proofs.Lines.{at_part, part_before, write_old, write_new}
+use Rattle.wcv_text.proofs.Lines.{part_before, write_old, write_new}
 use Rattle.wcv_text.proofs.Older.{older_own, older_then, still_none}
 use Rattle.wcv_text.proofs.nodes.+push_node.Goals as goal
 
@@ -21,19 +21,19 @@ returns-then-has_line-clause-shows t c = λ before w h.
 
 pub push_node-requires : goal.push_node-requires
 push_node-requires t c =
-    let found : slice_get (parts_at c.args.types.now c.args.part) c.loop-k.k ≡ Some c.index.result.now =
-    at_part c.in_ok-inner.inner.items (parts_at c.args.types.now c.args.part) c.loop-k.k c.index.result.now c.in_ok-inner.ensures.parts (omega arith) c.index.ensures in
-    let s : StandsBefore c.args.types.now (rank c.args.part) c.index.result.now = part_before c.args.types.now c.args.part c.index.result.now c.loop-k.k c.in_ok-inner.ensures.unfolds found in
-    let smaller : rank c.index.result.now < rank c.args.part = s.before in
-    let stands : Stands c.args.types.now c.index.result.now = s.stands in
+    let found : slice_get (parts_at c.args.types.now c.args.part) c.loop-k.k ≡ Some c.part_at.result =
+    ap (λ (qs : List Part). slice_get qs c.loop-k.k) (sym c.in_ok-inner.ensures.parts) ∙ c.part_at.ensures in
+    let s : StandsBefore c.args.types.now (rank c.args.part) c.part_at.result = part_before c.args.types.now c.args.part c.part_at.result c.loop-k.k c.in_ok-inner.ensures.unfolds found in
+    let smaller : rank c.part_at.result < rank c.args.part = s.before in
+    let stands : Stands c.args.types.now c.part_at.result = s.stands in
     search rules
 
 pub loop-k-preserved : goal.loop-k-preserved
 loop-k-preserved t c =
     let a : Arena = c.args.types.now in
     let q : Part = c.args.part in
-    let r : Part = c.index.result.now in
-    let found : slice_get (parts_at a q) c.loop-k.k ≡ Some r = at_part c.in_ok-inner.inner.items (parts_at a q) c.loop-k.k r c.in_ok-inner.ensures.parts (omega arith) c.index.ensures in
+    let r : Part = c.part_at.result in
+    let found : slice_get (parts_at a q) c.loop-k.k ≡ Some r = ap (λ (qs : List Part). slice_get qs c.loop-k.k) (sym c.in_ok-inner.ensures.parts) ∙ c.part_at.ensures in
     let s : StandsBefore a (rank q) r = part_before a q r c.loop-k.k c.in_ok-inner.ensures.unfolds found in
     let below : rank r < rank q = s.before in
     record {
