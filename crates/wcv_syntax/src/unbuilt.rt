@@ -1,9 +1,14 @@
 // What of an item is not built yet, for messages.
 use crate::component_type::{ComponentType, ComponentTypeRef};
 use crate::instance::ComponentExternalKind;
+use crate::item::ItemForm;
 use crate::name::{ComponentExport, ComponentExternName, ComponentImport};
 use std::fmt;
 use wcv_core::Excerpt;
+
+/// Shows which bodies of a form of items are read, for a body that is none of them.
+#[derive(Clone, Copy)]
+pub struct UnreadForm(pub ItemForm);
 
 /// Shows what of a type is not built.
 #[derive(Clone, Copy)]
@@ -16,6 +21,30 @@ pub struct ImportForm<'a>(pub &'a ComponentImport);
 /// Shows what of an export is not built.
 #[derive(Clone, Copy)]
 pub struct ExportForm<'a>(pub &'a ComponentExport);
+
+impl fmt::Display for UnreadForm {
+    fn fmt<W: fmt::Write>(&self, f: &mut fmt::Formatter<W>) -> fmt::Result {
+        f.write_str(match self.0 {
+            ItemForm::Type => {
+                r#"the body of this "type" is none of {"func": {"params": [[NAME, TYPE], ..], "result": TYPE, "async": BOOL}} and {"defined": DEFINED}; no other is built yet"#
+            }
+            ItemForm::Import => {
+                r#"the body of this "import" is not {"name": NAME, "type": {"func": INDEX}}; no other is built yet"#
+            }
+            ItemForm::Export => {
+                r#"the body of this "export" is not {"name": NAME, "sort": SORT, "index": INDEX}; no other is built yet"#
+            }
+            ItemForm::CoreType => r#"items of the form "core-type" are not built yet"#,
+            ItemForm::CoreModule => r#"items of the form "core-module" are not built yet"#,
+            ItemForm::CoreInstance => r#"items of the form "core-instance" are not built yet"#,
+            ItemForm::Component => r#"items of the form "component" are not built yet"#,
+            ItemForm::Instance => r#"items of the form "instance" are not built yet"#,
+            ItemForm::Alias => r#"items of the form "alias" are not built yet"#,
+            ItemForm::Start => r#"items of the form "start" are not built yet"#,
+            ItemForm::Canon => r#"items of the form "canon" are not built yet"#,
+        })
+    }
+}
 
 impl fmt::Display for TypeForm<'_> {
     fn fmt<W: fmt::Write>(&self, f: &mut fmt::Formatter<W>) -> fmt::Result {

@@ -400,7 +400,8 @@ fn defined_types_have_their_lines(rt: HostRuntime) -> Result<(), Fail> {
 }
 
 // Types that are made to a number, and items behind them. `#` is the index of the last type. A type has at
-// most the depth 512 and the size 1,000,000, and so has the component, which counts 1 beside its entries.
+// most the depth 512 and the size 1,000,000, and so has the component, which counts 1 beside its entries. There are
+// at most 1,000,000 types.
 const MADE: &str = r##"
 flags 32 => ok
 flags 33 => Shape
@@ -430,6 +431,8 @@ size 999998 ; func {"params":[["x","u8"]],"result":#} => ok
 size 999999 ; func {"params":[["x","u8"]],"result":#} => Limit
 size 999998 ; func {"params":[["x",#]]} ; import # => ok
 size 999999 ; func {"params":[["x",#]]} ; import # => Limit
+types 1000000 => ok
+types 1000001 => Limit
 "##;
 
 // The body of flags or of an enum with so many names.
@@ -487,12 +490,21 @@ fn push_size(alloc: Global, items: &mut Items, size: u64) -> Result<(), Fail> {
     Ok(())
 }
 
+// So many types.
+fn push_types(items: &mut Items, count: u64) -> Result<(), Fail> {
+    for _ in 0..count {
+        items.push("\"u8\"")?;
+    }
+    Ok(())
+}
+
 // The types that a line of the table begins with.
 fn made(alloc: Global, form: &str, number: u64) -> Result<Items, Fail> {
     let mut items = Items::new(alloc);
     match form {
         "depth" => push_depth(alloc, &mut items, number)?,
         "size" => push_size(alloc, &mut items, number)?,
+        "types" => push_types(&mut items, number)?,
         "tuple" => items.push(tuple_body(alloc, number)?.as_str())?,
         "name" => items.push(record_body(alloc, number)?.as_str())?,
         _ => items.push(names_body(alloc, form, number)?.as_str())?,
