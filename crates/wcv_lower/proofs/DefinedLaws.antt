@@ -1,7 +1,7 @@
 -- Defined value types under a renaming.
-use Rattle.std.proofs.Common.{◌≡◌, [], ◌∷◌, ◌++◌, refl, ◌∙◌, ap, Bool, Some, None}
+use Rattle.std.proofs.Common.{◌≡◌, ℕ, [], ◌∷◌, ◌++◌, refl, ◌∙◌, ap, Bool, Some, None}
 use Rattle.std.specs.Prelude.{Option, not}
-use Rattle.std.specs.Option.{option_map}
+use Rattle.std.specs.Option.{option_map, option_and_then}
 use Rattle.wcv_core.specs.Names.{Name, base}
 use Rattle.wcv_core.specs.declared.error.ErrorKind.TheVariants as kind
 use Rattle.wcv_core.specs.declared.features.WasmFeatures.{WasmFeatures}
@@ -14,16 +14,16 @@ use Rattle.wcv_types.specs.Abi.{handle, borrow, abi_size}
 use Rattle.wcv_types.specs.Measure.{size, depth}
 use Rattle.wcv_types.specs.Rename.{rename, rename_parts}
 use Rattle.wcv_types.specs.Tree as tree
-use Rattle.wcv_types.specs.Tree.{Former, nothing, primitive, resource, defined, func, instance, component, type_entity, node, Parts}
+use Rattle.wcv_types.specs.Tree.{Former, nothing, primitive, resource, defined, func, instance, component, type_entity, here, is_resource, sort, node, none, part, Parts}
 use Rattle.wcv_types.proofs.AbiRenamed.{abi_size-rename, contains-rename}
 use Rattle.wcv_types.proofs.Measure.{size-rename, depth-rename}
-use Rattle.wcv_lower.specs.Checks.{Checks, if_found, too_many, max_size, max_depth, max_abi_size}
+use Rattle.wcv_lower.specs.Checks.{Checks, IsFree, if_found, missing_of, too_many, max_size, max_depth, max_abi_size}
 use Rattle.wcv_lower.specs.Context.{Type_tree, Context}
-use Rattle.wcv_lower.specs.Defined.{former, written_parts, defined_tree, own_checks, primitive_of, is_key, is_char, has_borrow, bad_key, bad_map_value, bad_element, simple_content, content_checks, size_checks, defined_checks}
+use Rattle.wcv_lower.specs.Defined.{former, written_parts, handle_index, made_of, made_checks, defined_tree, own_checks, primitive_of, is_key, is_char, has_borrow, bad_key, bad_map_value, bad_element, simple_content, content_checks, size_checks, defined_checks}
 use Rattle.wcv_lower.specs.Renamed.{rename_context}
-use Rattle.wcv_lower.specs.Values.{value_tree, option_tree, parts_trees, parts_checks}
+use Rattle.wcv_lower.specs.Values.{type_at, if_sort, resource_at, Written_parts, value_tree, option_tree, parts_checks}
 use Rattle.wcv_lower.proofs.Laws.{mapped-square}
-use Rattle.wcv_lower.proofs.ValueLaws.{value_tree-renamed, option_tree-renamed, parts_trees-renamed, parts_checks-renamed}
+use Rattle.wcv_lower.proofs.ValueLaws.{type_at-renamed, sorted-renamed, sorts-renamed, value_tree-renamed, option_tree-renamed, parts_trees-renamed, parts_checks-renamed, found_of, parts_there}
 
 -- sizes are those of the same parts under another identity
 pub sizes_aside : (k : Former) (i i' : Name) (o : Option (Parts Name Name)) →
@@ -32,10 +32,23 @@ sizes_aside k i i' None = refl
 sizes_aside k i i' (Some ps) = refl
 
 module _ (f g : Name → Name) where
+  resource_at-renamed : (c : Context) (k : ℕ) → resource_at (rename_context f g c) k ≡ option_map (rename f g) (resource_at c k)
+  resource_at-renamed c k = ap (option_and_then (if_sort is_resource)) (type_at-renamed f g c k) ∙ sorted-renamed f g is_resource (type_at c k)
+
+  made_of-renamed : (c : Context) (o : Option ℕ) (ps : Written_parts) → made_of (rename_context f g c) o ps ≡ option_map (rename_parts f g) (made_of c o ps)
+  made_of-renamed c None ps = parts_trees-renamed f g c ps
+  made_of-renamed c (Some k) ps =
+      ap (option_map (λ (t : Type_tree). part here t none)) (resource_at-renamed c k) ∙
+      mapped-square (rename f g) (λ (t : Type_tree). part here t none) (λ (t : Type_tree). part here t none) (rename_parts f g) (λ t. refl) (resource_at c k)
+
+  made_checks-renamed : (fs : WasmFeatures) (c : Context) (o : Option ℕ) (ps : Written_parts) → made_checks fs (rename_context f g c) o ps ≡ made_checks fs c o ps
+  made_checks-renamed fs c None ps = parts_checks-renamed f g fs c ps
+  made_checks-renamed fs c (Some k) ps = ap (missing_of is_resource) (ap (option_map sort) (type_at-renamed f g c k) ∙ sorts-renamed f g (type_at c k))
+
   pub defined_tree-renamed : (i : Name) (c : Context) (x : Defined_form) → defined_tree (g i) (rename_context f g c) x ≡ option_map (rename f g) (defined_tree i c x)
   defined_tree-renamed i c x =
-      ap (option_map (λ (ps : Parts Name Name). node (defined (g i) (former x)) ps)) (parts_trees-renamed f g c (written_parts x)) ∙
-      mapped-square (rename_parts f g) (λ (ps : Parts Name Name). node (defined (g i) (former x)) ps) (λ (ps : Parts Name Name). node (defined i (former x)) ps) (rename f g) (λ ps. refl) (parts_trees c (written_parts x))
+      ap (option_map (λ (ps : Parts Name Name). node (defined (g i) (former x)) ps)) (made_of-renamed c (handle_index x) (written_parts x)) ∙
+      mapped-square (rename_parts f g) (λ (ps : Parts Name Name). node (defined (g i) (former x)) ps) (λ (ps : Parts Name Name). node (defined i (former x)) ps) (rename f g) (λ ps. refl) (made_of c (handle_index x) (written_parts x))
 
   primitive_of-renamed : (t : Type_tree) → primitive_of (rename f g t) ≡ primitive_of t
   primitive_of-renamed (node (primitive p) ps) = refl
@@ -128,9 +141,17 @@ module _ (f g : Name → Name) where
 
   pub defined_checks-renamed : (fs : WasmFeatures) (c : Context) (x : Defined_form) → defined_checks fs (rename_context f g c) x ≡ defined_checks fs c x
   defined_checks-renamed fs c x =
-      let a : parts_checks fs (rename_context f g c) (written_parts x) ≡ parts_checks fs c (written_parts x) = parts_checks-renamed f g fs c (written_parts x) in
+      let a : made_checks fs (rename_context f g c) (handle_index x) (written_parts x) ≡ made_checks fs c (handle_index x) (written_parts x) = made_checks-renamed fs c (handle_index x) (written_parts x) in
       let b : content_checks (rename_context f g c) x ≡ content_checks c x = content_checks-renamed c x in
       let s : if_found size_checks (defined_tree (base []) (rename_context f g c) x) ≡ if_found size_checks (defined_tree (base []) c x) =
-      sizes_aside (former x) (base []) (g (base [])) (parts_trees (rename_context f g c) (written_parts x)) ∙
+      sizes_aside (former x) (base []) (g (base [])) (made_of (rename_context f g c) (handle_index x) (written_parts x)) ∙
       found-same size_checks size_checks-renamed (defined_tree (base []) c x) (defined_tree (g (base [])) (rename_context f g c) x) (defined_tree-renamed (base []) c x) in
       λ j. own_checks fs x ++ (a j ++ (b j ++ s j))
+
+-- ## Without a cause
+
+pub made_there : (fs : WasmFeatures) (c : Context) (o : Option ℕ) (ps : Written_parts) → IsFree (made_checks fs c o ps) → (qs : Parts Name Name) × (made_of c o ps ≡ Some qs)
+made_there fs c None ps h = parts_there fs c ps h
+made_there fs c (Some k) ps h =
+    let t = found_of is_resource (type_at c k) h in
+    (part here t.0 none, ap (option_map (λ (u : Type_tree). part here u none)) t.1)

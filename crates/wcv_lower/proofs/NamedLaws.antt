@@ -15,7 +15,7 @@ use Rattle.wcv_types.proofs.Renaming.{each-always}
 use Rattle.wcv_lower.specs.Checks.{asks_names, is_known, is_export_alone, unnamed}
 use Rattle.wcv_lower.specs.Context.{Type_tree, Kind, Side, importing, exporting}
 use Rattle.wcv_lower.specs.Renamed.{Renaming}
-use Rattle.wcv_lower.proofs.Laws.{referenced-renamed}
+use Rattle.wcv_lower.proofs.Laws.{referenced-renamed, kept, all_kept}
 
 module _ (w : Renaming) where
   abbrev f : Name → Name
@@ -27,22 +27,14 @@ module _ (w : Renaming) where
   abbrev to : List Identity → List Identity
   to = map (rename_identity f g)
 
-  kept : (i : Identity) → IdentityKept f w.resources.back g w.identities.back i
-  kept (of_node x) = w.identities.is_back x
-  kept (of_reference r s) = (w.resources.is_back r, w.identities.is_back s)
-
-  all_kept : (ids : List Identity) → Each (IdentityKept f w.resources.back g w.identities.back) ids
-  all_kept [] = tt
-  all_kept (i ∷ ids) = (kept i, all_kept ids)
-
   has_way_back : (t : Type_tree) → EachName (λ r. w.resources.back (f r) ≡ r) (λ i. w.identities.back (g i) ≡ i) t
   has_way_back t = each-always (λ (r : Name). w.resources.back (w.resources.to r) ≡ r) (λ (i : Name). w.identities.back (w.identities.to i) ≡ i) w.resources.is_back w.identities.is_back t
 
   named-renamed : (ids : List Identity) (t : Type_tree) → is_named (to ids) (rename f g t) ≡ is_named ids t
-  named-renamed ids t = is_named-same f w.resources.back g w.identities.back ids t (all_kept ids) (has_way_back t)
+  named-renamed ids t = is_named-same f w.resources.back g w.identities.back ids t (all_kept w ids) (has_way_back t)
 
   passes-renamed : (ids : List Identity) (t : Type_tree) → passes (to ids) (rename f g t) ≡ passes ids t
-  passes-renamed ids t = passes-same f w.resources.back g w.identities.back ids t (all_kept ids) (has_way_back t)
+  passes-renamed ids t = passes-same f w.resources.back g w.identities.back ids t (all_kept w ids) (has_way_back t)
 
   entry-renamed : (ids : List Identity) (t : Type_tree) → is_named_entry (to ids) (rename f g t) ≡ is_named_entry ids t
   entry-renamed ids (node (defined i k) ps) = named-renamed ids (node (defined i k) ps)
@@ -56,7 +48,7 @@ module _ (w : Renaming) where
 
   known-renamed : (ids : List Identity) (o : Option Identity) → is_known (to ids) (option_map (rename_identity f g) o) ≡ is_known ids o
   known-renamed ids None = refl
-  known-renamed ids (Some i) = is_in-same f w.resources.back g w.identities.back ids i (all_kept ids) (kept i)
+  known-renamed ids (Some i) = is_in-same f w.resources.back g w.identities.back ids i (all_kept w ids) (kept w i)
 
   head-renamed : (t : Type_tree) → identity_at (head (rename f g t)) ≡ option_map (rename_identity f g) (identity_at (head t))
   head-renamed (node h ps) = identity-same f g h

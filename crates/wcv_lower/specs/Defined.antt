@@ -12,10 +12,10 @@ use Rattle.wcv_syntax.specs.Model.{Defined_form, record_of, variant_of, tuple_of
 use Rattle.wcv_types.specs.Abi.{handle, borrow, contains, abi_size}
 use Rattle.wcv_types.specs.Measure.{size, depth}
 use Rattle.wcv_types.specs.Tree as tree
-use Rattle.wcv_types.specs.Tree.{Text, Former, here, label, defined, primitive, node, Tree}
-use Rattle.wcv_lower.specs.Checks.{Checks, if_found, too_many, each_too_long, label_checks, max_size, max_depth, max_list, max_elements, max_abi_size, max_flags}
+use Rattle.wcv_types.specs.Tree.{Text, Former, here, label, defined, primitive, node, none, part, Parts, is_resource, sort}
+use Rattle.wcv_lower.specs.Checks.{Checks, if_found, missing_of, too_many, each_too_long, label_checks, max_size, max_depth, max_list, max_elements, max_abi_size, max_flags}
 use Rattle.wcv_lower.specs.Context.{Type_tree, Context}
-use Rattle.wcv_lower.specs.Values.{lacks, primitive_checks, cm_async, cm_map, cm_fixed_length_lists, value_tree, option_tree, Written_parts, parts_trees, parts_checks}
+use Rattle.wcv_lower.specs.Values.{lacks, primitive_checks, cm_async, cm_map, cm_fixed_length_lists, type_at, resource_at, value_tree, option_tree, Written_parts, parts_trees, parts_checks}
 
 -- ## What it is made of
 
@@ -73,9 +73,24 @@ names_in (flags_of ns) = ns
 names_in (enum_of ns) = ns
 names_in (simple x) = []
 
--- the tree under an identity, where each value type is found
+-- the index of the resource type that a handle is of
+abbrev pub simple_handle : ComponentDefinedType → Option ℕ
+simple_handle (d.Own k) = Some k
+simple_handle (d.Borrow k) = Some k
+simple_handle x = None
+
+abbrev pub handle_index : Defined_form → Option ℕ
+handle_index (simple x) = simple_handle x
+handle_index x = None
+
+-- what it is made of: a handle of the reference to its resource, other types of value types
+abbrev pub made_of : Context → Option ℕ → Written_parts → Option (Parts Name Name)
+made_of c None ps = parts_trees c ps
+made_of c (Some k) ps = option_map (λ t. part here t none) (resource_at c k)
+
+-- the tree under an identity, where each of them is found
 abbrev pub defined_tree : Name → Context → Defined_form → Option Type_tree
-defined_tree i c x = option_map (λ ps. node (defined i (former x)) ps) (parts_trees c (written_parts x))
+defined_tree i c x = option_map (λ ps. node (defined i (former x)) ps) (made_of c (handle_index x) (written_parts x))
 
 -- ## How many entries
 
@@ -164,12 +179,17 @@ size_checks t = too_many max_size (size t) ++ (too_many max_depth (depth t) ++ (
 
 -- ## All causes, but for the limits that are left to the caller
 
+-- what it is made of is not there
+abbrev pub made_checks : WasmFeatures → Context → Option ℕ → Written_parts → Checks
+made_checks fs c None ps = parts_checks fs c ps
+made_checks fs c (Some k) ps = missing_of is_resource (option_map sort (type_at c k))
+
 -- the causes that need no context
 abbrev pub own_checks : WasmFeatures → Defined_form → Checks
 own_checks fs x = shape_checks x ++ (label_checks (names_in x) ++ feature_checks fs x)
 
 abbrev pub defined_checks : WasmFeatures → Context → Defined_form → Checks
-defined_checks fs c x = own_checks fs x ++ (parts_checks fs c (written_parts x) ++ (content_checks c x ++ if_found size_checks (defined_tree (base []) c x)))
+defined_checks fs c x = own_checks fs x ++ (made_checks fs c (handle_index x) (written_parts x) ++ (content_checks c x ++ if_found size_checks (defined_tree (base []) c x)))
 
 -- how long its list is
 abbrev pub list_length : Defined_form → ℕ

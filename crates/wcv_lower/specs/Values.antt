@@ -8,7 +8,7 @@ use Rattle.wcv_core.specs.declared.primitive.PrimitiveValType.{PrimitiveValType}
 use Rattle.wcv_core.specs.declared.primitive.PrimitiveValType.TheVariants as prim
 use Rattle.wcv_syntax.specs.declared.component_type.ComponentValType.{ComponentValType}
 use Rattle.wcv_syntax.specs.declared.component_type.ComponentValType.TheVariants.{Primitive, Ty}
-use Rattle.wcv_types.specs.Tree.{Sort, sort, is_value, referenced, Role, nothing, node, Parts, none, part, primitive_type}
+use Rattle.wcv_types.specs.Tree.{Sort, sort, is_value, is_resource, referenced, Role, nothing, node, Parts, none, part, primitive_type}
 use Rattle.wcv_lower.specs.Checks.{Checks, missing_of, same_sort}
 use Rattle.wcv_lower.specs.Context.{Type_tree, Context, types}
 
@@ -23,6 +23,9 @@ lacks fs bit = (kind.Feature, not (has_feature fs bit)) ∷ []
 
 abbrev pub cm_async : ℕ
 cm_async = 256
+
+abbrev pub cm64 : ℕ
+cm64 = 8192
 
 abbrev pub cm_map : ℕ
 cm_map = 32768
@@ -42,6 +45,10 @@ type_at c k = option_map referenced (slice_get (types c) k)
 -- the tree, where it has the sort
 abbrev pub if_sort : Sort → Type_tree → Option Type_tree
 if_sort s t = cond (same_sort s (sort t)) (Some t) None
+
+-- the resource type at an index
+abbrev pub resource_at : Context → ℕ → Option Type_tree
+resource_at c k = option_and_then (if_sort is_resource) (type_at c k)
 
 -- ## Value types
 
