@@ -11,6 +11,7 @@ use Rattle.std.proofs.Math.ListN.{get_or-append, drop_of_length-le}
 use Rattle.wcv_types.specs.Arena.{Arena}
 use Rattle.wcv_types.specs.Entities.{SlotStands}
 use Rattle.wcv_types.specs.Facts.{is_plain, IsFactsOf, nodes_of, AllKnown}
+use Rattle.wcv_types.specs.Identity.{Identity}
 use Rattle.wcv_types.specs.Named.{is_named, are_named, passes}
 use Rattle.wcv_types.specs.Standing.{Stands, Fits}
 use Rattle.wcv_types.specs.Tree.{Text, Role, here, label, nothing, primitive, resource, defined, func, instance, component, type_entity, node, sort, is_func}
@@ -262,19 +263,19 @@ fields_next fs k f w e =
     ap (λ (j : ℕ). field_slots (take j fs) []) (add-one k) ∙ ap (λ gs. field_slots gs []) (take-next fs k f (slice_get_read fs (length fs) k f refl w e)) ∙ fields_push (take k fs) f
 
 -- whether the fields from k on and what stands behind them are named
-abbrev pub named_from : List Type_tree → ComponentFuncType → ℕ → Bool
-named_from ts s k = are_named [] (slot_parts ts (field_slots (drop k s.params.items) ((here, option_slot s.result) ∷ [])))
+abbrev pub named_from : List Identity → List Type_tree → ComponentFuncType → ℕ → Bool
+named_from ids ts s k = are_named ids (slot_parts ts (field_slots (drop k s.params.items) ((here, option_slot s.result) ∷ [])))
 
-pub named_next : (ts : List Type_tree) (s : ComponentFuncType) (k : ℕ) (f : Text × ComponentValType) → k < length s.params.items → f ≡ get_or s.params.items k f →
-    named_from ts s k ≡ (is_named [] (slot_tree ts (value_slot f.1)) && named_from ts s (k + 1))
-named_next ts s k f w e =
+pub named_next : (ids : List Identity) (ts : List Type_tree) (s : ComponentFuncType) (k : ℕ) (f : Text × ComponentValType) → k < length s.params.items → f ≡ get_or s.params.items k f →
+    named_from ids ts s k ≡ (is_named ids (slot_tree ts (value_slot f.1)) && named_from ids ts s (k + 1))
+named_next ids ts s k f w e =
     let rest : Slots = (here, option_slot s.result) ∷ [] in
-    ap (λ gs. are_named [] (slot_parts ts (field_slots gs rest))) (drop-cons s.params.items k f w ∙ ap (λ (g : Text × ComponentValType). g ∷ drop (suc k) s.params.items) (sym e)) ∙
-    ap (λ (j : ℕ). is_named [] (slot_tree ts (value_slot f.1)) && named_from ts s j) (sym (add-one k))
+    ap (λ gs. are_named ids (slot_parts ts (field_slots gs rest))) (drop-cons s.params.items k f w ∙ ap (λ (g : Text × ComponentValType). g ∷ drop (suc k) s.params.items) (sym e)) ∙
+    ap (λ (j : ℕ). is_named ids (slot_tree ts (value_slot f.1)) && named_from ids ts s j) (sym (add-one k))
 
-pub named_last : (ts : List Type_tree) (s : ComponentFuncType) (k : ℕ) → length s.params.items ≤ k → named_from ts s k ≡ is_named [] (slot_tree ts (option_slot s.result))
-named_last ts s k h =
-    ap (λ gs. are_named [] (slot_parts ts (field_slots gs ((here, option_slot s.result) ∷ [])))) (drop_of_length-le s.params.items h) ∙ and_true (is_named [] (slot_tree ts (option_slot s.result)))
+pub named_last : (ids : List Identity) (ts : List Type_tree) (s : ComponentFuncType) (k : ℕ) → length s.params.items ≤ k → named_from ids ts s k ≡ is_named ids (slot_tree ts (option_slot s.result))
+named_last ids ts s k h =
+    ap (λ gs. are_named ids (slot_parts ts (field_slots gs ((here, option_slot s.result) ∷ [])))) (drop_of_length-le s.params.items h) ∙ and_true (is_named ids (slot_tree ts (option_slot s.result)))
   where
     and_true : (b : Bool) → (b && true) ≡ b
     and_true true = refl

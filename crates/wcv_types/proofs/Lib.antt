@@ -30,4 +30,5 @@ pub mod Refilling
 pub mod Rebuilding
 pub mod SortLaws
 pub mod NamedBySet
+pub mod NamedContents
 pub mod SameTypes

@@ -172,7 +172,7 @@ pub named_all : (ids : List Identity) (ts : List Type_tree) (s : ComponentDefine
 named_all ids ts s k h = ap (λ ss. are_named ids (slot_parts ts ss)) (drop_of_length-le (value_slots (value_parts s)) (omega (arith, h, length-mapped slot_of (value_parts s))))
 
 -- a fact of the parts of slots, for those of one slot
-slot_all : (P : Part → Type 0) (ss : Slots) (k : ℕ) (x : Role × Slot) → All P (parts_in ss) → slice_get ss k ≡ Some x → All P (slot_refs x.1)
+pub slot_all : (P : Part → Type 0) (ss : Slots) (k : ℕ) (x : Role × Slot) → All P (parts_in ss) → slice_get ss k ≡ Some x → All P (slot_refs x.1)
 slot_all P [] k x h e = absurd (cc)
 slot_all P (s ∷ ss) zero x h e =
     let same : s ≡ x = cc in

@@ -14,6 +14,7 @@ mod ids;
 mod info;
 mod item_map;
 mod layout;
+mod named_contents;
 mod named_types;
 mod nodes;
 mod parts;

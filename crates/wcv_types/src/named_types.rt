@@ -38,7 +38,7 @@ impl ComponentDefinedType {
 
 /// Whether the value type is named, or is left out.
 #[tactic(auto, using(crate::proofs::NamedBySet::named_next, crate::proofs::NamedBySet::named_all))]
-fn is_named_value(types: &TypeAlloc, ty: Option<ComponentValType>, set: &TypeSet) -> bool
+pub fn is_named_value(types: &TypeAlloc, ty: Option<ComponentValType>, set: &TypeSet) -> bool
     requires value { SlotStands types.now (option_slot ty) }
     requires set { AllStand types.now set.now }
     ensures { result ≡ is_named (identities set.now) (slot_tree (trees types.now.nodes) (option_slot ty)) }
