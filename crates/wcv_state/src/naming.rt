@@ -1,24 +1,36 @@
-// Types that imports and exports have to name.
-ghost use Rattle.std.specs.Prelude.{◌≡◌, [], ◌∷◌, true, not, ◌&&◌, OnOk, IfErr};
+// Types that imports and exports have to name, and those that they have named.
+ghost use Rattle.std.specs.Prelude.{◌≡◌, ◌⊎◌, [], ◌&&◌, true, OnOk, OnErr, IfErr};
 ghost use Rattle.wcv_core.specs.Refusal.{error_kind, error_offset};
-ghost use Rattle.wcv_core.specs.declared.error.ErrorKind.TheVariants as error_kinds;
 ghost use Rattle.wcv_types.specs.Entities.{entity_tree, EntityStands};
+ghost use Rattle.wcv_types.specs.Named.{is_named_entry};
+ghost use Rattle.wcv_types.specs.Sets.{AllStand, identities};
 ghost use Rattle.wcv_types.specs.Standing.{Stands};
 ghost use Rattle.wcv_types.specs.Unfold.{trees};
 ghost use Rattle.wcv_types.specs.declared.ids.Part.TheVariants as part;
-ghost use Rattle.wcv_lower.specs.Checks.{IsFree, asks_names, unnamed};
-ghost use Rattle.wcv_lower.specs.Context.{Kind, importing};
-ghost use Rattle.wcv_state.specs.Contents.{kind_of};
-ghost use Rattle.wcv_state.specs.Looking.{is_built_entity as built_entity};
+ghost use Rattle.wcv_lower.specs.Checks as checks;
+ghost use Rattle.wcv_lower.specs.Checks.{IsFree, asks_names, is_export_alone as export_alone};
+ghost use Rattle.wcv_lower.specs.Context as sides;
+ghost use Rattle.wcv_lower.specs.Context.{names_for, importing, exporting};
+ghost use Rattle.wcv_state.specs.Contents.{kind_of, both_sides};
+ghost use Rattle.wcv_state.specs.Inside.{set_of};
+ghost use Rattle.wcv_state.specs.Looking.{is_built_entity as built_entity, created_ids, with_created};
 ghost use Rattle.wcv_state.specs.Promises.{MemoryOrCausedBy};
 
 use crate::kind::ComponentKind;
-use wcv_core::{Error, ErrorKind, Excerpt, Text};
-use wcv_types::{ComponentEntityType, ComponentFuncTypeId, TypeAlloc};
+use std::alloc::Global;
+use wcv_core::{Error, ErrorKind, Excerpt, OutOfMemory, Text};
+use wcv_types::{ComponentAnyTypeId, ComponentEntityType, ComponentFuncTypeId, TypeAlloc, TypeSet};
 
 /// What a type is that has to be named.
 const NOT_NAMED: &str =
-    "is, or has in it, a record, variant, flags or enum that was not imported or exported before";
+    "is, or has in it, a record, variant, flags, enum or resource that was not imported or exported before";
+
+/// The types that are named for imports, and those for exports.
+#[derive(Drop)]
+pub struct NamedTypes {
+    pub imports: TypeSet,
+    pub exports: TypeSet,
+}
 
 /// Whether entries have to name types.
 fn asks_for_names(kind: ComponentKind) -> bool
@@ -27,49 +39,88 @@ fn asks_for_names(kind: ComponentKind) -> bool
     !matches!(kind, ComponentKind::InstanceType)
 }
 
-/// Whether nothing in the entity has to be named.
-#[tactic(auto, using(crate::proofs::Rooms::unnamed_func))]
-fn is_plain(ty: &ComponentEntityType, types: &TypeAlloc) -> bool
+/// Whether the types that an entry needs are in the set: of a type what it refers to is made of them.
+#[tactic(auto, using(crate::proofs::Named::entry_named))]
+fn is_named(ty: &ComponentEntityType, types: &TypeAlloc, set: &TypeSet) -> bool
     requires stands { EntityStands types.now ty.now }
     requires built { built_entity ty.now ≡ true }
-    ensures { (k : Kind) → unnamed k (λ d. []) importing (entity_tree (trees types.now.nodes) ty.now) ≡ (error_kinds.Unnamed, asks_names k && not result) ∷ [] }
+    requires set { AllStand types.now set.now }
+    ensures { result ≡ is_named_entry (identities set.now) (entity_tree (trees types.now.nodes) ty.now) }
 {
     match ty {
-        ComponentEntityType::Func(id) => types.is_plain_func(*id),
+        ComponentEntityType::Func(id) => {
+            types.all_valtypes_named(&ComponentAnyTypeId::Func(*id), set)
+        }
+        ComponentEntityType::Ty { referenced, .. } => types.all_valtypes_named(referenced, set),
         _ => unreachable!(),
     }
 }
 
+/// Whether an import refers to a type that is named for exports and not for imports.
+fn is_export_alone(
+    ty: &ComponentEntityType,
+    types: &TypeAlloc,
+    imports: &TypeSet,
+    exports: &TypeSet,
+) -> bool
+    requires stands { EntityStands types.now ty.now }
+    requires built { built_entity ty.now ≡ true }
+    requires imports { AllStand types.now imports.now }
+    requires exports { AllStand types.now exports.now }
+    ensures { result ≡ export_alone (λ d. identities (both_sides imports.now exports.now d)) importing (entity_tree (trees types.now.nodes) ty.now) }
+{
+    let _ = types;
+    match ty {
+        ComponentEntityType::Ty { referenced, .. } => {
+            exports.contains(referenced) && !imports.contains(referenced)
+        }
+        _ => false,
+    }
+}
+
 /// The first parameter whose type has to be named. It is for the message alone.
-fn first_unnamed<'a>(types: &'a TypeAlloc, id: ComponentFuncTypeId) -> Option<&'a Text>
-    requires { Stands types.now (part.Func id) }
+fn first_unnamed<'a>(
+    types: &'a TypeAlloc,
+    id: ComponentFuncTypeId,
+    set: &TypeSet,
+) -> Option<&'a Text>
+    requires func { Stands types.now (part.Func id) }
+    requires set { AllStand types.now set.now }
 {
     let func = types.get(id);
     for param in &func.params {
-        if !types.is_plain_value(&param.1) {
+        if !types.type_named_valtype(&param.1, set) {
             return Some(&param.0);
         }
     }
     None
 }
 
-/// The refusal of an entry over a type that is not named.
+/// The refusal of an entry over a type that is not in the set.
 fn unnamed(
     word: &str,
     name: &str,
     ty: &ComponentEntityType,
     types: &TypeAlloc,
+    set: &TypeSet,
     offset: u64,
 ) -> Error
     requires stands { EntityStands types.now ty.now }
     requires built { built_entity ty.now ≡ true }
+    requires set { AllStand types.now set.now }
     ensures kind { error_kind result ≡ ErrorKind.Unnamed }
     ensures offset { error_offset result ≡ offset }
 {
     let entry = Excerpt(name);
     let param = match ty {
-        ComponentEntityType::Func(id) => first_unnamed(types, *id),
-        _ => unreachable!(),
+        ComponentEntityType::Func(id) => first_unnamed(types, *id, set),
+        _ => {
+            return Error::new(
+                ErrorKind::Unnamed,
+                offset,
+                format_args!("{word} `{entry}`: what the type is made of {NOT_NAMED}"),
+            );
+        }
     };
     match param {
         Some(param) => {
@@ -88,22 +139,113 @@ fn unnamed(
     }
 }
 
-/// Whether an entry needs no type that is not named. What it is called is for the message.
-pub fn check_named(
-    kind: ComponentKind,
-    word: &str,
-    name: &str,
-    ty: &ComponentEntityType,
-    types: &TypeAlloc,
-    offset: u64,
-) -> Result<(), Error>
-    requires stands { EntityStands types.now ty.now }
-    requires built { built_entity ty.now ≡ true }
-    ensures ok { OnOk result (IsFree (unnamed (kind_of kind) (λ d. []) importing (entity_tree (trees types.now.nodes) ty.now))) }
-    ensures err { IfErr result (MemoryOrCausedBy (unnamed (kind_of kind) (λ d. []) importing (entity_tree (trees types.now.nodes) ty.now)) offset) }
+/// The type that an entity creates joins a set. Out of memory the set stays as it was.
+fn push_created(ty: &ComponentEntityType, set: &mut TypeSet) -> Result<(), OutOfMemory>
+    ensures ok { OnOk result (set.new ≡ with_created true set.old (created_ids ty.now)) }
+    ensures err { OnErr result (set.new ≡ set.old) }
 {
-    if asks_for_names(kind) && !is_plain(ty, types) {
-        return Err(unnamed(word, name, ty, types, offset));
+    match ty {
+        ComponentEntityType::Ty { created, .. } => set.push(*created),
+        _ => Ok(()),
     }
-    Ok(())
+}
+
+impl NamedTypes {
+    /// None.
+    pub fn new(alloc: Global) -> NamedTypes
+        ensures imports { result.imports ≡ [] }
+        ensures exports { result.exports ≡ [] }
+    {
+        NamedTypes {
+            imports: TypeSet::new(alloc),
+            exports: TypeSet::new(alloc),
+        }
+    }
+
+    /// Whether an import needs no type that is not named, and refers to none that is named for exports alone.
+    /// What it is called is for the message.
+    pub fn check_import(
+        &self,
+        kind: ComponentKind,
+        name: &str,
+        ty: &ComponentEntityType,
+        types: &TypeAlloc,
+        offset: u64,
+    ) -> Result<(), Error>
+        requires stands { EntityStands types.now ty.now }
+        requires built { built_entity ty.now ≡ true }
+        requires sets { (d : sides.Side) → AllStand types.now (set_of self.now d) }
+        ensures ok { OnOk result (IsFree (checks.unnamed (kind_of kind) (λ d. identities (set_of self.now d)) importing (entity_tree (trees types.now.nodes) ty.now))) }
+        ensures err { IfErr result (MemoryOrCausedBy (checks.unnamed (kind_of kind) (λ d. identities (set_of self.now d)) importing (entity_tree (trees types.now.nodes) ty.now)) offset) }
+    {
+        if !asks_for_names(kind) {
+            return Ok(());
+        }
+        if !is_named(ty, types, &self.imports) {
+            return Err(unnamed("import", name, ty, types, &self.imports, offset));
+        }
+        if is_export_alone(ty, types, &self.imports, &self.exports) {
+            let entry = Excerpt(name);
+            return Err(Error::new(
+                ErrorKind::Unnamed,
+                offset,
+                format_args!(
+                    "import `{entry}`: the type that it refers to was exported before and not imported"
+                ),
+            ));
+        }
+        Ok(())
+    }
+
+    /// Whether an export needs no type that is not named.
+    pub fn check_export(
+        &self,
+        kind: ComponentKind,
+        name: &str,
+        ty: &ComponentEntityType,
+        types: &TypeAlloc,
+        offset: u64,
+    ) -> Result<(), Error>
+        requires stands { EntityStands types.now ty.now }
+        requires built { built_entity ty.now ≡ true }
+        requires sets { (d : sides.Side) → AllStand types.now (set_of self.now d) }
+        ensures ok { OnOk result (IsFree (checks.unnamed (kind_of kind) (λ d. identities (set_of self.now d)) exporting (entity_tree (trees types.now.nodes) ty.now))) }
+        ensures err { IfErr result (MemoryOrCausedBy (checks.unnamed (kind_of kind) (λ d. identities (set_of self.now d)) exporting (entity_tree (trees types.now.nodes) ty.now)) offset) }
+    {
+        if asks_for_names(kind) && !is_named(ty, types, &self.exports) {
+            return Err(unnamed("export", name, ty, types, &self.exports, offset));
+        }
+        Ok(())
+    }
+
+    /// What an import creates is named for both sides. Out of memory it may be for imports alone.
+    pub fn create_import(
+        &mut self,
+        kind: ComponentKind,
+        ty: &ComponentEntityType,
+    ) -> Result<(), OutOfMemory>
+        ensures ok { OnOk result ((d : sides.Side) → set_of self.new d ≡ with_created (names_for importing d && asks_names (kind_of kind)) (set_of self.old d) (created_ids ty.now)) }
+        ensures err { OnErr result ((d : sides.Side) → (set_of self.new d ≡ set_of self.old d) ⊎ (set_of self.new d ≡ with_created true (set_of self.old d) (created_ids ty.now))) }
+    {
+        if !asks_for_names(kind) {
+            return Ok(());
+        }
+        push_created(ty, &mut self.imports)?;
+        push_created(ty, &mut self.exports)
+    }
+
+    /// What an export creates is named for exports. Out of memory nothing changes.
+    pub fn create_export(
+        &mut self,
+        kind: ComponentKind,
+        ty: &ComponentEntityType,
+    ) -> Result<(), OutOfMemory>
+        ensures ok { OnOk result ((d : sides.Side) → set_of self.new d ≡ with_created (names_for exporting d && asks_names (kind_of kind)) (set_of self.old d) (created_ids ty.now)) }
+        ensures err { OnErr result ((d : sides.Side) → set_of self.new d ≡ set_of self.old d) }
+    {
+        if !asks_for_names(kind) {
+            return Ok(());
+        }
+        push_created(ty, &mut self.exports)
+    }
 }

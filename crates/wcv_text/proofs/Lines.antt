@@ -13,7 +13,7 @@ use Rattle.wcv_types.specs.Unfold.{Type_tree, leaf, at, both, Slots, slot_parts,
 use Rattle.wcv_types.specs.declared.arena.Node.TheVariants as n
 use Rattle.wcv_types.specs.declared.ids.Part.{Part}
 use Rattle.wcv_types.specs.declared.ids.Part.TheVariants as p
-use Rattle.wcv_types.proofs.Unfolding.{head_in}
+use Rattle.wcv_types.proofs.Unfolding.{known_stands, head_in}
 use Rattle.wcv_text.specs.Nodes.{form_of, own_line, write_all}
 use Rattle.wcv_text.specs.Numbers.{written, Shows}
 use Rattle.wcv_text.specs.declared.numbers.Numbers.{Numbers}
@@ -78,17 +78,6 @@ slots_written a w ((r, leaf None) ∷ ss) = slots_written a w ss
 slots_written a w ((r, leaf (Some o)) ∷ ss) = slots_written a w ss
 slots_written a w ((r, at q) ∷ ss) = slots_written a (write w (tree_at a q)) ss
 slots_written a w ((r, both c q) ∷ ss) = slots_written a (write (write w (tree_at a c)) (tree_at a q)) ss
-
--- a type that stands has its identity
-known_stands : (a : Arena) (q : Part) → Stands a q → identity_at (head (tree_at a q)) ≡ Some (identity_of q)
-known_stands a (p.Resource r) s = refl
-known_stands a (p.Func i) s = ap identity_at (head_in a.nodes i.index (n.Func s.0) s.1)
-known_stands a (p.Defined i) s = ap identity_at (head_in a.nodes i.index (n.Defined s.0) s.1)
-known_stands a (p.Instance i) s = absurd s
-known_stands a (p.Component i) s = absurd s
-known_stands a (p.Module i) s = absurd s
-known_stands a (p.CoreInstance i) s = absurd s
-known_stands a (p.Core i) s = absurd s
 
 write_again : (w : Written) (t : Type_tree) → has_line w (identity_at (head t)) ≡ true → write w t ≡ w
 write_again w (node h ps) e = ap (λ (b : Bool). cond b w (line_if (write_parts w ps) (identity_at h) h ps)) e

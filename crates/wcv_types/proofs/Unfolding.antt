@@ -10,7 +10,8 @@ use Rattle.std.proofs.Math.Seq.{get_or-append_seam}
 use Rattle.wcv_types.specs.Tree.{Parts, node, part, head, sort, sort_at, type_of, Sort, is_nothing, is_value, is_resource, is_func, is_instance, is_component}
 use Rattle.wcv_types.specs.Arena.{Arena}
 use Rattle.wcv_types.specs.Unfold.{Type_tree, Slot, leaf, at, both, Slots, left_out, rank, head_of, slots_of, slot_refs, slot_tree, slot_parts, part_tree, parts_in, parts_of, tree_of, tree_in, trees_after, trees, tree_at, unfolded}
-use Rattle.wcv_types.specs.Standing.{Stands, StandsBefore, AllFit, cut, Extends}
+use Rattle.wcv_types.specs.Identity.{identity_at}
+use Rattle.wcv_types.specs.Standing.{identity_of, Stands, StandsBefore, AllFit, cut, Extends}
 use Rattle.wcv_types.specs.declared.arena.Node.{Node}
 use Rattle.wcv_types.specs.declared.arena.Node.TheVariants as n
 use Rattle.wcv_types.specs.declared.ids.Part.{Part}
@@ -141,3 +142,14 @@ sort_stands a (p.Component i) s = absurd s
 sort_stands a (p.Module i) s = absurd s
 sort_stands a (p.CoreInstance i) s = absurd s
 sort_stands a (p.Core i) s = absurd s
+
+-- a type that stands has its identity
+pub known_stands : (a : Arena) (q : Part) → Stands a q → identity_at (head (tree_at a q)) ≡ Some (identity_of q)
+known_stands a (p.Resource r) s = refl
+known_stands a (p.Func i) s = ap identity_at (head_in a.nodes i.index (n.Func s.0) s.1)
+known_stands a (p.Defined i) s = ap identity_at (head_in a.nodes i.index (n.Defined s.0) s.1)
+known_stands a (p.Instance i) s = absurd s
+known_stands a (p.Component i) s = absurd s
+known_stands a (p.Module i) s = absurd s
+known_stands a (p.CoreInstance i) s = absurd s
+known_stands a (p.Core i) s = absurd s

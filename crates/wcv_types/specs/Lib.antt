@@ -21,6 +21,7 @@ pub mod Abi
 pub mod Facts
 pub mod Sums
 pub mod Rebuild
+pub mod Renewed
 pub mod Sets
 pub mod NamedBySet
 pub mod Alike
