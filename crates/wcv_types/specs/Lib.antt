@@ -22,5 +22,6 @@ pub mod Facts
 pub mod Sums
 pub mod Rebuild
 pub mod Sets
+pub mod Renewed
 pub mod NamedBySet
 pub mod Alike

@@ -18,6 +18,7 @@ mod named_types;
 mod nodes;
 mod parts;
 mod refill;
+mod renew;
 mod same_types;
 mod shapes;
 mod sorts;
