@@ -10,7 +10,7 @@ use Rattle.std.proofs.lemmas.Option.{slice_get-map, slice_get_within, slice_get_
 use Rattle.std.proofs.Math.ListN.{get_or-append, drop_of_length-le}
 use Rattle.wcv_types.specs.Arena.{Arena}
 use Rattle.wcv_types.specs.Entities.{SlotStands}
-use Rattle.wcv_types.specs.Facts.{is_plain, IsFactsOf, nodes_of, AllKnown}
+use Rattle.wcv_types.specs.Facts.{is_plain}
 use Rattle.wcv_types.specs.Identity.{Identity}
 use Rattle.wcv_types.specs.Named.{is_named, are_named, passes}
 use Rattle.wcv_types.specs.Standing.{Stands, Fits}
@@ -22,7 +22,6 @@ use Rattle.wcv_types.specs.declared.ids.AliasableResourceId.{AliasableResourceId
 use Rattle.wcv_types.specs.declared.ids.ComponentFuncTypeId.{ComponentFuncTypeId}
 use Rattle.wcv_types.specs.declared.ids.Part.{Part}
 use Rattle.wcv_types.specs.declared.ids.Part.TheVariants as p
-use Rattle.wcv_types.specs.declared.nodes.Known.{Known}
 use Rattle.wcv_types.specs.declared.shapes.ComponentDefinedType.{ComponentDefinedType}
 use Rattle.wcv_types.specs.declared.shapes.ComponentDefinedType.TheVariants as d
 use Rattle.wcv_types.specs.declared.shapes.ComponentFuncType.{ComponentFuncType}
@@ -30,43 +29,7 @@ use Rattle.wcv_types.specs.declared.shapes.ComponentValType.{ComponentValType}
 use Rattle.wcv_types.specs.declared.shapes.ComponentValType.TheVariants as v
 use Rattle.wcv_types.proofs.Each.{length-mapped}
 use Rattle.wcv_types.proofs.Forming.{plain_value, slots_of_values}
-use Rattle.wcv_types.proofs.Grown.{last_node, node_before, length-trees, trees-push, tree_in_last}
 use Rattle.wcv_types.proofs.Unfolding.{all_left, all_right, sort_stands}
-
--- ## Nodes
-
--- what is kept of a node
-pub known_at : (ks : List Known) (xs : List Node) (k : ℕ) (x : Known) → nodes_of ks ≡ xs → AllKnown ks → k < length xs → x ≡ get_or ks k x → IsFactsOf x.facts (tree_in (trees xs) k)
-known_at ks xs k x e h w r =
-    let within : k < length ks = omega (arith, w, ap (λ (ys : List Node). length ys) e, length-mapped (λ (y : Known). y.node) ks) in
-    subst (λ (ys : List Node). IsFactsOf x.facts (tree_in (trees ys) k)) e (h k x (slice_get_read ks (length ks) k x refl within r))
-
--- one more node
-pub known_push : (ks ls : List Known) (x : Known) → ls ≡ ks ++ x ∷ [] → AllKnown ks → IsFactsOf x.facts (tree_of (trees (nodes_of ks)) x.node) → AllKnown ls
-known_push ks ls x e h f = subst AllKnown (sym e) pushed
-  where
-    all : trees (nodes_of (ks ++ x ∷ [])) ≡ trees (nodes_of ks) ++ tree_of (trees (nodes_of ks)) x.node ∷ []
-    all = ap trees (map-append (λ (y : Known). y.node) ks (x ∷ [])) ∙ trees-push (nodes_of ks) x.node
-
-    many : length (trees (nodes_of ks)) ≡ length ks
-    many = length-trees (nodes_of ks) ∙ length-mapped (λ (y : Known). y.node) ks
-
-    old : (k : ℕ) (y : Known) → slice_get (ks ++ x ∷ []) k ≡ Some y → k < length ks → IsFactsOf y.facts (tree_in (trees (nodes_of (ks ++ x ∷ []))) k)
-    old k y s w =
-        subst (λ (t : Type_tree). IsFactsOf y.facts t)
-        (sym (ap (λ (ts : List Type_tree). tree_in ts k) all ∙ get_or-append (trees (nodes_of ks)) (tree_of (trees (nodes_of ks)) x.node ∷ []) left_out k (omega (arith, w, many))))
-        (h k y (node_before ks x y k w s))
-
-    last : (k : ℕ) (y : Known) → slice_get (ks ++ x ∷ []) k ≡ Some y → k ≡ length ks → IsFactsOf y.facts (tree_in (trees (nodes_of (ks ++ x ∷ []))) k)
-    last k y s w =
-        subst (λ (z : Known). IsFactsOf z.facts (tree_in (trees (nodes_of (ks ++ x ∷ []))) k)) (last_node ks x y k w s)
-        (subst (λ (t : Type_tree). IsFactsOf x.facts t)
-        (sym (ap (λ (ts : List Type_tree). tree_in ts k) all ∙ tree_in_last (trees (nodes_of ks)) (tree_of (trees (nodes_of ks)) x.node) k (omega (arith, w, many)))) f)
-
-    pushed : AllKnown (ks ++ x ∷ [])
-    pushed k y s =
-        let w : k < length (ks ++ x ∷ []) = slice_get_within (ks ++ x ∷ []) k y s in
-        ⊎_elim (λ (i : k < length ks). old k y s i) (λ (i : length ks ≤ k). last k y s (omega (arith, i, w, length-append ks (x ∷ [])))) (cases_lt k (length ks))
 
 -- ## Slots
 

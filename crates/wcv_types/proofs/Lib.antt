@@ -24,11 +24,13 @@ pub mod Fitting
 pub mod Aligning
 pub mod Sums
 pub mod Forming
+pub mod Sharing
 pub mod Knowing
 pub mod AbiRenamed
 pub mod Refilling
 pub mod Rebuilding
 pub mod SortLaws
+pub mod Renewing
 pub mod NamedBySet
 pub mod NamedContents
 pub mod SameTypes

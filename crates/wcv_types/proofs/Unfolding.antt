@@ -88,7 +88,7 @@ length-cut a k x h =
     let w : k < length a.nodes = slice_get_within a.nodes k x h in
     length-take-le k a.nodes (omega (arith, w))
 
-cut_extends : (a : Arena) (k : ℕ) → Extends (cut a k) a
+pub cut_extends : (a : Arena) (k : ℕ) → Extends (cut a k) a
 cut_extends a k = extends_cut a k (drop k a.nodes) (sym (take-append-drop k a.nodes))
 
 -- the tree of a node is made of the trees of its parts in the same arena

@@ -1,9 +1,10 @@
 // The arena of types.
-ghost use Rattle.std.specs.Prelude.{◌≡◌, suc, ◌+◌, List, [], ◌∷◌, length, slice_get, Some, All, OnOk, OnErr, IfOk};
+ghost use Rattle.std.specs.Prelude.{◌≡◌, suc, ◌+◌, ◌<◌, List, [], ◌∷◌, length, slice_get, Some, All, OnOk, OnErr, IfOk};
 ghost use Rattle.wcv_types.specs.Abi.{IsAbiOf};
 ghost use Rattle.wcv_types.specs.Entities.{SlotStands};
 ghost use Rattle.wcv_types.specs.Facts.{IsFactsOf};
 ghost use Rattle.wcv_types.specs.Named.{is_named, passes};
+ghost use Rattle.wcv_types.specs.Renewed.{NodeAgain, with_stamp};
 ghost use Rattle.wcv_types.specs.declared.ids.Part.TheVariants as part;
 ghost use Rattle.wcv_types.specs.Unfold.{place, rank, parts_of, slot_tree, tree_at, tree_of, trees, unfolded, value_slot};
 ghost use Rattle.wcv_types.specs.Standing.{Stands, StandsBefore, Fits, KeepsTrees, with_node};
@@ -85,6 +86,13 @@ impl TypeAlloc {
         Ok(AliasableResourceId { resource, stamp })
     }
 
+    /// How many resources were made in the arena. It takes no memory.
+    pub fn resources_made(&self) -> u64
+        ensures { result ≡ self.now.resources }
+    {
+        self.resources.len() as u64
+    }
+
     /// A node that fits, behind all others, and what is known of it. Gives its place.
     pub(crate) fn add(&mut self, node: Node, facts: Facts) -> Result<u64, OutOfMemory>
         requires fits { Fits self.old node }
@@ -96,6 +104,29 @@ impl TypeAlloc {
         let place = self.nodes.len();
         self.nodes.push(node, facts)?;
         Ok(place as u64)
+    }
+
+    /// The node at that place once more, behind all others. Gives its place.
+    pub(crate) fn add_again(&mut self, place: u64) -> Result<u64, OutOfMemory>
+        requires { place < length self.old.nodes }
+        ensures again { OnOk result (NodeAgain self.old self.new place) }
+        ensures last { IfOk result (λ at. at ≡ length self.old.nodes) }
+        ensures err { OnErr result (self.new ≡ self.old) }
+    {
+        let at = self.nodes.len();
+        self.nodes.push_again(place as usize)?;
+        Ok(at as u64)
+    }
+
+    /// A stamp that stood nowhere, for one more reference to the resource.
+    pub(crate) fn add_stamp(&mut self, resource: ResourceId) -> Result<u64, OutOfMemory>
+        ensures added { OnOk result (self.new ≡ with_stamp self.old) }
+        ensures last { IfOk result (λ stamp. stamp ≡ self.old.stamps) }
+        ensures err { OnErr result (self.new ≡ self.old) }
+    {
+        let stamp = self.stamps.len();
+        self.stamps.push(resource)?;
+        Ok(stamp as u64)
     }
 
     /// How the value type lies in memory, and what stands in it. It takes no memory.

@@ -19,6 +19,7 @@ mod named_types;
 mod nodes;
 mod parts;
 mod refill;
+mod renew;
 mod same_types;
 mod shapes;
 mod sorts;

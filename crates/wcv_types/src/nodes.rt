@@ -1,7 +1,9 @@
 // The nodes of an arena, each with what is kept of it.
 ghost use Rattle.std.specs.Prelude.{◌≡◌, ◌<◌, [], ◌∷◌, ◌++◌, length, slice_get, Some, OnOk, OnErr};
 ghost use Rattle.wcv_types.specs.Facts.{IsFactsOf};
-ghost use Rattle.wcv_types.specs.Unfold.{tree_of, tree_in, trees};
+ghost use Rattle.wcv_types.specs.Unfold.{head_of, slots_of, slot_parts, tree_of, tree_in, trees};
+ghost use Rattle.wcv_types.specs.Tree as tree;
+ghost use Rattle.wcv_types.specs.declared.arena.Node.{Node};
 
 use crate::arena::Node;
 use crate::facts::Facts;
@@ -9,7 +11,7 @@ use std::alloc::Global;
 use std::marker::Model;
 use wcv_core::OutOfMemory;
 
-/// A node, and what is kept of it.
+/// What a node is made of, and what is kept of it. Equal nodes share it.
 #[derive(Drop)]
 pub struct Known {
     pub node: Node,
@@ -20,18 +22,20 @@ pub struct Known {
 #[derive(Drop)]
 pub struct Nodes {
     known: Vec<Known>,
+    /// Of each node, where it stands among those.
+    positions: Vec<usize>,
 }
 
 impl Model for Nodes {
     ghost use Rattle.std.specs.Prelude.{List};
-    ghost use Rattle.wcv_types.specs.Facts.{nodes_of, AllKnown};
+    ghost use Rattle.wcv_types.specs.Facts.{nodes_at, AllKnown};
     ghost use Rattle.wcv_types.specs.declared.arena.Node.{Node};
 
     ghost Value = { List Node };
 
-    ghost view = { λ n. nodes_of n.known.items };
+    ghost view = { λ n. nodes_at n.known.items n.positions.items };
 
-    ghost invariant = { λ n. AllKnown n.known.items };
+    ghost invariant = { λ n. AllKnown n.known.items n.positions.items };
 }
 
 impl Nodes {
@@ -41,6 +45,7 @@ impl Nodes {
     {
         Nodes {
             known: Vec::new(alloc),
+            positions: Vec::new(alloc),
         }
     }
 
@@ -48,7 +53,7 @@ impl Nodes {
     pub fn len(&self) -> usize
         ensures { result ≡ length self.now }
     {
-        self.known.len()
+        self.positions.len()
     }
 
     /// One more, behind all others. Out of memory they stay as they were.
@@ -57,8 +62,35 @@ impl Nodes {
         ensures ok { OnOk result (self.new ≡ self.old ++ node ∷ []) }
         ensures err { OnErr result (self.new ≡ self.old) }
     {
+        let position = self.known.len();
         self.known.push(Known { node, facts })?;
+        if self.positions.push(position).is_err() {
+            let _ = self.known.pop();
+            return Err(OutOfMemory);
+        }
         Ok(())
+    }
+
+    /// The node at that place once more, behind all others. Nothing of it is copied. Out of memory they stay
+    /// as they were.
+    pub fn push_again(&mut self, place: usize) -> Result<(), OutOfMemory>
+        requires within { place < length self.old }
+        requires unfolds { (x : Node) → slice_get self.old place ≡ Some x → tree_in (trees self.old) place ≡ tree.node (head_of place x) (slot_parts (trees self.old) (slots_of x)) }
+        ensures ok { OnOk result ((x : Node) × (slice_get self.old place ≡ Some x) × (self.new ≡ self.old ++ x ∷ [])) }
+        ensures err { OnErr result (self.new ≡ self.old) }
+    {
+        let position = self.positions[place];
+        self.positions.push(position)?;
+        Ok(())
+    }
+
+    /// What is known of the node at that place, and the node.
+    fn known(&self, place: usize) -> &Known
+        requires { place < length self.now }
+        ensures node { slice_get self.now place ≡ Some result.now.node }
+        ensures facts { IsFactsOf result.now.facts (tree_in (trees self.now) place) }
+    {
+        &self.known[self.positions[place]]
     }
 
     /// The node at that place.
@@ -66,7 +98,7 @@ impl Nodes {
         requires { place < length self.now }
         ensures { slice_get self.now place ≡ Some result.now }
     {
-        &self.known[place].node
+        &self.known(place).node
     }
 
     /// What is kept of it.
@@ -74,6 +106,6 @@ impl Nodes {
         requires { place < length self.now }
         ensures { IsFactsOf result (tree_in (trees self.now) place) }
     {
-        self.known[place].facts
+        self.known(place).facts
     }
 }
