@@ -174,7 +174,8 @@ impl NamedTypes {
     ) -> Result<(), Error>
         requires stands { EntityStands types.now ty.now }
         requires built { built_entity ty.now ≡ true }
-        requires sets { (d : sides.Side) → AllStand types.now (set_of self.now d) }
+        requires imports { AllStand types.now self.now.imports }
+        requires exports { AllStand types.now self.now.exports }
         ensures ok { OnOk result (IsFree (checks.unnamed (kind_of kind) (λ d. identities (set_of self.now d)) importing (entity_tree (trees types.now.nodes) ty.now))) }
         ensures err { IfErr result (MemoryOrCausedBy (checks.unnamed (kind_of kind) (λ d. identities (set_of self.now d)) importing (entity_tree (trees types.now.nodes) ty.now)) offset) }
     {
@@ -208,7 +209,8 @@ impl NamedTypes {
     ) -> Result<(), Error>
         requires stands { EntityStands types.now ty.now }
         requires built { built_entity ty.now ≡ true }
-        requires sets { (d : sides.Side) → AllStand types.now (set_of self.now d) }
+        requires imports { AllStand types.now self.now.imports }
+        requires exports { AllStand types.now self.now.exports }
         ensures ok { OnOk result (IsFree (checks.unnamed (kind_of kind) (λ d. identities (set_of self.now d)) exporting (entity_tree (trees types.now.nodes) ty.now))) }
         ensures err { IfErr result (MemoryOrCausedBy (checks.unnamed (kind_of kind) (λ d. identities (set_of self.now d)) exporting (entity_tree (trees types.now.nodes) ty.now)) offset) }
     {
