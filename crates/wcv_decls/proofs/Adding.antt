@@ -1,5 +1,5 @@
 -- A type item whose node was stored, and its causes.
-use Rattle.std.proofs.Common.{◌≡◌, ℕ, List, [], ◌∷◌, ◌++◌, length, sym, ◌∙◌, ap, subst, Some, ◌⊎◌, inl, inr}
+use Rattle.std.proofs.Common.{◌≡◌, ℕ, [], ◌∷◌, ◌++◌, length, sym, ◌∙◌, ap, Some, ◌⊎◌, inl, inr}
 use Rattle.std.specs.Option.{option_map}
 use Rattle.wcv_core.specs.Names.{Name, base, number}
 use Rattle.wcv_core.specs.Refusal.{error_kind}
@@ -7,18 +7,17 @@ use Rattle.wcv_core.specs.declared.error.Error.{Error}
 use Rattle.wcv_core.specs.declared.features.WasmFeatures.{WasmFeatures}
 use Rattle.wcv_syntax.specs.Model.{Defined_form, Func_form, defined_type, func_type}
 use Rattle.wcv_types.specs.Arena.{Arena}
-use Rattle.wcv_types.specs.Standing.{Stands, Fits}
+use Rattle.wcv_types.specs.Standing.{Fits}
 use Rattle.wcv_types.specs.Tree.{defined, func, node, Parts, here}
-use Rattle.wcv_types.specs.Unfold.{Type_tree, Slots, former_of, value_slots, value_parts, defined_slots, option_slot, field_slots, slot_parts, tree_of, trees, parts_in}
+use Rattle.wcv_types.specs.Unfold.{former_of, defined_slots, option_slot, field_slots, slot_parts, tree_of, trees}
 use Rattle.wcv_types.specs.declared.arena.Node.TheVariants as n
 use Rattle.wcv_types.specs.declared.shapes.ComponentDefinedType.{ComponentDefinedType}
 use Rattle.wcv_types.specs.declared.shapes.ComponentFuncType.{ComponentFuncType}
-use Rattle.std.specs.Prelude.{All, Bool}
-use Rattle.wcv_types.proofs.Forming.{slots_of_values}
+use Rattle.std.specs.Prelude.{Bool}
 use Rattle.wcv_types.proofs.Grown.{length-trees}
 use Rattle.wcv_lower.specs.Checks.{Checks, Cause, IsFree, if_found}
 use Rattle.wcv_lower.specs.Context.{Context}
-use Rattle.wcv_lower.specs.Defined.{former, written_parts, defined_tree, has_borrow, own_checks, content_checks, size_checks, defined_checks}
+use Rattle.wcv_lower.specs.Defined.{former, written_parts, handle_index, made_checks, defined_tree, has_borrow, own_checks, content_checks, size_checks, defined_checks}
 use Rattle.wcv_lower.specs.Types.{func_parts, func_tree, func_own_checks, func_checks}
 use Rattle.wcv_lower.specs.Values.{option_tree, parts_checks}
 use Rattle.wcv_lower.proofs.Causes.{cause_left, cause_right, cause_either, free_both, free_left, free_right}
@@ -31,19 +30,13 @@ use Rattle.wcv_decls.specs.Resolved.{IsShape, IsFuncShape, resolve_checks, func_
 -- ## Defined types
 
 module _ (a : Arena) (c : Context) (x : Defined_form) (s : ComponentDefinedType) (h : IsShape a c x s) where
-  abbrev ts : List Type_tree
-  ts = trees a.nodes
-
-  slots_are : defined_slots s ≡ value_slots (value_parts s)
-  slots_are = slots_of_values s h.values
-
   pub shape_fits : Fits a (n.Defined s)
-  shape_fits = record { parts = subst (λ (ss : Slots). All (Stands a) (parts_in ss)) (sym slots_are) h.slots.stands; info = tt }
+  shape_fits = record { parts = h.stands; info = tt }
 
   shape_tree : (i : Name) → defined_tree i c x ≡ Some (node (defined i (former_of s)) (slot_parts (trees a.nodes) (defined_slots s)))
   shape_tree i =
-      ap (option_map (λ (ps : Parts Name Name). node (defined i (former x)) ps)) h.slots.trees ∙
-      (λ j. Some (node (defined i (sym h.formed j)) (slot_parts (trees a.nodes) (sym slots_are j))))
+      ap (option_map (λ (ps : Parts Name Name). node (defined i (former x)) ps)) h.parts ∙
+      (λ j. Some (node (defined i (sym h.formed j)) (slot_parts (trees a.nodes) (defined_slots s))))
 
   pub defined_added : (b : Arena) (st st' : Contents) → c ≡ context_of a st → Stored a b st st' (n.Defined s) → Added a b st st' (defined_type x)
   defined_added b st st' e w = record {
@@ -64,7 +57,7 @@ module _ (fs : WasmFeatures) (c : Context) (x : Defined_form) where
   sizes = if_found size_checks (defined_tree (base []) c x)
 
   abbrev parts : Checks
-  parts = parts_checks fs c (written_parts x)
+  parts = made_checks fs c (handle_index x) (written_parts x)
 
   abbrev content : Checks
   content = content_checks c x

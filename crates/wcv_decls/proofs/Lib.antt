@@ -11,3 +11,5 @@ pub mod Repeats
 pub mod Texts
 pub mod Stacks
 pub mod Ascending
+pub mod Handles
+pub mod Defining

@@ -35,7 +35,15 @@ pub record Added (a b : Arena) (s s' : Contents) (t : Type_form) : Type 0 where
   pub live : s'.spent ≡ false
   pub keeps : Keeps a b s s'
 
--- the state grew by the type item at that place, by names that the arena gave, and it has no cause that is looked at
+-- the state grew by the type item at any place, by names that the arena gave
+pub record Declares (a b : Arena) (s s' : Contents) (t : Type_form) : Type 0 where
+  pub given_names : Place → GivenNames
+  pub given : (p : Place) → GivesAt (Under p) (numbers_of a) (numbers_of b) (given_names p)
+  pub grown : (outer : List Context) (p : Place) → grow (names_of (given_names p)) p (scope_of s outer) (context_of a s) (type_item t) ≡ Some (context_of b s')
+  pub live : s'.spent ≡ false
+  pub keeps : Keeps a b s s'
+
+-- so at that place, by names that the arena gave, and it has no cause that is looked at
 pub record Declared (limited : Bool) (a a' : Arena) (outer : List Context) (p : Place) (s s' : Contents) (t : Type_form) : Type 0 where
   pub names : GivenNames
   pub given : GivesAt (Under p) (numbers_of a) (numbers_of a') names

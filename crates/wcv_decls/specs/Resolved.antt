@@ -10,7 +10,7 @@ use Rattle.wcv_types.specs.Entities.{SlotStands}
 use Rattle.wcv_types.specs.Standing.{Stands}
 use Rattle.wcv_syntax.specs.declared.component_type.VariantCase.{VariantCase}
 use Rattle.wcv_types.specs.Tree.{Text, Role, here, label}
-use Rattle.wcv_types.specs.Unfold.{Slots, option_slot, value_slots, value_parts, field_slots, former_of, handles, parts_in, slot_tree, slot_parts, trees}
+use Rattle.wcv_types.specs.Unfold.{Slots, option_slot, value_slots, value_parts, defined_slots, field_slots, former_of, handles, parts_in, slot_tree, slot_parts, trees}
 use Rattle.wcv_core.specs.declared.primitive.PrimitiveValType.{PrimitiveValType}
 use Rattle.wcv_types.specs.declared.shapes.ComponentDefinedType.{ComponentDefinedType}
 use Rattle.wcv_types.specs.declared.shapes.ComponentDefinedType.TheVariants as d
@@ -19,7 +19,7 @@ use Rattle.wcv_types.specs.declared.shapes.ComponentValType.{ComponentValType}
 use Rattle.wcv_types.specs.declared.info.TypeInfo.{TypeInfo}
 use Rattle.wcv_lower.specs.Checks.{Checks, if_found, too_many, max_size, max_depth, max_abi_size}
 use Rattle.wcv_lower.specs.Context.{Context}
-use Rattle.wcv_lower.specs.Defined.{former, written_parts, content_checks, has_borrow}
+use Rattle.wcv_lower.specs.Defined.{former, written_parts, handle_index, made_of, made_checks, content_checks, has_borrow}
 use Rattle.wcv_lower.specs.Types.{func_parts}
 use Rattle.wcv_lower.specs.Values.{option_tree, Written_parts, parts_trees, parts_checks}
 
@@ -55,18 +55,25 @@ pub record AreSlots (a : Arena) (c : Context) (ps : Written_parts) (ss : Slots) 
   pub stands : All (Stands a) (parts_in ss)
   pub trees : parts_trees c ps ≡ Some (slot_parts (trees a.nodes) ss)
 
-pub record IsShape (a : Arena) (c : Context) (x : Defined_form) (s : ComponentDefinedType) : Type 0 where
+-- the node of a type that is made of value types
+pub record IsValueShape (a : Arena) (c : Context) (x : Defined_form) (s : ComponentDefinedType) : Type 0 where
   pub formed : former_of s ≡ former x
   pub values : handles s ≡ false
   pub slots : AreSlots a c (written_parts x) (value_slots (value_parts s))
+
+-- the node of a defined type
+pub record IsShape (a : Arena) (c : Context) (x : Defined_form) (s : ComponentDefinedType) : Type 0 where
+  pub formed : former_of s ≡ former x
+  pub stands : All (Stands a) (parts_in (defined_slots s))
+  pub parts : made_of c (handle_index x) (written_parts x) ≡ Some (slot_parts (trees a.nodes) (defined_slots s))
 
 pub record IsFuncShape (a : Arena) (c : Context) (f : Func_form) (s : ComponentFuncType) : Type 0 where
   pub async : s.async_ ≡ f.async
   pub slots : AreSlots a c (func_parts f) (field_slots s.params.items ((here, option_slot s.result) ∷ []))
 
--- the causes that are found where value types are looked up
+-- the causes that are found where what it is made of is looked up
 abbrev pub resolve_checks : WasmFeatures → Context → Defined_form → Checks
-resolve_checks fs c x = parts_checks fs c (written_parts x) ++ content_checks c x
+resolve_checks fs c x = made_checks fs c (handle_index x) (written_parts x) ++ content_checks c x
 
 -- the primitive that is named
 abbrev pub shape_primitive : ComponentDefinedType → Option PrimitiveValType

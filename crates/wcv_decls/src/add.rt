@@ -9,12 +9,13 @@ ghost use Rattle.wcv_lower.specs.Values.{lacks, cm_async};
 ghost use Rattle.wcv_lower.specs.Types.{func_own_checks, tree_checks};
 ghost use Rattle.wcv_state.specs.Contents.{context_of, StateStands};
 ghost use Rattle.wcv_state.specs.Promises.{MemoryOrCausedBy, Keeps};
-ghost use Rattle.wcv_decls.specs.Items.{Added};
+ghost use Rattle.wcv_decls.specs.Items.{Added, Declares};
 
 use crate::defined::resolve_defined;
 use crate::features::{check_async, check_features};
 use crate::func::resolve_func;
 use crate::names::{check_labels, check_names};
+use crate::resource::add_resource;
 use crate::shape::check_shape;
 use crate::store::{store_defined, store_func};
 use std::alloc::Global;
@@ -47,7 +48,6 @@ fn add_defined(
 ) -> Result<(), Error>
     requires live { state.old.spent ≡ false }
     requires stands { StateStands types.old state.old }
-    requires built { built.is_built_defined (defined_view ty) ≡ true }
     ensures ok { OnOk result (Added types.old types.new state.old state.new (defined_type (defined_view ty))) }
     ensures free { OnOk result (IsFree (tree_checks state.old.features (context_of types.old state.old) (defined_type (defined_view ty)))) }
     ensures err { IfErr result (MemoryOrCausedBy (tree_checks state.old.features (context_of types.old state.old) (defined_type (defined_view ty))) offset) }
@@ -114,7 +114,7 @@ pub fn add_built(
     requires live { state.old.spent ≡ false }
     requires stands { StateStands types.old state.old }
     requires built { built.is_built_type (type_view ty) ≡ true }
-    ensures ok { OnOk result (Added types.old types.new state.old state.new (type_view ty)) }
+    ensures ok { OnOk result (Declares types.old types.new state.old state.new (type_view ty)) }
     ensures free { OnOk result (IsFree (tree_checks state.old.features (context_of types.old state.old) (type_view ty))) }
     ensures err { IfErr result (MemoryOrCausedBy (tree_checks state.old.features (context_of types.old state.old) (type_view ty)) offset) }
     ensures keeps { OnErr result (Keeps types.old types.new state.old state.new) }
@@ -122,6 +122,7 @@ pub fn add_built(
     match ty {
         ComponentType::Defined(ty) => add_defined(ty, state, types, offset),
         ComponentType::Func(func) => add_func(func, state, types, offset),
+        ComponentType::Resource { rep, .. } => add_resource(rep, state, types, offset),
         _ => unreachable!(),
     }
 }

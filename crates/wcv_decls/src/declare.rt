@@ -6,7 +6,7 @@ ghost use Rattle.wcv_lower.specs.Checks.{IsFree, counts, no_type_room};
 ghost use Rattle.wcv_lower.specs.Context.{Context};
 ghost use Rattle.wcv_state.specs.Contents.{context_of, scope_of, StateStands};
 ghost use Rattle.wcv_state.specs.Promises.{MemoryOrCausedBy, RefusesBy, Keeps};
-ghost use Rattle.wcv_decls.specs.Items.{declare_checks, Added, Declared};
+ghost use Rattle.wcv_decls.specs.Items.{declare_checks, Declares, Declared};
 
 use crate::add::add_built;
 use wcv_core::{Error, ErrorKind};
@@ -51,7 +51,7 @@ fn declare(
 ) -> Result<(), Error>
     requires live { state.old.spent ≡ false }
     requires stands { StateStands types.old state.old }
-    ensures ok { OnOk result (Added types.old types.new state.old state.new (type_view ty)) }
+    ensures ok { OnOk result (Declares types.old types.new state.old state.new (type_view ty)) }
     ensures free { OnOk result ((outer : List Context) → IsFree (declare_checks check_limit (scope_of state.old outer) (context_of types.old state.old) (type_view ty))) }
     ensures err { IfErr result (λ e. (outer : List Context) → MemoryOrCausedBy (declare_checks check_limit (scope_of state.old outer) (context_of types.old state.old) (type_view ty)) offset e) }
     ensures keeps { OnErr result (Keeps types.old types.new state.old state.new) }

@@ -1,13 +1,13 @@
 // The nodes of defined types.
-ghost use Rattle.std.specs.Prelude.{◌≡◌, true, OnOk, IfOk, IfErr};
-ghost use Rattle.wcv_syntax.specs.Built as built;
+ghost use Rattle.std.specs.Prelude.{◌≡◌, true, None, OnOk, IfOk, IfErr};
 ghost use Rattle.wcv_syntax.specs.Model.{simple};
 ghost use Rattle.wcv_syntax.specs.View.{defined_view};
 ghost use Rattle.wcv_syntax.specs.declared.component_type.ComponentDefinedType.TheVariants as written;
 ghost use Rattle.wcv_lower.specs.Checks.{IsFree};
+ghost use Rattle.wcv_lower.specs.Defined.{handle_index};
 ghost use Rattle.wcv_state.specs.Contents.{context_of, StateStands};
 ghost use Rattle.wcv_state.specs.Promises.{MemoryOrCausedBy};
-ghost use Rattle.wcv_decls.specs.Resolved.{IsShape, holds_no_list, resolve_checks};
+ghost use Rattle.wcv_decls.specs.Resolved.{IsShape, IsValueShape, holds_no_list, resolve_checks};
 
 use crate::content::{check_borrow, check_element, check_key, check_map_value};
 use crate::lists::{resolve_cases, resolve_fields, resolve_items};
@@ -27,7 +27,7 @@ fn resolve_map(
     offset: u64,
 ) -> Result<ComponentDefinedType, Error>
     requires stands { StateStands types.now state.now }
-    ensures ok { IfOk result (IsShape types.now (context_of types.now state.now) (simple (written.Map key value))) }
+    ensures ok { IfOk result (IsValueShape types.now (context_of types.now state.now) (simple (written.Map key value))) }
     ensures free { OnOk result (IsFree (resolve_checks state.now.features (context_of types.now state.now) (simple (written.Map key value)))) }
     ensures err { IfErr result (MemoryOrCausedBy (resolve_checks state.now.features (context_of types.now state.now) (simple (written.Map key value))) offset) }
 {
@@ -46,7 +46,7 @@ fn resolve_future(
     offset: u64,
 ) -> Result<ComponentDefinedType, Error>
     requires stands { StateStands types.now state.now }
-    ensures ok { IfOk result (IsShape types.now (context_of types.now state.now) (simple (written.Future payload))) }
+    ensures ok { IfOk result (IsValueShape types.now (context_of types.now state.now) (simple (written.Future payload))) }
     ensures free { OnOk result (IsFree (resolve_checks state.now.features (context_of types.now state.now) (simple (written.Future payload)))) }
     ensures err { IfErr result (MemoryOrCausedBy (resolve_checks state.now.features (context_of types.now state.now) (simple (written.Future payload))) offset) }
 {
@@ -63,7 +63,7 @@ fn resolve_stream(
     offset: u64,
 ) -> Result<ComponentDefinedType, Error>
     requires stands { StateStands types.now state.now }
-    ensures ok { IfOk result (IsShape types.now (context_of types.now state.now) (simple (written.Stream payload))) }
+    ensures ok { IfOk result (IsValueShape types.now (context_of types.now state.now) (simple (written.Stream payload))) }
     ensures free { OnOk result (IsFree (resolve_checks state.now.features (context_of types.now state.now) (simple (written.Stream payload)))) }
     ensures err { IfErr result (MemoryOrCausedBy (resolve_checks state.now.features (context_of types.now state.now) (simple (written.Stream payload))) offset) }
 {
@@ -83,7 +83,7 @@ fn resolve_result(
     offset: u64,
 ) -> Result<ComponentDefinedType, Error>
     requires stands { StateStands types.now state.now }
-    ensures ok { IfOk result (IsShape types.now (context_of types.now state.now) (simple (written.Result ok err))) }
+    ensures ok { IfOk result (IsValueShape types.now (context_of types.now state.now) (simple (written.Result ok err))) }
     ensures free { OnOk result (IsFree (resolve_checks state.now.features (context_of types.now state.now) (simple (written.Result ok err)))) }
     ensures err { IfErr result (MemoryOrCausedBy (resolve_checks state.now.features (context_of types.now state.now) (simple (written.Result ok err))) offset) }
 {
@@ -101,9 +101,9 @@ fn resolve_simple(
     offset: u64,
 ) -> Result<ComponentDefinedType, Error>
     requires stands { StateStands types.now state.now }
-    requires built { built.is_built_defined (simple ty) ≡ true }
+    requires values { handle_index (simple ty) ≡ None }
     requires simple { holds_no_list ty ≡ true }
-    ensures ok { IfOk result (IsShape types.now (context_of types.now state.now) (simple ty)) }
+    ensures ok { IfOk result (IsValueShape types.now (context_of types.now state.now) (simple ty)) }
     ensures free { OnOk result (IsFree (resolve_checks state.now.features (context_of types.now state.now) (simple ty))) }
     ensures err { IfErr result (MemoryOrCausedBy (resolve_checks state.now.features (context_of types.now state.now) (simple ty)) offset) }
 {
@@ -123,8 +123,8 @@ fn resolve_simple(
     }
 }
 
-/// The node of a defined type.
-pub fn resolve_defined(
+/// The node of a defined type that is made of value types.
+fn resolve_values(
     alloc: Global,
     ty: Written,
     state: &ComponentState,
@@ -132,8 +132,8 @@ pub fn resolve_defined(
     offset: u64,
 ) -> Result<ComponentDefinedType, Error>
     requires stands { StateStands types.now state.now }
-    requires built { built.is_built_defined (defined_view ty) ≡ true }
-    ensures ok { IfOk result (IsShape types.now (context_of types.now state.now) (defined_view ty)) }
+    requires values { handle_index (defined_view ty) ≡ None }
+    ensures ok { IfOk result (IsValueShape types.now (context_of types.now state.now) (defined_view ty)) }
     ensures free { OnOk result (IsFree (resolve_checks state.now.features (context_of types.now state.now) (defined_view ty))) }
     ensures err { IfErr result (MemoryOrCausedBy (resolve_checks state.now.features (context_of types.now state.now) (defined_view ty)) offset) }
 {
@@ -150,5 +150,63 @@ pub fn resolve_defined(
         Written::Flags(names) => Ok(ComponentDefinedType::Flags(names)),
         Written::Enum(names) => Ok(ComponentDefinedType::Enum(names)),
         _ => resolve_simple(ty, state, types, offset),
+    }
+}
+
+/// The node of a handle that owns a resource.
+fn resolve_own(
+    index: u32,
+    state: &ComponentState,
+    types: &TypeAlloc,
+    offset: u64,
+) -> Result<ComponentDefinedType, Error>
+    requires stands { StateStands types.now state.now }
+    ensures ok { IfOk result (IsShape types.now (context_of types.now state.now) (simple (written.Own index))) }
+    ensures free { OnOk result (IsFree (resolve_checks state.now.features (context_of types.now state.now) (simple (written.Own index)))) }
+    ensures err { IfErr result (MemoryOrCausedBy (resolve_checks state.now.features (context_of types.now state.now) (simple (written.Own index))) offset) }
+{
+    let _ = types;
+    let id = state.resource_at(index, offset)?;
+    Ok(ComponentDefinedType::Own(id))
+}
+
+/// So of one that borrows it.
+fn resolve_borrow(
+    index: u32,
+    state: &ComponentState,
+    types: &TypeAlloc,
+    offset: u64,
+) -> Result<ComponentDefinedType, Error>
+    requires stands { StateStands types.now state.now }
+    ensures ok { IfOk result (IsShape types.now (context_of types.now state.now) (simple (written.Borrow index))) }
+    ensures free { OnOk result (IsFree (resolve_checks state.now.features (context_of types.now state.now) (simple (written.Borrow index)))) }
+    ensures err { IfErr result (MemoryOrCausedBy (resolve_checks state.now.features (context_of types.now state.now) (simple (written.Borrow index))) offset) }
+{
+    let _ = types;
+    let id = state.resource_at(index, offset)?;
+    Ok(ComponentDefinedType::Borrow(id))
+}
+
+/// The node of a defined type.
+#[tactic(auto, using(crate::proofs::Handles::value_shape))]
+pub fn resolve_defined(
+    alloc: Global,
+    ty: Written,
+    state: &ComponentState,
+    types: &TypeAlloc,
+    offset: u64,
+) -> Result<ComponentDefinedType, Error>
+    requires stands { StateStands types.now state.now }
+    ensures ok { IfOk result (IsShape types.now (context_of types.now state.now) (defined_view ty)) }
+    ensures free { OnOk result (IsFree (resolve_checks state.now.features (context_of types.now state.now) (defined_view ty))) }
+    ensures err { IfErr result (MemoryOrCausedBy (resolve_checks state.now.features (context_of types.now state.now) (defined_view ty)) offset) }
+{
+    match ty {
+        Written::Own(index) => resolve_own(index, state, types, offset),
+        Written::Borrow(index) => resolve_borrow(index, state, types, offset),
+        _ => {
+            let shape = resolve_values(alloc, ty, state, types, offset)?;
+            Ok(shape)
+        }
     }
 }

@@ -4,7 +4,7 @@ ghost use Rattle.wcv_core.specs.Refusal.{error_kind, error_offset};
 ghost use Rattle.wcv_syntax.specs.View.{defined_view};
 ghost use Rattle.wcv_lower.specs.Checks.{IsFree};
 ghost use Rattle.wcv_lower.specs.Defined.{feature_checks};
-ghost use Rattle.wcv_lower.specs.Values.{has_feature, lacks, cm_async, cm_map, cm_fixed_length_lists, cm_error_context, primitive_checks};
+ghost use Rattle.wcv_lower.specs.Values.{has_feature, lacks, cm64, cm_async, cm_map, cm_fixed_length_lists, cm_error_context, primitive_checks};
 ghost use Rattle.wcv_state.specs.Promises.{MemoryOrCausedBy};
 
 use bitflags::Flags;
@@ -36,6 +36,19 @@ pub fn check_async(features: &WasmFeatures, needed_by: &str, offset: u64) -> Res
         features.contains(WasmFeatures::CM_ASYNC),
         "cm-async",
         needed_by,
+        offset,
+    )
+}
+
+/// Whether `i64` may represent a resource.
+pub fn check_cm64(features: &WasmFeatures, offset: u64) -> Result<(), Error>
+    ensures ok { OnOk result (IsFree (lacks features.now cm64)) }
+    ensures err { IfErr result (MemoryOrCausedBy (lacks features.now cm64) offset) }
+{
+    check_feature(
+        features.contains(WasmFeatures::CM64),
+        "cm64",
+        "a resource that `i64` represents",
         offset,
     )
 }

@@ -11,6 +11,7 @@ mod func;
 mod limits;
 mod lists;
 mod names;
+mod resource;
 mod shape;
 mod size;
 mod stack;

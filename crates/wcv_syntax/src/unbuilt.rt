@@ -26,10 +26,10 @@ impl fmt::Display for UnreadForm {
     fn fmt<W: fmt::Write>(&self, f: &mut fmt::Formatter<W>) -> fmt::Result {
         f.write_str(match self.0 {
             ItemForm::Type => {
-                r#"the body of this "type" is none of {"func": {"params": [[NAME, TYPE], ..], "result": TYPE, "async": BOOL}} and {"defined": DEFINED}; no other is built yet"#
+                r#"the body of this "type" is none of {"func": {"params": [[NAME, TYPE], ..], "result": TYPE, "async": BOOL}}, {"defined": DEFINED} and {"resource": {"rep": CORE-TYPE}}; no other is built yet"#
             }
             ItemForm::Import => {
-                r#"the body of this "import" is not {"name": NAME, "type": {"func": INDEX}}; no other is built yet"#
+                r#"the body of this "import" is none of {"name": NAME, "type": {"func": INDEX}}, {"name": NAME, "type": {"eq": INDEX}} and {"name": NAME, "type": "sub-resource"}; no other is built yet"#
             }
             ItemForm::Export => {
                 r#"the body of this "export" is not {"name": NAME, "sort": SORT, "index": INDEX}; no other is built yet"#
@@ -49,11 +49,11 @@ impl fmt::Display for UnreadForm {
 impl fmt::Display for TypeForm<'_> {
     fn fmt<W: fmt::Write>(&self, f: &mut fmt::Formatter<W>) -> fmt::Result {
         f.write_str(match self.0 {
-            ComponentType::Defined(_) => "handles (`own` and `borrow`) are not built yet",
+            ComponentType::Defined(_) => "this defined type is not built yet",
             ComponentType::Func(_) => "this function type is not built yet",
             ComponentType::Component(_) => "component types are not built yet",
             ComponentType::Instance(_) => "instance types are not built yet",
-            ComponentType::Resource { .. } => "resources are not built yet",
+            ComponentType::Resource { .. } => "destructors of resources are not built yet",
         })
     }
 }
