@@ -31,5 +31,6 @@ pub mod Refilling
 pub mod Rebuilding
 pub mod SortLaws
 pub mod Renewing
+pub mod Gathered
 pub mod NamedBySet
 pub mod SameTypes
