@@ -11,7 +11,7 @@ use Rattle.wcv_core.proofs.Names.{and_left, and_right, same-true, same-equal}
 use Rattle.wcv_types.specs.Arena.{Arena}
 use Rattle.wcv_types.specs.Entities.{any_part, entity_tree, entry_trees, SlotStands}
 use Rattle.wcv_types.specs.Gathering.{Continues, Gains, FreeAmong, AllGathered}
-use Rattle.wcv_types.specs.NamedBySet.{handle_of, node_id}
+use Rattle.wcv_types.specs.NamedBySet.{handle_of}
 use Rattle.wcv_types.specs.Resources.{Free, FreeIn, mentions, mentions_in}
 use Rattle.wcv_types.specs.Sets.{same_type, has_type, with_type, has_resource, with_resource, resource_names}
 use Rattle.wcv_types.specs.Standing.{Stands, StandsBefore}
@@ -234,24 +234,7 @@ gains_slot ts ss x xs ys zs g h =
         last (inr (inl g)) = inr g
         last (inr (inr g)) = absurd g
 
-pub gains_none : (ts : List Type_tree) (ss : Slots) (rs : List ResourceId) → ss ≡ [] → Gains (λ r. FreeIn r (slot_parts ts ss)) rs rs
-gains_none ts ss rs e = subst (λ (xs : Slots). Gains (λ r. FreeIn r (slot_parts ts xs)) rs rs) (sym e) (gains_held (λ r. ⊥) rs (λ r f. absurd f))
-
 -- ## Defined types
-
--- of a leaf
-pub gains_leaf : (ts : List Type_tree) (ty : Option ComponentValType) (rs : List ResourceId) → node_id ty ≡ None → Gains (λ r. Free r (slot_tree ts (option_slot ty))) rs rs
-gains_leaf ts None rs e = gains_held (λ r. Free r (slot_tree ts (option_slot None))) rs (λ r f. leaf r f)
-  where
-    leaf : (r : Name) → Free r (slot_tree ts (option_slot None)) → member r (resource_names rs) ≡ true
-    leaf r (inl x) = absurd x
-    leaf r (inr x) = absurd x.1
-gains_leaf ts (Some (v.Primitive q)) rs e = gains_held (λ r. Free r (slot_tree ts (option_slot (Some (v.Primitive q))))) rs (λ r f. leaf r f)
-  where
-    leaf : (r : Name) → Free r (slot_tree ts (option_slot (Some (v.Primitive q)))) → member r (resource_names rs) ≡ true
-    leaf r (inl x) = absurd x
-    leaf r (inr x) = absurd x.1
-gains_leaf ts (Some (v.Ty i)) rs e = absurd (cc)
 
 -- the value type as a node
 pub gains_node : (a : Arena) (ty : Option ComponentValType) (i : ComponentDefinedTypeId) (xs ys : List ResourceId) → ty ≡ Some (v.Ty i) → Gains (λ r. Free r (tree_at a (p.Defined i))) xs ys → Gains (λ r. Free r (slot_tree (trees a.nodes) (option_slot ty))) xs ys
@@ -422,6 +405,3 @@ gains_item ts es k e xs ys zs w i g h =
     back [] r (inr f) = absurd f
     back (d ∷ ds) r (inl f) = inl (inl f)
     back (d ∷ ds) r (inr f) = ⊎_elim (λ (x : FreeAmong (entry_trees ts ds) r). inl (inr x)) (λ (x : Free r (entity_tree ts e.1.ty)). inr x) (back ds r f)
-
-pub gains_items : (ts : List Type_tree) (es : List (Text × ComponentItem)) (k : ℕ) (xs ys : List ResourceId) → length es ≤ k → Gains (FreeInItems ts es k) xs ys → Gains (FreeAmong (entry_trees ts es)) xs ys
-gains_items ts es k xs ys h g = subst (λ (ds : List (Text × ComponentItem)). Gains (FreeAmong (entry_trees ts ds)) xs ys) (take_all k es h) g
