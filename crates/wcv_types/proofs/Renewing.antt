@@ -1,13 +1,16 @@
 -- Types under a new identity.
-use Rattle.std.proofs.Common.{◌≡◌, ℕ, ◌<◌, ◌≤◌, List, [], ◌∷◌, ◌++◌, length, take, refl, sym, ◌∙◌, ap, subst, arith, append-nil, Some, None}
-use Rattle.std.specs.Prelude.{Option, slice_get, IfSome, All}
+use Rattle.std.proofs.Common.{◌≡◌, ℕ, List, [], ◌∷◌, ◌++◌, length, refl, take, sym, ◌∙◌, ap, subst, arith, append-nil, Some}
+use Rattle.std.specs.Prelude.{slice_get, IfSome}
 use Rattle.std.proofs.lemmas.Option.{same_Some}
 use Rattle.std.proofs.lemmas.List.Elements.{All-weaker}
 use Rattle.wcv_core.specs.Names.{Name, number, stamp}
 use Rattle.wcv_types.specs.Arena.{Arena}
 use Rattle.wcv_types.specs.Renewed.{renewed, with_stamp, NodeAgain, Renewed}
 use Rattle.wcv_types.specs.Standing.{Stands, Fits, AllFit, cut, with_node, Extends}
-use Rattle.wcv_types.specs.Tree.{Parts, node, defined, func}
+use Rattle.wcv_types.specs.Measure.{size, depth}
+use Rattle.wcv_types.specs.Rename.{rename, without_identities}
+use Rattle.wcv_types.specs.Resources.{substitute}
+use Rattle.wcv_types.specs.Tree.{nothing, primitive, resource, defined, func, instance, component, type_entity, Parts, node}
 use Rattle.wcv_types.specs.Unfold.{Type_tree, IsInfoOf, info_of, head_of, former_of, slots_of, slot_parts, parts_of, tree_of, tree_in, tree_at, trees}
 use Rattle.wcv_types.specs.declared.arena.Node.{Node}
 use Rattle.wcv_types.specs.declared.arena.Node.TheVariants as n
@@ -111,3 +114,55 @@ module _ (xs ys : List Node) (resources stamps k : ℕ) where
     unfolds = tree_in-unfolds old k w.0 f w.1;
     added = λ j. record { nodes = w.2 j; resources = resources; stamps = stamps };
   }
+
+-- ## Trees under a new identity
+
+pub renewed_unnamed : (j : Name) (t : Type_tree) → without_identities (renewed j t) ≡ without_identities t
+renewed_unnamed j (node (resource r s) ps) = refl
+renewed_unnamed j (node (defined i k) ps) = refl
+renewed_unnamed j (node (func i b) ps) = refl
+renewed_unnamed j (node (instance i own) ps) = refl
+renewed_unnamed j (node (component i ins outs) ps) = refl
+renewed_unnamed j (node nothing ps) = refl
+renewed_unnamed j (node (primitive q) ps) = refl
+renewed_unnamed j (node type_entity ps) = refl
+
+pub renewed_renamed : (f g : Name → Name) (j : Name) (t : Type_tree) → rename f g (renewed j t) ≡ renewed (g j) (rename f g t)
+renewed_renamed f g j (node (resource r s) ps) = refl
+renewed_renamed f g j (node (defined i k) ps) = refl
+renewed_renamed f g j (node (func i b) ps) = refl
+renewed_renamed f g j (node (instance i own) ps) = refl
+renewed_renamed f g j (node (component i ins outs) ps) = refl
+renewed_renamed f g j (node nothing ps) = refl
+renewed_renamed f g j (node (primitive q) ps) = refl
+renewed_renamed f g j (node type_entity ps) = refl
+
+pub renewed_substituted : (u : Name → Name) (j : Name) (t : Type_tree) → substitute u (renewed j t) ≡ renewed j (substitute u t)
+renewed_substituted u j (node (resource r s) ps) = refl
+renewed_substituted u j (node (defined i k) ps) = refl
+renewed_substituted u j (node (func i b) ps) = refl
+renewed_substituted u j (node (instance i own) ps) = refl
+renewed_substituted u j (node (component i ins outs) ps) = refl
+renewed_substituted u j (node nothing ps) = refl
+renewed_substituted u j (node (primitive q) ps) = refl
+renewed_substituted u j (node type_entity ps) = refl
+
+pub renewed_size : (j : Name) (t : Type_tree) → size (renewed j t) ≡ size t
+renewed_size j (node (resource r s) ps) = refl
+renewed_size j (node (defined i k) ps) = refl
+renewed_size j (node (func i b) ps) = refl
+renewed_size j (node (instance i own) ps) = refl
+renewed_size j (node (component i ins outs) ps) = refl
+renewed_size j (node nothing ps) = refl
+renewed_size j (node (primitive q) ps) = refl
+renewed_size j (node type_entity ps) = refl
+
+pub renewed_depth : (j : Name) (t : Type_tree) → depth (renewed j t) ≡ depth t
+renewed_depth j (node (resource r s) ps) = refl
+renewed_depth j (node (defined i k) ps) = refl
+renewed_depth j (node (func i b) ps) = refl
+renewed_depth j (node (instance i own) ps) = refl
+renewed_depth j (node (component i ins outs) ps) = refl
+renewed_depth j (node nothing ps) = refl
+renewed_depth j (node (primitive q) ps) = refl
+renewed_depth j (node type_entity ps) = refl

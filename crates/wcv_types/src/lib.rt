@@ -8,6 +8,7 @@ mod component_type;
 mod defined_facts;
 mod defined_sort;
 mod facts;
+mod free_variables;
 mod func_facts;
 mod func_sort;
 mod ids;
@@ -18,8 +19,10 @@ mod named_contents;
 mod named_types;
 mod nodes;
 mod parts;
+mod reference_sort;
 mod refill;
 mod renew;
+mod resource_set;
 mod same_types;
 mod shapes;
 mod sorts;
@@ -34,6 +37,7 @@ ghost use Rattle.wcv_types.specs.Identity.{Identity, of_node};
 ghost use Rattle.wcv_types.specs.Measure.{size, depth};
 ghost use Rattle.wcv_types.specs.FirstPath.{first_path};
 ghost use Rattle.wcv_types.specs.Paths.{PathLeadsTo};
+ghost use Rattle.wcv_types.specs.Renewed.{renewed};
 ghost use Rattle.wcv_types.specs.Rename.{rename, without_identities, HasWayBack, UpToRenaming};
 ghost use Rattle.wcv_types.specs.Replacing.{Replacement, new_resource, changed, changed_in, replaced, SparesOwn, GivesSame};
 ghost use Rattle.wcv_types.specs.Resources.{owns, RefersTo, Free, substitute, Admits};
@@ -56,6 +60,7 @@ pub use ids::{
 pub use info::TypeInfo;
 pub use item_map::{ComponentItem, ItemMap};
 pub use parts::Parts;
+pub use resource_set::ResourceSet;
 pub use shapes::{ComponentDefinedType, ComponentEntityType, ComponentFuncType, ComponentValType};
 pub use sorts::{NodeSort, TypeSort};
 pub use store::{NodeStore, Steps};
@@ -165,6 +170,42 @@ pub fn there_is_a_first_path()
 pub fn what_is_free_in_a_type_is_free_in_a_part()
     ensures below { (a : Arena) (r : Name) (q : Part) → Unfolds a q → Free r (tree_at a q) → RefersTo r (head (tree_at a q)) ⊎ ((owns (head (tree_at a q)) r ≡ false) × ((p : Part) × Contains (parts_at a q) p × Free r (tree_at a p))) }
     ensures above { (a : Arena) (r : Name) (q p : Part) → Unfolds a q → owns (head (tree_at a q)) r ≡ false → Contains (parts_at a q) p → Free r (tree_at a p) → Free r (tree_at a q) }
+{}
+
+/// A type under a new identity is the same type, identities aside.
+#[tactic(auto, using(crate::proofs::Renewing::renewed_unnamed))]
+pub fn a_renewed_type_is_the_same_type()
+    ensures { (j : Name) (t : Tree Name Name) → without_identities (renewed j t) ≡ without_identities t }
+{}
+
+/// The same resources are free in it.
+pub fn renewing_keeps_what_is_free()
+    ensures to { (j r : Name) (t : Tree Name Name) → Free r t → Free r (renewed j t) }
+    ensures back { (j r : Name) (t : Tree Name Name) → Free r (renewed j t) → Free r t }
+{}
+
+/// The size is the same.
+#[tactic(auto, using(crate::proofs::Renewing::renewed_size))]
+pub fn renewing_keeps_the_size()
+    ensures { (j : Name) (t : Tree Name Name) → size (renewed j t) ≡ size t }
+{}
+
+/// So is the depth.
+#[tactic(auto, using(crate::proofs::Renewing::renewed_depth))]
+pub fn renewing_keeps_the_depth()
+    ensures { (j : Name) (t : Tree Name Name) → depth (renewed j t) ≡ depth t }
+{}
+
+/// To give a type an identity and then to rename all names is to rename them first, and to give it the renamed identity.
+#[tactic(auto, using(crate::proofs::Renewing::renewed_renamed))]
+pub fn renaming_commutes_with_renewing()
+    ensures { (f g : Name → Name) (j : Name) (t : Tree Name Name) → rename f g (renewed j t) ≡ renewed (g j) (rename f g t) }
+{}
+
+/// Replacing of free resources keeps the identity that a type is given.
+#[tactic(auto, using(crate::proofs::Renewing::renewed_substituted))]
+pub fn replacing_commutes_with_renewing()
+    ensures { (u : Name → Name) (j : Name) (t : Tree Name Name) → substitute u (renewed j t) ≡ renewed j (substitute u t) }
 {}
 
 /// A node that is made again with what its parts become is what the node becomes, where some part becomes another.

@@ -1,0 +1,33 @@
+// References to resources as types. They are no nodes of the arena.
+use crate::arena::TypeAlloc;
+use crate::ids::{AliasableResourceId, Part};
+use crate::info::TypeInfo;
+use crate::parts::Parts;
+use crate::sorts::TypeSort;
+use wcv_core::OutOfMemory;
+
+impl TypeSort for AliasableResourceId {
+    ghost use Rattle.wcv_types.specs.declared.ids.Part.{Part};
+
+    ghost as_part = { λ id. Part.Resource id };
+
+    fn part(self) -> Part {
+        Part::Resource(self)
+    }
+
+    fn info(self, _types: &TypeAlloc) -> TypeInfo {
+        TypeInfo { size: 1, depth: 1 }
+    }
+
+    fn part_count(self, _types: &TypeAlloc) -> usize {
+        0
+    }
+
+    fn part_at(self, _types: &TypeAlloc, _k: usize) -> Part {
+        unreachable!()
+    }
+
+    fn rebuild(self, _types: &mut TypeAlloc, _parts: &Parts) -> Result<Self, OutOfMemory> {
+        Ok(self)
+    }
+}
