@@ -124,9 +124,9 @@ module _ (s : ComponentDefinedType) (x : Sum) (ts : List Type_tree) (k : ℕ) (h
       f.abi.size32 ≡ kept_size (former_size 4 (former_of s) x.narrow.end x.narrow.align x.narrow.greatest (length (value_parts s))) → f.abi.align32 ≡ former_align 4 (former_of s) x.narrow.align (length (value_parts s)) →
       f.abi.size64 ≡ kept_size (former_size 8 (former_of s) x.wide.end x.wide.align x.wide.greatest (length (value_parts s))) → f.abi.align64 ≡ former_align 8 (former_of s) x.wide.align (length (value_parts s)) →
       f.abi.contains_ptr ≡ former_has pointer (former_of s) x.contains_ptr → f.abi.contains_handle ≡ former_has handle (former_of s) x.contains_handle → f.abi.contains_borrow ≡ former_has borrow (former_of s) x.contains_borrow →
-      f.plain ≡ named_by_itself (former_of s) false x.plain →
+      f.plain ≡ named_by_itself (former_of s) false x.plain → f.refers ≡ x.refers →
       IsFactsOf f (node (head_of k (n.Defined s)) (slot_parts ts (defined_slots s)))
-  facts_are f i1 i2 a1 a2 a3 a4 m1 m2 m3 q = record {
+  facts_are f i1 i2 a1 a2 a3 a4 m1 m2 m3 q w = record {
     info = record {
       size = i1 ∙ ap (λ (m : ℕ). capped (weigh (former_weight (former_of s)) 0 m)) h.size ∙ weigh-capped (former_of s) (first_size ps) (sizes ps);
       depth = i2 ∙ ap (λ (m : ℕ). capped (weigh (former_weight (former_of s)) 0 m)) h.depth ∙ weigh-capped (former_of s) (first_depth ps) (depths ps);
@@ -141,6 +141,7 @@ module _ (s : ComponentDefinedType) (x : Sum) (ts : List Type_tree) (k : ℕ) (h
       contains_borrow = m3 ∙ ap (former_has borrow (former_of s)) h.contains_borrow;
     };
     plain = q ∙ ap (named_by_itself (former_of s) false) h.plain;
+    refers = w ∙ h.refers;
   }
 
 -- ## Value types

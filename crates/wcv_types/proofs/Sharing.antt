@@ -6,7 +6,6 @@ use Rattle.std.proofs.lemmas.Bool.{cases_lt}
 use Rattle.std.proofs.lemmas.List.{map-append}
 use Rattle.std.proofs.lemmas.Option.{same_Some, slice_get_within, slice_get_read, slice_get-get_or, slice_get-map, get_or_from_slice_get}
 use Rattle.std.proofs.Math.ListN.{get_or-append}
-use Rattle.std.proofs.Math.Seq.{get_or-append_seam}
 use Rattle.wcv_core.specs.Names.{Name}
 use Rattle.wcv_types.specs.Facts.{IsFactsOf, IsKnown, AllKnown, no_node, nodes_at}
 use Rattle.wcv_types.specs.Tree.{Parts, node}
@@ -129,8 +128,8 @@ known_push ks ls ps qs x p xs e f i v a g =
 
 -- what is kept looks at no identity
 facts_again : (f : Facts) (x : Node) (j k : ℕ) (ps : Parts Name Name) → IsFactsOf f (node (head_of k x) ps) → IsFactsOf f (node (head_of j x) ps)
-facts_again f (n.Defined s) j k ps h = record { info = record { size = h.info.size; depth = h.info.depth }; abi = record { size32 = h.abi.size32; align32 = h.abi.align32; size64 = h.abi.size64; align64 = h.abi.align64; contains_ptr = h.abi.contains_ptr; contains_handle = h.abi.contains_handle; contains_borrow = h.abi.contains_borrow }; plain = h.plain }
-facts_again f (n.Func s) j k ps h = record { info = record { size = h.info.size; depth = h.info.depth }; abi = record { size32 = h.abi.size32; align32 = h.abi.align32; size64 = h.abi.size64; align64 = h.abi.align64; contains_ptr = h.abi.contains_ptr; contains_handle = h.abi.contains_handle; contains_borrow = h.abi.contains_borrow }; plain = h.plain }
+facts_again f (n.Defined s) j k ps h = record { info = record { size = h.info.size; depth = h.info.depth }; abi = record { size32 = h.abi.size32; align32 = h.abi.align32; size64 = h.abi.size64; align64 = h.abi.align64; contains_ptr = h.abi.contains_ptr; contains_handle = h.abi.contains_handle; contains_borrow = h.abi.contains_borrow }; plain = h.plain; refers = h.refers }
+facts_again f (n.Func s) j k ps h = record { info = record { size = h.info.size; depth = h.info.depth }; abi = record { size32 = h.abi.size32; align32 = h.abi.align32; size64 = h.abi.size64; align64 = h.abi.align64; contains_ptr = h.abi.contains_ptr; contains_handle = h.abi.contains_handle; contains_borrow = h.abi.contains_borrow }; plain = h.plain; refers = h.refers }
 
 -- the tree of the node at a place is made of the trees of its parts in the same list
 abbrev pub UnfoldsAt : List Node → ℕ → Type 0

@@ -5,6 +5,7 @@ use Rattle.wcv_types.specs.Abi.{align_up, abi_align, abi_size, greatest_align, g
 use Rattle.wcv_types.specs.Facts.{is_plain, IsFactsOf}
 use Rattle.wcv_types.specs.Measure.{size, sizes, depth, depths}
 use Rattle.wcv_types.specs.Named.{is_named, are_named}
+use Rattle.wcv_types.specs.Resources.{mentions, mentions_in}
 use Rattle.wcv_types.specs.Sums.{IsExtentOf, IsSumOf}
 use Rattle.wcv_types.specs.Tree.{Role, Parts}
 use Rattle.wcv_types.specs.Unfold.{Type_tree, Slot, Slots, slot_tree, slot_parts}
@@ -52,6 +53,10 @@ module _ (ts : List Type_tree) (s : Role × Slot) where
   contains-push m [] = or_false (contains m t)
   contains-push m (x ∷ ss) = ap (λ (b : Bool). contains m (slot_tree ts x.1) || b) (contains-push m ss) ∙ or_assoc (contains m (slot_tree ts x.1)) (any_contains m (slot_parts ts ss)) (contains m t)
 
+  mentions-push : (ss : Slots) → mentions_in (more ss) ≡ (mentions_in (slot_parts ts ss) || mentions t)
+  mentions-push [] = or_false (mentions t)
+  mentions-push (x ∷ ss) = ap (λ (b : Bool). mentions (slot_tree ts x.1) || b) (mentions-push ss) ∙ or_assoc (mentions (slot_tree ts x.1)) (mentions_in (slot_parts ts ss)) (mentions t)
+
   align-push : (p : ℕ) (ss : Slots) → greatest_align p (more ss) ≡ max (greatest_align p (slot_parts ts ss)) (abi_align p t)
   align-push p [] = omega arith
   align-push p (x ∷ ss) = omega (arith, align-push p ss)
@@ -77,15 +82,16 @@ module _ (ts : List Type_tree) (s : Role × Slot) where
       }
 
 pub sum_push : (old new : Sum) (x : Facts) (ts : List Type_tree) (ss : Slots) (s : Role × Slot) → IsSumOf old (slot_parts ts ss) → IsFactsOf x (slot_tree ts s.1) → is_plain (slot_tree ts s.1) ≡ is_named [] (slot_tree ts s.1) →
-    new.size ≡ min (old.size + x.info.size) 4294967295 → new.depth ≡ max old.depth x.info.depth → new.plain ≡ (old.plain && x.plain) →
+    new.size ≡ min (old.size + x.info.size) 4294967295 → new.depth ≡ max old.depth x.info.depth → new.plain ≡ (old.plain && x.plain) → new.refers ≡ (old.refers || x.refers) →
     new.contains_ptr ≡ (old.contains_ptr || x.abi.contains_ptr) → new.contains_handle ≡ (old.contains_handle || x.abi.contains_handle) → new.contains_borrow ≡ (old.contains_borrow || x.abi.contains_borrow) →
     new.narrow ≡ record { end = min (align_up x.abi.align32 old.narrow.end + x.abi.size32) 18446744073709551615; align = max old.narrow.align x.abi.align32; greatest = max old.narrow.greatest x.abi.size32 } →
     new.wide ≡ record { end = min (align_up x.abi.align64 old.wide.end + x.abi.size64) 18446744073709551615; align = max old.wide.align x.abi.align64; greatest = max old.wide.greatest x.abi.size64 } →
     IsSumOf new (slot_parts ts (ss ++ s ∷ []))
-sum_push old new x ts ss s h f v e1 e2 e3 e4 e5 e6 e7 e8 = record {
+sum_push old new x ts ss s h f v e1 e2 e3 e0 e4 e5 e6 e7 e8 = record {
   size = omega (arith, e1, h.size, f.info.size, sizes-push ts s ss);
   depth = omega (arith, e2, h.depth, f.info.depth, depths-push ts s ss);
   plain = e3 ∙ (λ j. h.plain j && (f.plain ∙ v) j) ∙ sym (named-push ts s ss);
+  refers = e0 ∙ (λ j. h.refers j || f.refers j) ∙ sym (mentions-push ts s ss);
   contains_ptr = e4 ∙ (λ j. h.contains_ptr j || f.abi.contains_ptr j) ∙ sym (contains-push ts s pointer ss);
   contains_handle = e5 ∙ (λ j. h.contains_handle j || f.abi.contains_handle j) ∙ sym (contains-push ts s handle ss);
   contains_borrow = e6 ∙ (λ j. h.contains_borrow j || f.abi.contains_borrow j) ∙ sym (contains-push ts s borrow ss);

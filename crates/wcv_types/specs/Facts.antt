@@ -5,6 +5,7 @@ use Rattle.wcv_core.specs.declared.primitive.PrimitiveValType.TheVariants as pri
 use Rattle.wcv_types.specs.Tree.{Tree, func, node}
 use Rattle.wcv_types.specs.Abi.{IsAbiOf}
 use Rattle.wcv_types.specs.Named.{is_named, are_named}
+use Rattle.wcv_types.specs.Resources.{mentions}
 use Rattle.wcv_types.specs.Unfold.{Type_tree, IsInfoOf, tree_in, trees}
 use Rattle.wcv_types.specs.declared.facts.Facts.{Facts}
 use Rattle.wcv_types.specs.declared.arena.Node.{Node}
@@ -21,6 +22,7 @@ pub record IsFactsOf (f : Facts) (t : Type_tree) : Type 0 where
   pub info : IsInfoOf f.info t
   pub abi : IsAbiOf f.abi t
   pub plain : f.plain ≡ is_plain t
+  pub refers : f.refers ≡ mentions t
 
 -- what stands past them, where no node points
 abbrev pub no_node : Node

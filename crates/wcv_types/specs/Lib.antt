@@ -23,5 +23,6 @@ pub mod Sums
 pub mod Rebuild
 pub mod Renewed
 pub mod Sets
+pub mod Gathering
 pub mod NamedBySet
 pub mod Alike

@@ -1,5 +1,5 @@
 -- The free resources of a tree, and replacing them.
-use Rattle.std.specs.Prelude.{Bool, false, not, ◌&&◌, ◌||◌, cond, ◌≡◌, ◌⊎◌}
+use Rattle.std.specs.Prelude.{Bool, true, false, not, ◌&&◌, ◌||◌, cond, ◌≡◌, ◌⊎◌}
 use Rattle.wcv_core.specs.Names.{Name, same, member}
 use Rattle.wcv_types.specs.Tree.{Head, resource, instance, component, Tree, node, Parts, none, part, firsts}
 
@@ -37,6 +37,16 @@ abbrev mutual
   pub is_free_in : {I : Type 0} → Name → Parts Name I → Bool
   is_free_in r none = false
   is_free_in r (part k t ps) = is_free r t || is_free_in r ps
+
+-- a reference to a resource stands in the tree
+abbrev mutual
+  pub mentions : {R I : Type 0} → Tree R I → Bool
+  mentions (node (resource q s) ps) = true
+  mentions (node h ps) = mentions_in ps
+
+  pub mentions_in : {R I : Type 0} → Parts R I → Bool
+  mentions_in none = false
+  mentions_in (part k t ps) = mentions t || mentions_in ps
 
 -- ## Replacing
 

@@ -1,12 +1,16 @@
--- Sets of identities of types.
+-- Sets of identities of types, and of resources.
 use Rattle.std.specs.Prelude.{List, [], ◌∷◌, ◌++◌, map, Bool, false, cond, eqb, ◌&&◌, All}
 use Rattle.std.specs.List.{list_any}
+use Rattle.wcv_core.specs.Names.{Name, number}
 use Rattle.wcv_types.specs.Arena.{Arena}
 use Rattle.wcv_types.specs.Entities.{any_part}
 use Rattle.wcv_types.specs.Identity.{Identity}
 use Rattle.wcv_types.specs.Standing.{Stands, identity_of}
 use Rattle.wcv_types.specs.declared.ids.ComponentAnyTypeId.{ComponentAnyTypeId}
 use Rattle.wcv_types.specs.declared.ids.ComponentAnyTypeId.TheVariants as any
+use Rattle.wcv_types.specs.declared.ids.ResourceId.{ResourceId}
+
+-- ## Types
 
 abbrev pub same_type : ComponentAnyTypeId → ComponentAnyTypeId → Bool
 same_type (any.Resource q) (any.Resource r) = eqb q.resource.index r.resource.index && eqb q.stamp r.stamp
@@ -29,3 +33,18 @@ AllStand a ids = All (λ id. Stands a (any_part id)) ids
 
 abbrev pub identities : List ComponentAnyTypeId → List Identity
 identities ids = map (λ id. identity_of (any_part id)) ids
+
+-- ## Resources
+
+abbrev pub same_resource : ResourceId → ResourceId → Bool
+same_resource q r = eqb q.index r.index
+
+abbrev pub has_resource : List ResourceId → ResourceId → Bool
+has_resource rs r = list_any (same_resource r) rs
+
+-- the set with that resource, which it may have already
+abbrev pub with_resource : List ResourceId → ResourceId → List ResourceId
+with_resource rs r = cond (has_resource rs r) rs (rs ++ r ∷ [])
+
+abbrev pub resource_names : List ResourceId → List Name
+resource_names rs = map (λ r. number r.index) rs

@@ -4,6 +4,7 @@ use Rattle.wcv_core.specs.Names.{Name}
 use Rattle.wcv_types.specs.Abi.{greatest_align, end_of, greatest_size, pointer, handle, borrow, any_contains, kept_size}
 use Rattle.wcv_types.specs.Measure.{sizes, depths}
 use Rattle.wcv_types.specs.Named.{are_named}
+use Rattle.wcv_types.specs.Resources.{mentions_in}
 use Rattle.wcv_types.specs.Tree.{Parts}
 use Rattle.wcv_types.specs.Unfold.{capped}
 use Rattle.wcv_types.specs.declared.facts.Facts.{Facts}
@@ -25,6 +26,7 @@ pub record IsSumOf (s : Sum) (ps : Parts Name Name) : Type 0 where
   pub size : s.size ≡ capped (sizes ps)
   pub depth : s.depth ≡ capped (depths ps)
   pub plain : s.plain ≡ are_named [] ps
+  pub refers : s.refers ≡ mentions_in ps
   pub contains_ptr : s.contains_ptr ≡ any_contains pointer ps
   pub contains_handle : s.contains_handle ≡ any_contains handle ps
   pub contains_borrow : s.contains_borrow ≡ any_contains borrow ps

@@ -5,8 +5,9 @@ ghost use Rattle.wcv_types.specs.Entities.{SlotStands};
 ghost use Rattle.wcv_types.specs.Facts.{IsFactsOf};
 ghost use Rattle.wcv_types.specs.Named.{is_named, passes};
 ghost use Rattle.wcv_types.specs.Renewed.{NodeAgain, with_stamp};
+ghost use Rattle.wcv_types.specs.Resources.{mentions};
 ghost use Rattle.wcv_types.specs.declared.ids.Part.TheVariants as part;
-ghost use Rattle.wcv_types.specs.Unfold.{place, rank, parts_of, slot_tree, tree_at, tree_of, trees, unfolded, value_slot};
+ghost use Rattle.wcv_types.specs.Unfold.{place, rank, parts_of, slot_tree, tree_at, tree_in, tree_of, trees, unfolded, value_slot};
 ghost use Rattle.wcv_types.specs.Standing.{Stands, StandsBefore, Fits, KeepsTrees, with_node};
 
 use crate::abi::AbiInfo;
@@ -127,6 +128,14 @@ impl TypeAlloc {
         let stamp = self.stamps.len();
         self.stamps.push(resource)?;
         Ok(stamp as u64)
+    }
+
+    /// Whether a reference to a resource stands in the type at that place.
+    pub(crate) fn refers(&self, place: u64) -> bool
+        requires { place < length self.now.nodes }
+        ensures { result ≡ mentions (tree_in (trees self.now.nodes) place) }
+    {
+        self.nodes.facts(place as usize).refers
     }
 
     /// How the value type lies in memory, and what stands in it. It takes no memory.

@@ -20,6 +20,8 @@ pub struct Facts {
     pub abi: AbiInfo,
     /// Nothing in the type has to be named by an import or an export.
     pub plain: bool,
+    /// A reference to a resource stands in the type.
+    pub refers: bool,
 }
 
 /// The size of a primitive in memory, where a pointer has that many bytes.
@@ -76,11 +78,13 @@ pub fn leaf_facts(ty: Option<PrimitiveValType>) -> Facts
             info: TypeInfo { size: 1, depth: 1 },
             abi: primitive_abi(primitive),
             plain: true,
+            refers: false,
         },
         None => Facts {
             info: TypeInfo { size: 0, depth: 0 },
             abi: nothing_abi(),
             plain: true,
+            refers: false,
         },
     }
 }
@@ -109,5 +113,6 @@ pub fn reference_facts() -> Facts
         info: TypeInfo { size: 1, depth: 1 },
         abi: nothing_abi(),
         plain: false,
+        refers: true,
     }
 }

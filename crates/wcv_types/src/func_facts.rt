@@ -2,6 +2,7 @@
 ghost use Rattle.std.specs.Prelude.{◌≡◌, [], ◌∷◌, All};
 ghost use Rattle.wcv_types.specs.Facts.{IsFactsOf};
 ghost use Rattle.wcv_types.specs.Named.{are_named};
+ghost use Rattle.wcv_types.specs.Resources.{mentions_in};
 ghost use Rattle.wcv_types.specs.Standing.{Stands, Fits};
 ghost use Rattle.wcv_types.specs.Sums.{IsSumOf};
 ghost use Rattle.wcv_types.specs.Tree.{here};
@@ -28,6 +29,20 @@ fn are_plain(types: &TypeAlloc, shape: &ComponentFuncType) -> bool
         }
     }
     value_facts(types, shape.result).plain
+}
+
+/// Whether a reference to a resource stands in a parameter or in the result.
+#[tactic(auto, using(crate::proofs::Knowing::param_stands, crate::proofs::Knowing::result_stands, crate::proofs::Knowing::refers_next, crate::proofs::Knowing::refers_last))]
+fn refer(types: &TypeAlloc, shape: &ComponentFuncType) -> bool
+    requires { Fits types.now (n.Func shape.now) }
+    ensures { result ≡ mentions_in (slot_parts (trees types.now.nodes) (slots_of (n.Func shape.now))) }
+{
+    for param in &shape.params {
+        if value_facts(types, Some(param.1)).refers {
+            return true;
+        }
+    }
+    value_facts(types, shape.result).refers
 }
 
 /// What is known of the parameters and the result, added up.
@@ -83,5 +98,6 @@ pub fn func_facts(types: &TypeAlloc, shape: &ComponentFuncType) -> Facts
         info: shape.info,
         abi: nothing_abi(),
         plain: are_plain(types, shape),
+        refers: refer(types, shape),
     }
 }

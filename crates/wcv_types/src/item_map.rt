@@ -58,6 +58,13 @@ impl ItemMap {
         self.entries.len()
     }
 
+    /// All pairs, lent.
+    pub(crate) fn as_slice(&self) -> &[(Text, ComponentItem)]
+        ensures { result.now ≡ self.now }
+    {
+        self.entries.as_slice()
+    }
+
     /// The pair at this position.
     pub fn get_index(&self, k: usize) -> Option<&(Text, ComponentItem)>
         ensures { option_copied result ≡ slice_get self.now k }

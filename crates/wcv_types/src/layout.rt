@@ -185,5 +185,6 @@ pub fn facts(shape: &ComponentDefinedType, parts: &Sum) -> Facts
             contains_borrow: contains_borrow(shape, parts.contains_borrow),
         },
         plain: plain(shape, parts.plain),
+        refers: parts.refers,
     }
 }

@@ -55,12 +55,14 @@ impl Extent {
 }
 
 /// What is known of the parts of a type, added up: their sizes, their greatest depth, whether none has to be
-/// named, what stands in them, and how they lie in memory with pointers of 4 and of 8 bytes.
+/// named, whether one refers to a resource, what stands in them, and how they lie in memory with pointers of 4
+/// and of 8 bytes.
 #[derive(Clone, Copy, Debug)]
 pub struct Sum {
     pub size: u32,
     pub depth: u32,
     pub plain: bool,
+    pub refers: bool,
     pub contains_ptr: bool,
     pub contains_handle: bool,
     pub contains_borrow: bool,
@@ -77,6 +79,7 @@ impl Sum {
             size: 0,
             depth: 0,
             plain: true,
+            refers: false,
             contains_ptr: false,
             contains_handle: false,
             contains_borrow: false,
@@ -93,6 +96,7 @@ impl Sum {
         self.size = self.size.saturating_add(part.info.size);
         self.depth = self.depth.max(part.info.depth);
         self.plain = self.plain & part.plain;
+        self.refers = self.refers | part.refers;
         self.contains_ptr = self.contains_ptr | part.abi.contains_ptr;
         self.contains_handle = self.contains_handle | part.abi.contains_handle;
         self.contains_borrow = self.contains_borrow | part.abi.contains_borrow;

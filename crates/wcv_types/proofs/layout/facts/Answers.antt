@@ -1,6 +1,7 @@
+use Rattle.std.proofs.Common.{refl}
 use Rattle.wcv_types.proofs.Forming.{facts_are}
 use Rattle.wcv_types.proofs.layout.facts.Goals as goal
 
 pub returns : goal.returns
 returns c ts k h =
-    facts_are c.args.shape.now c.args.parts.now ts k h _ c.info.ensures.size c.info.ensures.depth c.size.ensures c.align.ensures c.size-2.ensures c.align-2.ensures c.contains_ptr.ensures c.contains_handle.ensures c.contains_borrow.ensures c.plain.ensures
+    facts_are c.args.shape.now c.args.parts.now ts k h _ c.info.ensures.size c.info.ensures.depth c.size.ensures c.align.ensures c.size-2.ensures c.align-2.ensures c.contains_ptr.ensures c.contains_handle.ensures c.contains_borrow.ensures c.plain.ensures refl

@@ -1,4 +1,4 @@
-use Rattle.std.proofs.Common.{length, List, ◌≡◌, subst, sym}
+use Rattle.std.proofs.Common.{length, List, subst, sym}
 use Rattle.wcv_types.specs.Arena.{Arena}
 use Rattle.wcv_types.specs.Renewed.{NodeAgain}
 use Rattle.wcv_types.specs.Standing.{AllFit}
