@@ -18,7 +18,7 @@ ghost use Rattle.wcv_state.specs.Promises.{MemoryOrCausedBy};
 
 use crate::resources::Representations;
 use std::alloc::Global;
-use wcv_core::{Error, ErrorKind, Excerpt, IndexMapAppendOnly, OutOfMemory, Place};
+use wcv_core::{Error, ErrorKind, Excerpt, IndexMapAppendOnly, OutOfMemory, Place, Text};
 use wcv_types::{
     ComponentAnyTypeId, ComponentEntityType, ItemMap, Paths, ResourceId, ResourceSet, TypeAlloc,
 };
@@ -38,22 +38,24 @@ fn free_among(types: &TypeAlloc, items: &ItemMap) -> Result<ResourceSet, OutOfMe
 
 // ## Imports
 
-/// The first item in which the resource is free, by its position. It is for the message alone.
-fn first_with(
+/// The first item in which the resource is free: its position and its name. It is for the message alone.
+fn first_with<'a>(
     types: &TypeAlloc,
-    items: &ItemMap,
+    items: &'a ItemMap,
     resource: ResourceId,
-) -> Result<Option<usize>, OutOfMemory>
+) -> Result<Option<(usize, &'a Text)>, OutOfMemory>
     requires { All (EntryStands types.now) items.now }
 {
     let mut free = ResourceSet::new(types.allocator());
     for k in 0..items.len() {
         match items.get_index(k) {
-            Some((_, item)) => types.free_variables_component_entity(&item.ty, &mut free)?,
+            Some((name, item)) => {
+                types.free_variables_component_entity(&item.ty, &mut free)?;
+                if free.contains(&resource) {
+                    return Ok(Some((k, name)));
+                }
+            }
             None => unreachable!(),
-        }
-        if free.contains(&resource) {
-            return Ok(Some(k));
         }
     }
     Ok(None)
@@ -70,26 +72,25 @@ fn free_in_import(
     requires { All (EntryStands types.now) imports.now }
     ensures { MemoryOrCausedBy ((kind.ResourceScope, true) ∷ []) offset result }
 {
-    let first = match first_with(types, imports, resource) {
-        Ok(first) => first.unwrap_or(0),
-        Err(error) => return error.into(),
-    };
-    match imports.get_index(first) {
-        Some((name, _)) => {
+    match first_with(types, imports, resource) {
+        Ok(Some((k, name))) => {
             let entry = Excerpt(name.as_str());
             Error::new(
                 ErrorKind::ResourceScope,
                 offset,
                 format_args!(
-                    "import {first} `{entry}`: its type has in it resource {position} of those that are defined here"
+                    "import {k} `{entry}`: its type has in it resource {position} of those that are defined here"
                 ),
             )
         }
-        None => Error::new(
+        Ok(None) => Error::new(
             ErrorKind::ResourceScope,
             offset,
-            format_args!("an import has in it resource {position} of those that are defined here"),
+            format_args!(
+                "an import has in its type resource {position} of those that are defined here"
+            ),
         ),
+        Err(error) => error.into(),
     }
 }
 
@@ -104,6 +105,9 @@ pub fn check_imports(
     ensures ok { OnOk result (any_free (map defined_resource defined.now) (entry_trees (trees types.now.nodes) imports.now) ≡ false) }
     ensures err { IfErr result (MemoryOrCausedBy (import_checks defined.now (entry_trees (trees types.now.nodes) imports.now)) offset) }
 {
+    if defined.len() == 0 {
+        return Ok(());
+    }
     let free = free_among(types, imports)?;
     for k in 0..defined.len() {
         match defined.get_index(k) {
@@ -215,10 +219,13 @@ pub fn kept_paths(
     ensures stands { IfOk result (λ ps. All (λ p. ResourceStands types.now p.0) ps) }
     ensures err { IfErr result (MemoryOrCausedBy (kept_checks defined.now (entry_trees (trees types.now.nodes) exports.now)) offset) }
 {
-    let free = free_among(types, exports)?;
-    let positions = first_positions(types, exports)?;
     let alloc = types.allocator();
     let mut paths = Paths::new(alloc);
+    if defined.len() == 0 {
+        return Ok(paths);
+    }
+    let free = free_among(types, exports)?;
+    let positions = first_positions(types, exports)?;
     for k in 0..defined.len() {
         match defined.get_index(k) {
             Some((resource, _)) => {
