@@ -22,7 +22,8 @@ impl<K: Hash + Eq + Ord + Clone, V> Model for IndexMapAppendOnly<K, V> {
 }
 
 impl<K: Hash + Eq + Ord + Clone, V> IndexMapAppendOnly<K, V> {
-    ghost use Rattle.std.specs.Map.{lookup};
+    ghost use Rattle.std.specs.List.{IsDistinct};
+    ghost use Rattle.std.specs.Map.{keys_of, lookup};
     ghost use Rattle.std.specs.Map.Iter.{deref_pair, ShowsInOrder, GivesInOrder};
 
     /// A map with no pair.
@@ -63,9 +64,10 @@ impl<K: Hash + Eq + Ord + Clone, V> IndexMapAppendOnly<K, V> {
         self.map.get(key)
     }
 
-    /// How many pairs there are.
+    /// How many pairs there are. No two of them have one key.
     pub fn len(&self) -> usize
-        ensures { result ≡ length self.now }
+        ensures value { result ≡ length self.now }
+        ensures unique { IsDistinct K.Eq.eq (keys_of self.now) }
     {
         self.map.len()
     }

@@ -12,15 +12,16 @@ ghost use Rattle.wcv_state.specs.Promises.{CausedBy};
 use crate::indices::element_at;
 use std::alloc::Global;
 use wcv_core::{Error, ErrorKind, IndexMapAppendOnly, OutOfMemory, Place, ValType};
-use wcv_types::{
-    AliasableResourceId, ComponentAnyTypeId, ComponentEntityType, Paths, ResourceId,
-};
+use wcv_types::{AliasableResourceId, ComponentAnyTypeId, ComponentEntityType, Paths, ResourceId};
 
 /// Resources, each with its representation where that is known.
 pub type Representations = IndexMapAppendOnly<ResourceId, Option<ValType>>;
 
 /// The resource of a reference that is both types.
-fn introduced_by(created: &ComponentAnyTypeId, referenced: &ComponentAnyTypeId) -> Option<ResourceId>
+fn introduced_by(
+    created: &ComponentAnyTypeId,
+    referenced: &ComponentAnyTypeId,
+) -> Option<ResourceId>
     ensures { result ≡ looking.introduced_by created.now referenced.now }
 {
     if let ComponentAnyTypeId::Resource(id) = created {

@@ -58,7 +58,7 @@ step r k e es o p first later h = go (path_at r e.1) refl h
     go None g w = begins-later r k e es p (later w)
     go (Some q) g w = begins-here r k e es q p (some-inj w) (first q g)
 
-refers-to : (r : Name) (h : Head Name Name) → refers r h ≡ true → RefersTo r h
+pub refers-to : (r : Name) (h : Head Name Name) → refers r h ≡ true → RefersTo r h
 refers-to r (resource q s) e = same-true r q e
 refers-to r nothing e = absurd (false≢true e)
 refers-to r (primitive p) e = absurd (false≢true e)
@@ -68,7 +68,7 @@ refers-to r (instance i own) e = absurd (false≢true e)
 refers-to r (component i ins outs) e = absurd (false≢true e)
 refers-to r type_entity e = absurd (false≢true e)
 
-to-refers : (r : Name) (h : Head Name Name) → RefersTo r h → refers r h ≡ true
+pub to-refers : (r : Name) (h : Head Name Name) → RefersTo r h → refers r h ≡ true
 to-refers r (resource q s) e = same-equal r q e
 to-refers r nothing e = absurd e
 to-refers r (primitive p) e = absurd e

@@ -1,0 +1,238 @@
+// The defined resources that the type of a component keeps.
+ghost use Rattle.std.specs.Prelude.{◌≡◌, [], ◌∷◌, map, All, Some, true, false, OnOk, OnErr, IfOk, IfErr};
+ghost use Rattle.wcv_core.specs.Names.{number};
+ghost use Rattle.wcv_core.specs.declared.error.ErrorKind.TheVariants as kind;
+ghost use Rattle.wcv_types.specs.ComponentTrees.{resource_path, ResourceStands};
+ghost use Rattle.wcv_types.specs.Entities.{entry_trees, EntryStands};
+ghost use Rattle.wcv_types.specs.FirstPath.{first_path};
+ghost use Rattle.wcv_types.specs.Sets as sets;
+ghost use Rattle.wcv_types.specs.Unfold.{trees};
+ghost use Rattle.wcv_types.specs.declared.ids.ResourceId.{ResourceId as AResource};
+ghost use Rattle.wcv_lower.specs.Checks.{is_none};
+ghost use Rattle.wcv_lower.specs.Ending.{is_free_among, any_free, kept};
+ghost use Rattle.wcv_state.specs.Contents.{defined_resource};
+ghost use Rattle.wcv_state.specs.Ending as ending;
+ghost use Rattle.wcv_state.specs.Ending.{import_checks, kept_checks, with_position, position_path, with_kept};
+ghost use Rattle.wcv_state.specs.Looking.{has_resource};
+ghost use Rattle.wcv_state.specs.Promises.{MemoryOrCausedBy};
+
+use crate::resources::Representations;
+use std::alloc::Global;
+use wcv_core::{Error, ErrorKind, Excerpt, IndexMapAppendOnly, OutOfMemory, Place, Text};
+use wcv_types::{
+    ComponentAnyTypeId, ComponentEntityType, ItemMap, Paths, ResourceId, ResourceSet, TypeAlloc,
+};
+
+/// Resources, each with the position of the first item that is a type of it.
+type Positions = IndexMapAppendOnly<ResourceId, u64>;
+
+/// The resources that are free in some of the items.
+fn free_among(types: &TypeAlloc, items: &ItemMap) -> Result<ResourceSet, OutOfMemory>
+    requires { All (EntryStands types.now) items.now }
+    ensures { IfOk result (λ rs. (r : AResource) → sets.has_resource rs r ≡ is_free_among (number r.index) (entry_trees (trees types.now.nodes) items.now)) }
+{
+    let mut free = ResourceSet::new(types.allocator());
+    types.free_variables_items(items, &mut free)?;
+    Ok(free)
+}
+
+// ## Imports
+
+/// The first item in which the resource is free: its position and its name. It is for the message alone.
+fn first_with<'a>(
+    types: &TypeAlloc,
+    items: &'a ItemMap,
+    resource: ResourceId,
+) -> Result<Option<(usize, &'a Text)>, OutOfMemory>
+    requires { All (EntryStands types.now) items.now }
+{
+    let mut free = ResourceSet::new(types.allocator());
+    for k in 0..items.len() {
+        match items.get_index(k) {
+            Some((name, item)) => {
+                types.free_variables_component_entity(&item.ty, &mut free)?;
+                if free.contains(&resource) {
+                    return Ok(Some((k, name)));
+                }
+            }
+            None => unreachable!(),
+        }
+    }
+    Ok(None)
+}
+
+/// The refusal of an import over a resource that is defined here, the one at that position of those.
+fn free_in_import(
+    types: &TypeAlloc,
+    imports: &ItemMap,
+    resource: ResourceId,
+    position: usize,
+    offset: u64,
+) -> Error
+    requires { All (EntryStands types.now) imports.now }
+    ensures { MemoryOrCausedBy ((kind.ResourceScope, true) ∷ []) offset result }
+{
+    match first_with(types, imports, resource) {
+        Ok(Some((k, name))) => {
+            let entry = Excerpt(name.as_str());
+            Error::new(
+                ErrorKind::ResourceScope,
+                offset,
+                format_args!(
+                    "import {k} `{entry}`: its type has in it resource {position} of those that are defined here"
+                ),
+            )
+        }
+        Ok(None) => Error::new(
+            ErrorKind::ResourceScope,
+            offset,
+            format_args!(
+                "an import has in its type resource {position} of those that are defined here"
+            ),
+        ),
+        Err(error) => error.into(),
+    }
+}
+
+/// Whether no resource that is defined here is free in an import.
+pub fn check_imports(
+    types: &TypeAlloc,
+    imports: &ItemMap,
+    defined: &Representations,
+    offset: u64,
+) -> Result<(), Error>
+    requires { All (EntryStands types.now) imports.now }
+    ensures ok { OnOk result (any_free (map defined_resource defined.now) (entry_trees (trees types.now.nodes) imports.now) ≡ false) }
+    ensures err { IfErr result (MemoryOrCausedBy (import_checks defined.now (entry_trees (trees types.now.nodes) imports.now)) offset) }
+{
+    if defined.len() == 0 {
+        return Ok(());
+    }
+    let free = free_among(types, imports)?;
+    for k in 0..defined.len() {
+        match defined.get_index(k) {
+            Some((resource, _)) => {
+                if free.contains(resource) {
+                    return Err(free_in_import(types, imports, *resource, k, offset));
+                }
+            }
+            None => unreachable!(),
+        }
+    }
+    Ok(())
+}
+
+// ## Exports
+
+/// The resource of which the entity is a type.
+fn resource_of(ty: &ComponentEntityType) -> Option<ResourceId>
+    ensures { result ≡ ending.resource_of ty.now }
+{
+    match ty {
+        ComponentEntityType::Ty {
+            referenced: ComponentAnyTypeId::Resource(id),
+            ..
+        } => Some(id.resource),
+        _ => None,
+    }
+}
+
+/// The resource of which the entity is a type gets its position, where it has none. Out of memory nothing changes.
+fn note_position(
+    positions: &mut Positions,
+    ty: &ComponentEntityType,
+    position: u64,
+) -> Result<(), OutOfMemory>
+    ensures ok { OnOk result (positions.new ≡ with_position (ending.resource_of ty.now) position positions.old) }
+    ensures err { OnErr result (positions.new ≡ positions.old) }
+{
+    let resource = match resource_of(ty) {
+        Some(resource) => resource,
+        None => return Ok(()),
+    };
+    match positions.get(&resource) {
+        Some(_) => Ok(()),
+        None => positions.insert(resource, position),
+    }
+}
+
+/// The first positions of resources among the items.
+fn first_positions(types: &TypeAlloc, items: &ItemMap) -> Result<Positions, OutOfMemory>
+    requires { All (EntryStands types.now) items.now }
+    ensures { IfOk result (λ ps. (r : AResource) → position_path r ps ≡ first_path (number r.index) (entry_trees (trees types.now.nodes) items.now)) }
+{
+    let mut positions = Positions::new(types.allocator());
+    for k in 0..items.len() {
+        match items.get_index(k) {
+            Some((_, item)) => note_position(&mut positions, &item.ty, k as u64)?,
+            None => unreachable!(),
+        }
+    }
+    Ok(positions)
+}
+
+/// A resource that is free joins the paths, with its first position. Refuses one that has none; where it stands
+/// among those that are defined is for the message.
+fn keep(
+    paths: &mut Paths,
+    resource: ResourceId,
+    free: &ResourceSet,
+    positions: &Positions,
+    position: usize,
+    alloc: Global,
+    offset: u64,
+) -> Result<(), Error>
+    requires { has_resource resource paths.old ≡ false }
+    ensures ok { OnOk result (with_kept (sets.has_resource free.now resource) resource (position_path resource positions.now) paths.old ≡ Some paths.new) }
+    ensures err { IfErr result (MemoryOrCausedBy ((kind.ResourceScope, is_none (with_kept (sets.has_resource free.now resource) resource (position_path resource positions.now) paths.old)) ∷ []) offset) }
+{
+    if !free.contains(&resource) {
+        return Ok(());
+    }
+    match positions.get(&resource) {
+        Some(first) => {
+            let place = Place::new(alloc, &[*first])?;
+            paths.insert(resource, place)?;
+            Ok(())
+        }
+        None => Err(Error::new(
+            ErrorKind::ResourceScope,
+            offset,
+            format_args!(
+                "resource {position} of those that are defined here is in the type of an export, and no export leads to it"
+            ),
+        )),
+    }
+}
+
+/// The defined resources that are free in an export, in order, each with its first path there. Refuses one that
+/// has none.
+pub fn kept_paths(
+    types: &TypeAlloc,
+    exports: &ItemMap,
+    defined: &Representations,
+    offset: u64,
+) -> Result<Paths, Error>
+    requires exports { All (EntryStands types.now) exports.now }
+    requires defined { All (λ d. ResourceStands types.now d.0) defined.now }
+    ensures ok { IfOk result (λ ps. kept (map defined_resource defined.now) (entry_trees (trees types.now.nodes) exports.now) ≡ Some (map resource_path ps)) }
+    ensures stands { IfOk result (λ ps. All (λ p. ResourceStands types.now p.0) ps) }
+    ensures err { IfErr result (MemoryOrCausedBy (kept_checks defined.now (entry_trees (trees types.now.nodes) exports.now)) offset) }
+{
+    let alloc = types.allocator();
+    let mut paths = Paths::new(alloc);
+    if defined.len() == 0 {
+        return Ok(paths);
+    }
+    let free = free_among(types, exports)?;
+    let positions = first_positions(types, exports)?;
+    for k in 0..defined.len() {
+        match defined.get_index(k) {
+            Some((resource, _)) => {
+                keep(&mut paths, *resource, &free, &positions, k, alloc, offset)?
+            }
+            None => unreachable!(),
+        }
+    }
+    Ok(paths)
+}
