@@ -133,10 +133,10 @@ const CONTENTS: &str = r#"
 "char" ; {"future":0} => ok
 "#;
 
-// Bodies of no form, and handles, which are not built.
+// Bodies of no form.
 const UNREAD: &str = r#"
-{"own":0} => Unbuilt
-{"borrow":0} => Unbuilt
+{"own":"r"} => Unbuilt
+{"borrow":null} => Unbuilt
 {"list":["u8"]} => Unbuilt
 {"list":null} => Unbuilt
 {"list":-1} => Unbuilt

@@ -19,4 +19,6 @@ mod messages;
 #[cfg(test)]
 mod outside;
 #[cfg(test)]
+mod resources;
+#[cfg(test)]
 mod roots;

@@ -10,19 +10,19 @@ A typo in a body (`param` for `params`).
 -
 {"at":0,"type":{"func":{"param":[]}}}
 => refused Unbuilt at 0
-item 0: the body of this "type" is none of {"func": {"params": [[NAME, TYPE], ..], "result": TYPE, "async": BOOL}} and {"defined": DEFINED}; no other is built yet
+item 0: the body of this "type" is none of {"func": {"params": [[NAME, TYPE], ..], "result": TYPE, "async": BOOL}}, {"defined": DEFINED} and {"resource": {"rep": CORE-TYPE}}; no other is built yet
 
 A typo in a primitive (`u33`).
 -
 {"at":0,"type":{"func":{"params":[["x","u33"]]}}}
 => refused Unbuilt at 0
-item 0: the body of this "type" is none of {"func": {"params": [[NAME, TYPE], ..], "result": TYPE, "async": BOOL}} and {"defined": DEFINED}; no other is built yet
+item 0: the body of this "type" is none of {"func": {"params": [[NAME, TYPE], ..], "result": TYPE, "async": BOOL}}, {"defined": DEFINED} and {"resource": {"rep": CORE-TYPE}}; no other is built yet
 
 A form that is not built (a record type).
 -
 {"at":5,"type":{"record":[["a","u8"]]}}
 => refused Unbuilt at 5
-item 0: the body of this "type" is none of {"func": {"params": [[NAME, TYPE], ..], "result": TYPE, "async": BOOL}} and {"defined": DEFINED}; no other is built yet
+item 0: the body of this "type" is none of {"func": {"params": [[NAME, TYPE], ..], "result": TYPE, "async": BOOL}}, {"defined": DEFINED} and {"resource": {"rep": CORE-TYPE}}; no other is built yet
 
 A name with `:`.
 T
@@ -66,17 +66,17 @@ A value type as the type of a function.
 => refused WrongSort at 1
 item 1: type index 0 is not of a function type
 
-A handle.
+A handle of a function type.
 T
 {"at":1,"type":{"defined":{"own":0}}}
-=> refused Unbuilt at 1
-item 1: handles (`own` and `borrow`) are not built yet
+=> refused WrongSort at 1
+item 1: type index 0 is not of a resource
 
 A typo in a defined type (`tupel`).
 -
 {"at":0,"type":{"defined":{"tupel":["u8"]}}}
 => refused Unbuilt at 0
-item 0: the body of this "type" is none of {"func": {"params": [[NAME, TYPE], ..], "result": TYPE, "async": BOOL}} and {"defined": DEFINED}; no other is built yet
+item 0: the body of this "type" is none of {"func": {"params": [[NAME, TYPE], ..], "result": TYPE, "async": BOOL}}, {"defined": DEFINED} and {"resource": {"rep": CORE-TYPE}}; no other is built yet
 
 A record without fields.
 -
@@ -100,7 +100,7 @@ A function over a record that has no name.
 -
 {"at":0,"type":{"defined":{"record":[["a","u8"]]}}},{"at":1,"type":{"func":{"params":[["x",0]]}}},{"at":2,"import":{"name":"f","type":{"func":1}}}
 => refused Unnamed at 2
-item 2: import `f`: the type of parameter `x` is, or has in it, a record, variant, flags or enum that was not imported or exported before
+item 2: import `f`: the type of parameter `x` is, or has in it, a record, variant, flags, enum or resource that was not imported or exported before
 
 An export of an instance.
 -
@@ -112,7 +112,7 @@ An import of an instance.
 -
 {"at":2,"import":{"name":"g","type":{"instance":0}}}
 => refused Unbuilt at 2
-item 0: the body of this "import" is not {"name": NAME, "type": {"func": INDEX}}; no other is built yet
+item 0: the body of this "import" is none of {"name": NAME, "type": {"func": INDEX}}, {"name": NAME, "type": {"eq": INDEX}} and {"name": NAME, "type": "sub-resource"}; no other is built yet
 
 An export with a written type.
 -
@@ -125,6 +125,18 @@ A form of which no body is read.
 {"at":2,"canon":{"resource.drop":0}}
 => refused Unbuilt at 2
 item 0: items of the form "canon" are not built yet
+
+A resource that is exported and not imported.
+-
+{"at":0,"type":{"resource":{"rep":"i32"}}},{"at":1,"export":{"name":"r","sort":"type","index":0}},{"at":2,"import":{"name":"t","type":{"eq":1}}}
+=> refused Unnamed at 2
+item 2: import `t`: the type that it refers to was exported before and not imported
+
+A representation that may not be.
+-
+{"at":0,"type":{"resource":{"rep":"f32"}}}
+=> refused Shape at 0
+item 0: a resource is represented by `i32`, or by `i64` with the feature `cm64`
 
 An index out of range.
 TI

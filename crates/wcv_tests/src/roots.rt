@@ -179,9 +179,9 @@ wcv validate
 => 1
 refused Conflict at 3
 
-A resource is not built.
+A resource with a destructor is not built.
 wcv validate
-{"version":1,"items":[{"at":0,"type":{"resource":{"rep":"i32"}}}],"end":99}
+{"version":1,"items":[{"at":0,"type":{"resource":{"rep":"i32","dtor":0}}}],"end":99}
 => 1
 refused Unbuilt at 0
 
@@ -215,11 +215,11 @@ wcv validate
 => 1
 refused Feature at 5
 
-A handle is not built.
+A handle of a type that is not there.
 wcv validate
 {"version":1,"items":[{"at":5,"type":{"defined":{"own":0}}}],"end":99}
 => 1
-refused Unbuilt at 5
+refused OutOfBounds at 5
 
 An exported name of another form is not built.
 wcv validate
