@@ -6,7 +6,7 @@ ghost use Rattle.wcv_types.specs.declared.ids.ComponentAnyTypeId.TheVariants as 
 ghost use Rattle.wcv_types.specs.declared.ids.ResourceId.{ResourceId as AResource};
 ghost use Rattle.wcv_lower.specs.Checks.{missing_of};
 ghost use Rattle.wcv_state.specs.Looking as looking;
-ghost use Rattle.wcv_state.specs.Looking.{any_sort, introduced_id, import_paths, export_reps, has_resource};
+ghost use Rattle.wcv_state.specs.Looking.{any_sort, introduced_id, import_paths, export_reps, has_resource, local_rep_checks};
 ghost use Rattle.wcv_state.specs.Promises.{CausedBy};
 
 use crate::indices::element_at;
@@ -94,6 +94,29 @@ pub fn resource_at(
             ErrorKind::WrongSort,
             offset,
             format_args!("type index {index} is not of a resource"),
+        )),
+    }
+}
+
+/// The resource at that index of types, which is defined with a representation, and that.
+pub fn local_rep(
+    types: &[ComponentAnyTypeId],
+    defined: &Representations,
+    index: u32,
+    offset: u64,
+) -> Result<(ResourceId, ValType), Error>
+    ensures ok { IfOk result (λ p. looking.local_rep types.now defined.now index ≡ Some p) }
+    ensures err { IfErr result (CausedBy (local_rep_checks types.now defined.now index) offset) }
+{
+    let resource = resource_at(types, index, offset)?.resource;
+    match defined.get(&resource) {
+        Some(Some(rep)) => Ok((resource, *rep)),
+        _ => Err(Error::new(
+            ErrorKind::ResourceScope,
+            offset,
+            format_args!(
+                "type index {index} is of a resource that is not defined here with a representation"
+            ),
         )),
     }
 }
