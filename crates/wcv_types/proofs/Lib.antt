@@ -31,6 +31,7 @@ pub mod Refilling
 pub mod Rebuilding
 pub mod SortLaws
 pub mod Renewing
+pub mod Giving
 pub mod Gathered
 pub mod NamedBySet
 pub mod NamedContents

@@ -23,6 +23,7 @@ pub mod Sums
 pub mod Rebuild
 pub mod Renewed
 pub mod Sets
+pub mod Given
 pub mod Gathering
 pub mod NamedBySet
 pub mod Alike

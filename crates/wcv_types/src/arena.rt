@@ -3,6 +3,7 @@ ghost use Rattle.std.specs.Prelude.{◌≡◌, suc, ◌+◌, ◌<◌, List, [], 
 ghost use Rattle.wcv_types.specs.Abi.{IsAbiOf};
 ghost use Rattle.wcv_types.specs.Entities.{SlotStands};
 ghost use Rattle.wcv_types.specs.Facts.{IsFactsOf};
+ghost use Rattle.wcv_types.specs.Given.{AllNamesGiven};
 ghost use Rattle.wcv_types.specs.Named.{is_named, passes};
 ghost use Rattle.wcv_types.specs.Renewed.{NodeAgain, with_stamp};
 ghost use Rattle.wcv_types.specs.Resources.{mentions};
@@ -74,8 +75,10 @@ impl TypeAlloc {
     pub fn alloc_resource_id(&mut self) -> Result<AliasableResourceId, OutOfMemory>
         ensures made { OnOk result (self.new ≡ record self.old { resources = self.old.resources + 1; stamps = self.old.stamps + 1 }) }
         ensures last { IfOk result (λ id. id ≡ record { resource = record { index = self.old.resources }; stamp = self.old.stamps }) }
+        ensures given { AllNamesGiven self.old }
         ensures err { OnErr result (self.new ≡ self.old) }
     {
+        self.names_given();
         let index = self.resources.len() as u64;
         let stamp = self.stamps.len() as u64;
         let resource = ResourceId { index };
@@ -92,6 +95,13 @@ impl TypeAlloc {
         ensures { result ≡ self.now.resources }
     {
         self.resources.len() as u64
+    }
+
+    /// The names in the types of the arena are those that it gave. It does nothing.
+    pub fn names_given(&self)
+        ensures { AllNamesGiven self.now }
+    {
+        let _ = &self.nodes;
     }
 
     /// A node that fits, behind all others, and what is known of it. Gives its place.

@@ -1,6 +1,7 @@
 // Types under a new identity.
 ghost use Rattle.std.specs.Prelude.{◌≡◌, IfOk, OnErr};
 ghost use Rattle.wcv_types.specs.Entities.{any_part};
+ghost use Rattle.wcv_types.specs.Given.{AllNamesGiven};
 ghost use Rattle.wcv_types.specs.Renewed.{Renewed};
 ghost use Rattle.wcv_types.specs.Standing.{Stands};
 
@@ -16,8 +17,10 @@ impl TypeAlloc {
     pub fn with_unique(&mut self, id: ComponentAnyTypeId) -> Result<ComponentAnyTypeId, OutOfMemory>
         requires { Stands self.old (any_part id) }
         ensures ok { IfOk result (λ made. Renewed self.old self.new id made) }
+        ensures given { AllNamesGiven self.old }
         ensures err { OnErr result (self.new ≡ self.old) }
     {
+        self.names_given();
         match id {
             ComponentAnyTypeId::Resource(id) => {
                 let stamp = self.add_stamp(id.resource)?;
