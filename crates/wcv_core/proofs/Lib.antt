@@ -4,3 +4,10 @@ pub mod Appending
 pub mod Names
 pub mod Words
 pub mod Places
+pub mod Causes
+pub mod Climbing
+pub mod Coding
+pub mod Finding
+pub mod Kept
+pub mod Reading
+pub mod Rowing

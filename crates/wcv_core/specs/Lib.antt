@@ -6,3 +6,11 @@ pub mod Kinds
 pub mod Refusal
 pub mod Names
 pub mod LabelSet
+pub mod Checks
+pub mod CoreForm
+pub mod CoreCode
+pub mod CoreGroups
+pub mod CoreRows
+pub mod CoreTable
+pub mod CoreAbove
+pub mod CoreMatching

@@ -2,6 +2,10 @@
 #![tactic(auto)]
 
 mod append_only;
+mod core_codes;
+mod core_matching;
+mod core_rows;
+mod core_table;
 mod core_types;
 mod error;
 mod excerpt;
@@ -15,6 +19,7 @@ mod slip;
 mod text;
 
 pub use append_only::{IndexMapAppendOnly, IntoIter, Iter};
+pub use core_table::CoreTypes;
 pub use core_types::{
     AbstractHeap, ArrayType, CompositeInnerType, CoreTypeId, EntityType, FieldType, FuncType,
     GlobalType, HeapType, MemoryType, RecGroup, RefType, StorageType, StructType, SubType,
