@@ -11,3 +11,4 @@ pub mod Finding
 pub mod Kept
 pub mod Reading
 pub mod Rowing
+pub mod Closing

@@ -14,3 +14,4 @@ pub mod CoreRows
 pub mod CoreTable
 pub mod CoreAbove
 pub mod CoreMatching
+pub mod CoreWritten

@@ -2,6 +2,7 @@
 #![tactic(auto)]
 
 mod append_only;
+mod core_closing;
 mod core_codes;
 mod core_matching;
 mod core_rows;
@@ -15,6 +16,7 @@ mod kebab;
 mod label_set;
 mod memory;
 mod primitive;
+mod rec_group;
 mod slip;
 mod text;
 
@@ -33,5 +35,6 @@ pub use kebab::{KebabString, is_label};
 pub use label_set::LabelSet;
 pub use memory::OutOfMemory;
 pub use primitive::PrimitiveValType;
+pub use rec_group::InternRecGroup;
 pub use slip::Slip;
 pub use text::{Place, Text};

@@ -1,0 +1,101 @@
+-- Entries, and lists that are put into closed form one element after the other.
+use Rattle.std.proofs.Common.{◌≡◌, ℕ, zero, suc, ◌+◌, ◌-◌, ◌<◌, ◌≤◌, List, [], ◌∷◌, ◌++◌, length, take, get_or, slice_get, Bool, true, false, nat_lt, Option, Some, None, refl, sym, ◌∙◌, ap, arith, subst, inl, inr, not, add-one, slice_set, map}
+use Rattle.std.proofs.lemmas.Bool.Decides.{nat_tests}
+use Rattle.std.proofs.lemmas.Option.{slice_get_past, slice_get_within}
+use Rattle.wcv_core.specs.Checks.{Checks, Cause, IsFree, CausedBy, all_checks, is_none}
+use Rattle.wcv_core.specs.CoreWritten.{Core_entry, sub_entry, is_module, entry_checks, heap_checks, closed_index, closed_heap}
+use Rattle.wcv_core.specs.declared.core_types.HeapType.TheVariants as heap
+use Rattle.wcv_core.specs.declared.error.Error.{Error}
+use Rattle.wcv_core.specs.declared.error.ErrorKind.{ErrorKind}
+use Rattle.wcv_core.proofs.Causes.{cause_left, cause_right, free_both, free_left, free_right}
+
+is_below : (i m : ℕ) → i < m → not (nat_lt i m) ≡ false
+is_below i m h = grind (arith, nat_tests)
+
+not_none : {A : Type 0} (xs : List A) (i : ℕ) → i < length xs → is_none (slice_get xs i) ≡ false
+not_none [] i h = Prim.absurd (omega arith)
+not_none (x ∷ xs) zero h = refl
+not_none (x ∷ xs) (suc i) h = not_none xs i (omega arith)
+
+-- what is refused below the end of the entries
+pub entry_caused : (es : List Core_entry) (len i offset : ℕ) (e : Error) → i < length es → CausedBy (entry_checks (slice_get es i)) offset e → CausedBy (heap_checks es len (heap.Index i)) offset e
+entry_caused es len i offset e h (inl c, o) = cc (not_none es i h, c.1)
+entry_caused es len i offset e h (inr c, o) = (inr c, o)
+
+-- an older type
+pub older_free : (es : List Core_entry) (len i j : ℕ) → slice_get es i ≡ Some (sub_entry j) → IsFree (heap_checks es len (heap.Index i))
+older_free es len i j e = let h : i < length es = slice_get_within es i (sub_entry j) e in (is_below i (length es + len) (omega arith), (ap is_module e, tt))
+
+pub older_closed : (es : List Core_entry) (i j : ℕ) → slice_get es i ≡ Some (sub_entry j) → closed_heap es (heap.Index i) ≡ heap.Id (record { index = j })
+older_closed es i j e = ap (λ (o : Option Core_entry). closed_index o (i - length es)) e
+
+-- an own type
+pub own_free : (es : List Core_entry) (len i : ℕ) → length es ≤ i → i < length es + len → IsFree (heap_checks es len (heap.Index i))
+own_free es len i h l = (is_below i (length es + len) l, (ap is_module (slice_get_past es i h), tt))
+
+pub own_closed : (es : List Core_entry) (i : ℕ) → length es ≤ i → closed_heap es (heap.Index i) ≡ heap.Index (i - length es)
+own_closed es i h = ap (λ (o : Option Core_entry). closed_index o (i - length es)) (slice_get_past es i h)
+
+-- ## Errors by a part of what is checked
+
+pub caused_left : (cs ds : Checks) (offset : ℕ) (e : Error) → CausedBy cs offset e → CausedBy (cs ++ ds) offset e
+caused_left cs ds offset e c = (cause_left cs ds e.kind c.0, c.1)
+
+pub caused_right : (cs ds : Checks) (offset : ℕ) (e : Error) → CausedBy ds offset e → CausedBy (cs ++ ds) offset e
+caused_right cs ds offset e c = (cause_right cs ds e.kind c.0, c.1)
+
+-- ## Lists, one element after the other
+
+cause_at : {A : Type 0} (f : A → Checks) (xs : List A) (i : ℕ) (x : A) (k : ErrorKind) → i < length xs → Cause (f (get_or xs i x)) k → Cause (all_checks f xs) k
+cause_at f [] i x k h c = Prim.absurd (omega arith)
+cause_at f (y ∷ xs) zero x k h c = cause_left (f y) (all_checks f xs) k c
+cause_at f (y ∷ xs) (suc i) x k h c = cause_right (f y) (all_checks f xs) k (cause_at f xs i x k (omega arith) c)
+
+pub caused_at : {A : Type 0} (f : A → Checks) (xs : List A) (i : ℕ) (x : A) (offset : ℕ) (e : Error) → i < length xs → CausedBy (f (get_or xs i x)) offset e → CausedBy (all_checks f xs) offset e
+caused_at f xs i x offset e h c = (cause_at f xs i x e.kind h c.0, c.1)
+
+free_suc : {A : Type 0} (f : A → Checks) (xs : List A) (i : ℕ) (x : A) → i < length xs → IsFree (all_checks f (take i xs)) → IsFree (f (get_or xs i x)) → IsFree (all_checks f (take (suc i) xs))
+free_suc f [] i x h n m = Prim.absurd (omega arith)
+free_suc f (y ∷ xs) zero x h n m = free_both (f y) [] m tt
+free_suc f (y ∷ xs) (suc i) x h n m =
+    free_both (f y) (all_checks f (take (suc i) xs)) (free_left (f y) (all_checks f (take i xs)) n) (free_suc f xs i x (omega arith) (free_right (f y) (all_checks f (take i xs)) n) m)
+
+pub free_next : {A : Type 0} (f : A → Checks) (xs : List A) (i : ℕ) (x : A) → i < length xs → IsFree (all_checks f (take i xs)) → IsFree (f (get_or xs i x)) → IsFree (all_checks f (take (i + 1) xs))
+free_next f xs i x h n m = subst (λ (j : ℕ). IsFree (all_checks f (take j xs))) (sym (add-one i)) (free_suc f xs i x h n m)
+
+-- the first n elements changed, the others as they are
+abbrev pub partly : {A : Type 0} → (A → A) → ℕ → List A → List A
+partly f zero xs = xs
+partly f (suc n) [] = []
+partly f (suc n) (x ∷ xs) = f x ∷ partly f n xs
+
+pub get_or-partly : {A : Type 0} (f : A → A) (xs : List A) (i : ℕ) (x : A) → get_or (partly f i xs) i x ≡ get_or xs i x
+get_or-partly f xs zero x = refl
+get_or-partly f [] (suc i) x = refl
+get_or-partly f (y ∷ xs) (suc i) x = get_or-partly f xs i x
+
+pub length-partly : {A : Type 0} (f : A → A) (xs : List A) (i : ℕ) → length (partly f i xs) ≡ length xs
+length-partly f xs zero = refl
+length-partly f [] (suc i) = refl
+length-partly f (y ∷ xs) (suc i) = ap suc (length-partly f xs i)
+
+set_suc : {A : Type 0} (f : A → A) (xs : List A) (i : ℕ) (x : A) → slice_set (partly f i xs) i (f (get_or xs i x)) ≡ partly f (suc i) xs
+set_suc f [] zero x = refl
+set_suc f (y ∷ xs) zero x = refl
+set_suc f [] (suc i) x = refl
+set_suc f (y ∷ xs) (suc i) x = λ j. f y ∷ set_suc f xs i x j
+
+pub set_next : {A : Type 0} (f : A → A) (xs : List A) (i : ℕ) (x : A) → slice_set (partly f i xs) i (f (get_or xs i x)) ≡ partly f (i + 1) xs
+set_next f xs i x = set_suc f xs i x ∙ ap (λ (n : ℕ). partly f n xs) (sym (add-one i))
+
+pub partly_all : {A : Type 0} (f : A → A) (xs : List A) (i : ℕ) → length xs ≤ i → partly f i xs ≡ map f xs
+partly_all f [] zero h = refl
+partly_all f [] (suc i) h = refl
+partly_all f (y ∷ xs) zero h = Prim.absurd (omega arith)
+partly_all f (y ∷ xs) (suc i) h = λ j. f y ∷ partly_all f xs i (omega arith) j
+
+pub map-set : {A B : Type 0} (f : A → B) (xs : List A) (i : ℕ) (x : A) → map f (slice_set xs i x) ≡ slice_set (map f xs) i (f x)
+map-set f [] zero x = refl
+map-set f [] (suc i) x = refl
+map-set f (y ∷ xs) zero x = refl
+map-set f (y ∷ xs) (suc i) x = λ j. f y ∷ map-set f xs i x j
