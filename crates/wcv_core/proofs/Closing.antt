@@ -7,6 +7,7 @@ use Rattle.wcv_core.specs.CoreWritten.{Core_entry, sub_entry, is_module, entry_c
 use Rattle.wcv_core.specs.declared.core_types.HeapType.TheVariants as heap
 use Rattle.wcv_core.specs.declared.error.Error.{Error}
 use Rattle.wcv_core.specs.declared.error.ErrorKind.{ErrorKind}
+use Rattle.wcv_core.proofs.Rowing.{length-map}
 use Rattle.wcv_core.proofs.Causes.{cause_left, cause_right, free_both, free_left, free_right}
 
 is_below : (i m : ℕ) → i < m → not (nat_lt i m) ≡ false
@@ -62,6 +63,18 @@ free_suc f (y ∷ xs) (suc i) x h n m =
 
 pub free_next : {A : Type 0} (f : A → Checks) (xs : List A) (i : ℕ) (x : A) → i < length xs → IsFree (all_checks f (take i xs)) → IsFree (f (get_or xs i x)) → IsFree (all_checks f (take (i + 1) xs))
 free_next f xs i x h n m = subst (λ (j : ℕ). IsFree (all_checks f (take j xs))) (sym (add-one i)) (free_suc f xs i x h n m)
+
+-- so where the elements are views
+get_or-map : {A B : Type 0} (v : A → B) (xs : List A) (i : ℕ) (x : A) → get_or (map v xs) i (v x) ≡ v (get_or xs i x)
+get_or-map v [] i x = refl
+get_or-map v (y ∷ xs) zero x = refl
+get_or-map v (y ∷ xs) (suc i) x = get_or-map v xs i x
+
+pub caused_mapped : {A B : Type 0} (v : A → B) (f : B → Checks) (xs : List A) (i : ℕ) (x : A) (offset : ℕ) (e : Error) → i < length xs → x ≡ get_or xs i x → CausedBy (f (v x)) offset e → CausedBy (all_checks f (map v xs)) offset e
+caused_mapped v f xs i x offset e h is c = caused_at f (map v xs) i (v x) offset e (omega (arith, length-map v xs)) (subst (λ y. CausedBy (f y) offset e) (ap v is ∙ sym (get_or-map v xs i x)) c)
+
+pub free_mapped : {A B : Type 0} (v : A → B) (f : B → Checks) (xs : List A) (i : ℕ) (x : A) → i < length xs → IsFree (all_checks f (take i (map v xs))) → IsFree (f (v (get_or xs i x))) → IsFree (all_checks f (take (i + 1) (map v xs)))
+free_mapped v f xs i x h n m = free_next f (map v xs) i (v x) (omega (arith, length-map v xs)) n (subst (λ y. IsFree (f y)) (sym (get_or-map v xs i x)) m)
 
 -- the first n elements changed, the others as they are
 abbrev pub partly : {A : Type 0} → (A → A) → ℕ → List A → List A

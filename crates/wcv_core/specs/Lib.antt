@@ -15,3 +15,4 @@ pub mod CoreTable
 pub mod CoreAbove
 pub mod CoreMatching
 pub mod CoreWritten
+pub mod CoreFeatures

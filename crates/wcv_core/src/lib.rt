@@ -4,6 +4,8 @@
 mod append_only;
 mod core_closing;
 mod core_codes;
+mod core_features;
+mod core_limits;
 mod core_matching;
 mod core_rows;
 mod core_table;
@@ -21,6 +23,8 @@ mod slip;
 mod text;
 
 pub use append_only::{IndexMapAppendOnly, IntoIter, Iter};
+pub use core_features::{check_group_features, check_ref_features, check_val_features};
+pub use core_limits::check_group_limits;
 pub use core_table::CoreTypes;
 pub use core_types::{
     AbstractHeap, ArrayType, CompositeInnerType, CoreTypeId, EntityType, FieldType, FuncType,
