@@ -1,5 +1,6 @@
 -- Entries, and lists that are put into closed form one element after the other.
 use Rattle.std.proofs.Common.{◌≡◌, ℕ, zero, suc, ◌+◌, ◌-◌, ◌<◌, ◌≤◌, List, [], ◌∷◌, ◌++◌, length, take, get_or, slice_get, Bool, true, false, nat_lt, Option, Some, None, refl, sym, ◌∙◌, ap, arith, subst, inl, inr, not, add-one, slice_set, map}
+use Rattle.std.specs.List.{range_with_len}
 use Rattle.std.proofs.lemmas.Bool.Decides.{nat_tests}
 use Rattle.std.proofs.lemmas.Option.{slice_get_past, slice_get_within}
 use Rattle.wcv_core.specs.Checks.{Checks, Cause, IsFree, CausedBy, all_checks, is_none}
@@ -7,7 +8,7 @@ use Rattle.wcv_core.specs.CoreWritten.{Core_entry, sub_entry, is_module, entry_c
 use Rattle.wcv_core.specs.declared.core_types.HeapType.TheVariants as heap
 use Rattle.wcv_core.specs.declared.error.Error.{Error}
 use Rattle.wcv_core.specs.declared.error.ErrorKind.{ErrorKind}
-use Rattle.wcv_core.proofs.Rowing.{length-map}
+use Rattle.wcv_core.proofs.Rowing.{length-map, get_or-map}
 use Rattle.wcv_core.proofs.Causes.{cause_left, cause_right, free_both, free_left, free_right}
 
 is_below : (i m : ℕ) → i < m → not (nat_lt i m) ≡ false
@@ -65,16 +66,26 @@ pub free_next : {A : Type 0} (f : A → Checks) (xs : List A) (i : ℕ) (x : A) 
 free_next f xs i x h n m = subst (λ (j : ℕ). IsFree (all_checks f (take j xs))) (sym (add-one i)) (free_suc f xs i x h n m)
 
 -- so where the elements are views
-get_or-map : {A B : Type 0} (v : A → B) (xs : List A) (i : ℕ) (x : A) → get_or (map v xs) i (v x) ≡ v (get_or xs i x)
-get_or-map v [] i x = refl
-get_or-map v (y ∷ xs) zero x = refl
-get_or-map v (y ∷ xs) (suc i) x = get_or-map v xs i x
-
 pub caused_mapped : {A B : Type 0} (v : A → B) (f : B → Checks) (xs : List A) (i : ℕ) (x : A) (offset : ℕ) (e : Error) → i < length xs → x ≡ get_or xs i x → CausedBy (f (v x)) offset e → CausedBy (all_checks f (map v xs)) offset e
 caused_mapped v f xs i x offset e h is c = caused_at f (map v xs) i (v x) offset e (omega (arith, length-map v xs)) (subst (λ y. CausedBy (f y) offset e) (ap v is ∙ sym (get_or-map v xs i x)) c)
 
 pub free_mapped : {A B : Type 0} (v : A → B) (f : B → Checks) (xs : List A) (i : ℕ) (x : A) → i < length xs → IsFree (all_checks f (take i (map v xs))) → IsFree (f (v (get_or xs i x))) → IsFree (all_checks f (take (i + 1) (map v xs)))
 free_mapped v f xs i x h n m = free_next f (map v xs) i (v x) (omega (arith, length-map v xs)) n (subst (λ y. IsFree (f y)) (sym (get_or-map v xs i x)) m)
+
+-- numbers one after the other
+pub caused_ranged : (f : ℕ → Checks) (a n k x offset : ℕ) (e : Error) → k < n → x ≡ a + k → CausedBy (f x) offset e → CausedBy (all_checks f (range_with_len a n)) offset e
+caused_ranged f a zero k x offset e h s c = Prim.absurd (omega arith)
+caused_ranged f a (suc n) zero x offset e h s c = let z : x ≡ a = omega arith in caused_left (f a) (all_checks f (range_with_len (a + 1) n)) offset e (subst (λ (y : ℕ). CausedBy (f y) offset e) z c)
+caused_ranged f a (suc n) (suc k) x offset e h s c = caused_right (f a) (all_checks f (range_with_len (a + 1) n)) offset e (caused_ranged f (a + 1) n k x offset e (omega arith) (omega arith) c)
+
+free_ranged_suc : (f : ℕ → Checks) (a k x : ℕ) → x ≡ a + k → IsFree (all_checks f (range_with_len a k)) → IsFree (f x) → IsFree (all_checks f (range_with_len a (suc k)))
+free_ranged_suc f a zero x s n m = let z : x ≡ a = omega arith in free_both (f a) [] (subst (λ (y : ℕ). IsFree (f y)) z m) tt
+free_ranged_suc f a (suc k) x s n m =
+    let rest : Checks = all_checks f (range_with_len (a + 1) k) in
+    free_both (f a) (all_checks f (range_with_len (a + 1) (suc k))) (free_left (f a) rest n) (free_ranged_suc f (a + 1) k x (omega arith) (free_right (f a) rest n) m)
+
+pub free_ranged : (f : ℕ → Checks) (a k x : ℕ) → x ≡ a + k → IsFree (all_checks f (range_with_len a k)) → IsFree (f x) → IsFree (all_checks f (range_with_len a (k + 1)))
+free_ranged f a k x s n m = subst (λ (j : ℕ). IsFree (all_checks f (range_with_len a j))) (sym (add-one k)) (free_ranged_suc f a k x s n m)
 
 -- the first n elements changed, the others as they are
 abbrev pub partly : {A : Type 0} → (A → A) → ℕ → List A → List A

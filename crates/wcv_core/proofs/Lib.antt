@@ -12,3 +12,5 @@ pub mod Kept
 pub mod Reading
 pub mod Rowing
 pub mod Closing
+pub mod Pairing
+pub mod Within

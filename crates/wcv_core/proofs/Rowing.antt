@@ -164,10 +164,10 @@ get_or-any (x ∷ xs) (suc i) d e h = get_or-any xs i d e (omega arith)
 pub mapped_at : {A B : Type 0} (f : A → B) (xs : List A) (i : ℕ) (x : A) (d : B) → i < length xs → get_or (map f xs) i d ≡ f (get_or xs i x)
 mapped_at f xs i x d h = get_or-any (map f xs) i d (f x) (omega (arith, length-map f xs)) ∙ get_or-map f xs i x
 
-is_below : (i m : ℕ) → i < m → nat_lt i m ≡ true
+pub is_below : (i m : ℕ) → i < m → nat_lt i m ≡ true
 is_below i m h = grind (arith, nat_tests)
 
-not_below : (i m : ℕ) → m ≤ i → nat_lt i m ≡ false
+pub not_below : (i m : ℕ) → m ≤ i → nat_lt i m ≡ false
 not_below i m h = grind (arith, nat_tests)
 
 pub tells : (number n : ℕ) (gs : List Group) (i : ℕ) (d : Row) → i < total gs → Tells number n gs i (get_or (places_from number n gs) i d)

@@ -16,3 +16,4 @@ pub mod CoreAbove
 pub mod CoreMatching
 pub mod CoreWritten
 pub mod CoreFeatures
+pub mod CoreRules

@@ -48,7 +48,7 @@ fn close_heap<G: InternRecGroup>(
 }
 
 /// The own mark of a reference in closed form.
-fn closed_mark(heap: HeapType, mark: bool) -> bool
+pub fn closed_mark(heap: HeapType, mark: bool) -> bool
     ensures { result ≡ closed_mark heap mark }
 {
     match heap {

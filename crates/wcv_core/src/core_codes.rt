@@ -29,7 +29,7 @@ fn abstract_number(name: AbstractHeap) -> u64
     }
 }
 
-fn heap_number(heap: HeapType) -> u64
+pub fn heap_number(heap: HeapType) -> u64
     ensures { result ≡ heap_number heap }
 {
     match heap {
@@ -39,7 +39,7 @@ fn heap_number(heap: HeapType) -> u64
     }
 }
 
-fn ref_mark(r: RefType) -> u64
+pub fn ref_mark(r: RefType) -> u64
     ensures { result ≡ ref_mark r }
 {
     let base: u64 = match r.heap {

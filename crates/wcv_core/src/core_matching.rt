@@ -38,7 +38,8 @@ impl Rows {
         }
     }
 
-    fn is_shared(&self, r: RefType) -> bool
+    /// Whether a reference is shared, by the type that it names or by its own mark.
+    pub fn is_shared(&self, r: RefType) -> bool
         requires { IsHeapWithin (total self.now) 0 r.heap }
         ensures { result ≡ ref_shared self.now r }
     {

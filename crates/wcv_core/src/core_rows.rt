@@ -187,11 +187,33 @@ impl Rows {
     /// The id of the first type of the group that a type stands in, and the length of the group.
     pub fn group_of(&self, id: CoreTypeId) -> (CoreTypeId, u64)
         requires { id.index < total self.now }
-        ensures { (result.0.index, result.1) ≡ place_from 0 self.now id.index }
+        ensures place { (result.0.index, result.1) ≡ place_from 0 self.now id.index }
+        ensures closed { AreClosed 0 self.now }
     {
         let place = self.places[id.index as usize];
         let group = &self.groups[place.group];
         (CoreTypeId { index: place.first }, group.types.len() as u64)
+    }
+
+    /// The id of the first type of the group that a type stands in.
+    pub fn first_of(&self, id: CoreTypeId) -> u64
+        requires { id.index < total self.now }
+        ensures first { result ≡ (place_from 0 self.now id.index).0 }
+        ensures closed { AreClosed 0 self.now }
+    {
+        self.group_of(id).0.index
+    }
+
+    /// The id of a type by its position in the group whose first id is `first`.
+    pub fn id_at(&self, first: u64, position: u64) -> CoreTypeId
+        requires { first + position < total self.now }
+        ensures { result.index ≡ first + position }
+    {
+        // ids are positions in a list, so their sums stay small
+        let _count = self.len();
+        CoreTypeId {
+            index: first + position,
+        }
     }
 
     /// The declared supertype of a type.

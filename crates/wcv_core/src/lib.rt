@@ -2,12 +2,14 @@
 #![tactic(auto)]
 
 mod append_only;
+mod core_checks;
 mod core_closing;
 mod core_codes;
 mod core_features;
 mod core_limits;
 mod core_matching;
 mod core_rows;
+mod core_rules;
 mod core_table;
 mod core_types;
 mod error;

@@ -28,8 +28,8 @@ index-group-requires c =
     let gl : length gs ≡ length c.self.inside.groups.items = length-map group_form c.self.inside.groups.items in
     omega arith
 
-pub returns : goal.returns
-returns c =
+pub returns-clause-place : goal.returns-clause-place
+returns-clause-place c =
     let gs : List Group = map group_form c.self.inside.groups.items in
     let v : gs ≡ c.args.self.now = c.self.view_is in
     let h : c.args.id.index < total gs = subst (λ (xs : List Group). c.args.id.index < total xs) (sym v) c.requires in
