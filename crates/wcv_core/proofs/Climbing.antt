@@ -130,7 +130,3 @@ apart_depths ds a b h = go (eqb a b) refl
     go : (t : Bool) → eqb a b ≡ t → t ≡ false
     go false e = refl
     go true e = let q : get_or ds a 0 ≡ get_or ds b 0 = ap (λ (k : ℕ). get_or ds k 0) (eqb-true a b e) in Prim.absurd (omega arith)
-
--- a type with no parent has no depth
-pub no_depth : (gs : List Group) (i : ℕ) → AreClosed 0 gs → i < total gs → get_or (parents_from 0 gs) i None ≡ None → get_or (depths_of gs) i 0 ≡ 0
-no_depth gs i c h e = depth_law gs i c h ∙ ap (depth_after (depths_of gs)) e

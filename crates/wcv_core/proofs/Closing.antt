@@ -1,4 +1,4 @@
--- Entries, and lists that are put into closed form one element after the other.
+-- Lists that are checked, and put into closed form one element after the other.
 use Rattle.std.proofs.Common.{◌≡◌, ℕ, zero, suc, ◌+◌, ◌-◌, ◌<◌, ◌≤◌, List, [], ◌∷◌, ◌++◌, length, take, get_or, slice_get, Bool, true, false, nat_lt, Option, Some, None, refl, sym, ◌∙◌, ap, arith, subst, inl, inr, not, add-one, slice_set, map}
 use Rattle.std.specs.List.{range_with_len}
 use Rattle.std.proofs.lemmas.Bool.Decides.{nat_tests}
@@ -10,33 +10,6 @@ use Rattle.wcv_core.specs.declared.error.Error.{Error}
 use Rattle.wcv_core.specs.declared.error.ErrorKind.{ErrorKind}
 use Rattle.wcv_core.proofs.Rowing.{length-map, get_or-map}
 use Rattle.wcv_core.proofs.Causes.{cause_left, cause_right, free_both, free_left, free_right}
-
-is_below : (i m : ℕ) → i < m → not (nat_lt i m) ≡ false
-is_below i m h = grind (arith, nat_tests)
-
-not_none : {A : Type 0} (xs : List A) (i : ℕ) → i < length xs → is_none (slice_get xs i) ≡ false
-not_none [] i h = Prim.absurd (omega arith)
-not_none (x ∷ xs) zero h = refl
-not_none (x ∷ xs) (suc i) h = not_none xs i (omega arith)
-
--- what is refused below the end of the entries
-pub entry_caused : (es : List Core_entry) (len i offset : ℕ) (e : Error) → i < length es → CausedBy (entry_checks (slice_get es i)) offset e → CausedBy (heap_checks es len (heap.Index i)) offset e
-entry_caused es len i offset e h (inl c, o) = cc (not_none es i h, c.1)
-entry_caused es len i offset e h (inr c, o) = (inr c, o)
-
--- an older type
-pub older_free : (es : List Core_entry) (len i j : ℕ) → slice_get es i ≡ Some (sub_entry j) → IsFree (heap_checks es len (heap.Index i))
-older_free es len i j e = let h : i < length es = slice_get_within es i (sub_entry j) e in (is_below i (length es + len) (omega arith), (ap is_module e, tt))
-
-pub older_closed : (es : List Core_entry) (i j : ℕ) → slice_get es i ≡ Some (sub_entry j) → closed_heap es (heap.Index i) ≡ heap.Id (record { index = j })
-older_closed es i j e = ap (λ (o : Option Core_entry). closed_index o (i - length es)) e
-
--- an own type
-pub own_free : (es : List Core_entry) (len i : ℕ) → length es ≤ i → i < length es + len → IsFree (heap_checks es len (heap.Index i))
-own_free es len i h l = (is_below i (length es + len) l, (ap is_module (slice_get_past es i h), tt))
-
-pub own_closed : (es : List Core_entry) (i : ℕ) → length es ≤ i → closed_heap es (heap.Index i) ≡ heap.Index (i - length es)
-own_closed es i h = ap (λ (o : Option Core_entry). closed_index o (i - length es)) (slice_get_past es i h)
 
 -- ## Errors by a part of what is checked
 

@@ -14,3 +14,5 @@ pub mod Rowing
 pub mod Closing
 pub mod Pairing
 pub mod Within
+pub mod Ordered
+pub mod Joining

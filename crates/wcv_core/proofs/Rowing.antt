@@ -91,15 +91,6 @@ ordered_at n i (s ∷ g) (suc k) d o h =
     let b : i + 1 + k ≡ i + suc k = omega arith in
     subst (λ (m : ℕ). IfSome (parent_in n (get_or g k d)) (λ p. p < m)) b (ordered_at n (i + 1) g k d o.1 (omega arith))
 
-pub low-append : (ds : List ℕ) (e : ℕ) → AreLow ds → e ≤ length ds → AreLow (ds ++ e ∷ [])
-low-append ds e low h k = go ds k k 0 (omega arith) (omega (arith, low k)) (λ l. omega (arith, l))
-  where
-    go : (ds : List ℕ) (k m j : ℕ) → k + j ≡ m → get_or ds k 0 ≤ m → (k ≡ length ds → e ≤ m) → get_or (ds ++ e ∷ []) k 0 ≤ m
-    go [] zero m j q l f = f refl
-    go [] (suc k) m j q l f = omega arith
-    go (d ∷ ds) zero m j q l f = l
-    go (d ∷ ds) (suc k) m j q l f = go ds k m (suc j) (omega arith) l (λ r. f (ap suc r))
-
 pub weaken : (o : Option ℕ) (m n : ℕ) → m ≤ n → IfSome o (λ p. p < m) → IfSome o (λ p. p < n)
 weaken None m n h l = l
 weaken (Some p) m n h l = omega (arith, l)

@@ -1,5 +1,5 @@
 -- Groups as they were written, and their closed forms.
-use Rattle.std.specs.Prelude.{ℕ, zero, suc, ◌+◌, ◌-◌, List, [], ◌∷◌, ◌++◌, length, map, Bool, true, false, Option, Some, None, nat_lt, not, slice_get}
+use Rattle.std.specs.Prelude.{ℕ, zero, suc, ◌+◌, ◌-◌, ◌<◌, List, [], ◌∷◌, ◌++◌, length, map, Bool, true, false, Option, Some, None, nat_lt, not, slice_get}
 use Rattle.wcv_core.specs.Checks.{Checks, all_checks, missing}
 use Rattle.wcv_core.specs.declared.core_types.FieldType.{FieldType}
 use Rattle.wcv_core.specs.declared.core_types.HeapType.{HeapType}
@@ -29,39 +29,45 @@ is_module _ = false
 abbrev pub entry_checks : Option Core_entry → Checks
 entry_checks o = missing o ++ (kind.WrongSort, is_module o) ∷ []
 
--- ## References, in a group of this length that is added behind these entries
+-- the entries are types of a table of n types
+abbrev pub IsKnown : ℕ → Core_entry → Type 0
+IsKnown n (sub_entry i) = i < n
+IsKnown n module_entry = Unit {0}
+
+-- ## References, in a group of this length that is added behind these entries, over a table of n types
 
 -- an index past the entries is that of an own type
-abbrev pub heap_checks : List Core_entry → ℕ → HeapType → Checks
-heap_checks es len (heap.Index n) = (kind.OutOfBounds, not (nat_lt n (length es + len))) ∷ (kind.WrongSort, is_module (slice_get es n)) ∷ []
-heap_checks es len _ = []
+abbrev pub heap_checks : ℕ → List Core_entry → ℕ → HeapType → Checks
+heap_checks n es len (heap.Index k) = (kind.OutOfBounds, not (nat_lt k (length es + len))) ∷ (kind.WrongSort, is_module (slice_get es k)) ∷ []
+heap_checks n es len (heap.Id i) = (kind.OutOfBounds, not (nat_lt i.index n)) ∷ []
+heap_checks n es len (heap.Abstract a) = []
 
-abbrev pub val_checks : List Core_entry → ℕ → ValType → Checks
-val_checks es len (val.Ref r) = heap_checks es len r.heap
-val_checks es len _ = []
+abbrev pub val_checks : ℕ → List Core_entry → ℕ → ValType → Checks
+val_checks n es len (val.Ref r) = heap_checks n es len r.heap
+val_checks n es len _ = []
 
-abbrev pub storage_checks : List Core_entry → ℕ → StorageType → Checks
-storage_checks es len (storage.Val v) = val_checks es len v
-storage_checks es len _ = []
+abbrev pub storage_checks : ℕ → List Core_entry → ℕ → StorageType → Checks
+storage_checks n es len (storage.Val v) = val_checks n es len v
+storage_checks n es len _ = []
 
-abbrev pub field_checks : List Core_entry → ℕ → FieldType → Checks
-field_checks es len f = storage_checks es len f.storage
+abbrev pub field_checks : ℕ → List Core_entry → ℕ → FieldType → Checks
+field_checks n es len f = storage_checks n es len f.storage
 
-abbrev pub form_checks : List Core_entry → ℕ → CompositeForm → Checks
-form_checks es len (func_form ps rs) = all_checks (val_checks es len) ps ++ all_checks (val_checks es len) rs
-form_checks es len (struct_form fs) = all_checks (field_checks es len) fs
-form_checks es len (array_form f) = field_checks es len f
+abbrev pub form_checks : ℕ → List Core_entry → ℕ → CompositeForm → Checks
+form_checks n es len (func_form ps rs) = all_checks (val_checks n es len) ps ++ all_checks (val_checks n es len) rs
+form_checks n es len (struct_form fs) = all_checks (field_checks n es len) fs
+form_checks n es len (array_form f) = field_checks n es len f
 
 abbrev pub super_heap : SuperType → HeapType
 super_heap (super.Index n) = heap.Index n
 super_heap (super.Id i) = heap.Id i
 
-abbrev pub super_index_checks : List Core_entry → ℕ → Option SuperType → Checks
-super_index_checks es len None = []
-super_index_checks es len (Some t) = heap_checks es len (super_heap t)
+abbrev pub super_index_checks : ℕ → List Core_entry → ℕ → Option SuperType → Checks
+super_index_checks n es len None = []
+super_index_checks n es len (Some t) = heap_checks n es len (super_heap t)
 
-abbrev pub index_checks : List Core_entry → ℕ → SubForm → Checks
-index_checks es len s = super_index_checks es len s.supertype ++ form_checks es len s.inner
+abbrev pub index_checks : ℕ → List Core_entry → ℕ → SubForm → Checks
+index_checks n es len s = super_index_checks n es len s.supertype ++ form_checks n es len s.inner
 
 -- ## Closed forms: ids of older types, and the positions of own ones
 

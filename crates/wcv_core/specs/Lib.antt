@@ -17,3 +17,4 @@ pub mod CoreMatching
 pub mod CoreWritten
 pub mod CoreFeatures
 pub mod CoreRules
+pub mod CoreJoining

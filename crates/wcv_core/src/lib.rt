@@ -2,6 +2,7 @@
 #![tactic(auto)]
 
 mod append_only;
+mod canonical;
 mod core_checks;
 mod core_closing;
 mod core_codes;

@@ -13,8 +13,8 @@ returns-in-Err-clause-err g c =
     let v : FieldType = c.index.result.now in
     let same : v ≡ get_or old i v = c.index.ensures ∙ (ap (λ (xs : List FieldType). get_or xs i v) c.loop-i.invariant.types ∙ get_or-partly (closed_field es) old i v) in
     let h : i < length old = omega (arith, c.loop-i-test.true, c.len-i-end.ensures) in
-    let cause : CausedBy (field_checks es c.args.len v) c.args.offset c.in-Err.err = search rules in
-    caused_at (field_checks es c.args.len) old i v c.args.offset c.in-Err.err h (subst (λ (w : FieldType). CausedBy (field_checks es c.args.len w) c.args.offset c.in-Err.err) same cause)
+    let cause : CausedBy (field_checks c.args.site.known es c.args.site.len v) c.args.site.offset c.in-Err.err = search rules in
+    caused_at (field_checks c.args.site.known es c.args.site.len) old i v c.args.site.offset c.in-Err.err h (subst (λ (w : FieldType). CausedBy (field_checks c.args.site.known es c.args.site.len w) c.args.site.offset c.in-Err.err) same cause)
 
 pub loop-i-preserved : goal.loop-i-preserved
 loop-i-preserved g c =
@@ -25,10 +25,10 @@ loop-i-preserved g c =
     let same : v ≡ get_or old i v = c.index.ensures ∙ (ap (λ (xs : List FieldType). get_or xs i v) c.loop-i.invariant.types ∙ get_or-partly (closed_field es) old i v) in
     let h : i < length old = omega (arith, c.loop-i-test.true, c.len-i-end.ensures) in
     let closed : c.in-Ok.ty ≡ closed_field es v = search rules in
-    let free : IsFree (field_checks es c.args.len v) = search rules in
+    let free : IsFree (field_checks c.args.site.known es c.args.site.len v) = search rules in
     record {
       types = (λ j. slice_set (c.loop-i.invariant.types j) i ((closed ∙ ap (closed_field es) same) j)) ∙ set_next (closed_field es) old i v;
-      free = free_next (field_checks es c.args.len) old i v h c.loop-i.invariant.free (subst (λ (w : FieldType). IsFree (field_checks es c.args.len w)) same free);
+      free = free_next (field_checks c.args.site.known es c.args.site.len) old i v h c.loop-i.invariant.free (subst (λ (w : FieldType). IsFree (field_checks c.args.site.known es c.args.site.len w)) same free);
     }
 
 pub returns-clause-ok : goal.returns-clause-ok

@@ -16,8 +16,8 @@ returns-in-Err-clause-err g c =
     let at : get_or (map sub_form c.loop-i.types.items) i v ≡ v = item sub_form c.loop-i.types.items i c.index_mut.result.now c.index_mut.ensures.value in
     let same : v ≡ get_or old i v = sym at ∙ (ap (λ (xs : List SubForm). get_or xs i v) c.loop-i.invariant.types ∙ get_or-partly (closed_sub es) old i v) in
     let h : i < length old = omega (arith, c.loop-i-test.true, c.len-i-end.ensures) in
-    let cause : CausedBy (index_checks es c.args.len v) c.args.offset c.in-Err.err = search rules in
-    caused_at (index_checks es c.args.len) old i v c.args.offset c.in-Err.err h (subst (λ (w : SubForm). CausedBy (index_checks es c.args.len w) c.args.offset c.in-Err.err) same cause)
+    let cause : CausedBy (index_checks c.args.site.known es c.args.site.len v) c.args.site.offset c.in-Err.err = search rules in
+    caused_at (index_checks c.args.site.known es c.args.site.len) old i v c.args.site.offset c.in-Err.err h (subst (λ (w : SubForm). CausedBy (index_checks c.args.site.known es c.args.site.len w) c.args.site.offset c.in-Err.err) same cause)
 
 pub loop-i-preserved : goal.loop-i-preserved
 loop-i-preserved g c =
@@ -30,10 +30,10 @@ loop-i-preserved g c =
     let same : v ≡ get_or old i v = sym at ∙ (ap (λ (xs : List SubForm). get_or xs i v) c.loop-i.invariant.types ∙ get_or-partly (closed_sub es) old i v) in
     let h : i < length old = omega (arith, c.loop-i-test.true, c.len-i-end.ensures) in
     let closed : sub_form c.close_sub.new.ty ≡ closed_sub es v = search rules in
-    let free : IsFree (index_checks es c.args.len v) = search rules in
+    let free : IsFree (index_checks c.args.site.known es c.args.site.len v) = search rules in
     record {
       types = map-set sub_form c.loop-i.types.items i c.close_sub.new.ty ∙ ((λ j. slice_set (c.loop-i.invariant.types j) i ((closed ∙ ap (closed_sub es) same) j)) ∙ set_next (closed_sub es) old i v);
-      free = free_next (index_checks es c.args.len) old i v h c.loop-i.invariant.free (subst (λ (w : SubForm). IsFree (index_checks es c.args.len w)) same free);
+      free = free_next (index_checks c.args.site.known es c.args.site.len) old i v h c.loop-i.invariant.free (subst (λ (w : SubForm). IsFree (index_checks c.args.site.known es c.args.site.len w)) same free);
     }
 
 pub returns-clause-ok : goal.returns-clause-ok

@@ -13,8 +13,8 @@ returns-in-Err-clause-err g c =
     let v : ValType = c.index.result.now in
     let same : v ≡ get_or old i v = c.index.ensures ∙ (ap (λ (xs : List ValType). get_or xs i v) c.loop-i.invariant.types ∙ get_or-partly (closed_val es) old i v) in
     let h : i < length old = omega (arith, c.loop-i-test.true, c.len-i-end.ensures) in
-    let cause : CausedBy (val_checks es c.args.len v) c.args.offset c.in-Err.err = search rules in
-    caused_at (val_checks es c.args.len) old i v c.args.offset c.in-Err.err h (subst (λ (w : ValType). CausedBy (val_checks es c.args.len w) c.args.offset c.in-Err.err) same cause)
+    let cause : CausedBy (val_checks c.args.site.known es c.args.site.len v) c.args.site.offset c.in-Err.err = search rules in
+    caused_at (val_checks c.args.site.known es c.args.site.len) old i v c.args.site.offset c.in-Err.err h (subst (λ (w : ValType). CausedBy (val_checks c.args.site.known es c.args.site.len w) c.args.site.offset c.in-Err.err) same cause)
 
 pub loop-i-preserved : goal.loop-i-preserved
 loop-i-preserved g c =
@@ -25,10 +25,10 @@ loop-i-preserved g c =
     let same : v ≡ get_or old i v = c.index.ensures ∙ (ap (λ (xs : List ValType). get_or xs i v) c.loop-i.invariant.types ∙ get_or-partly (closed_val es) old i v) in
     let h : i < length old = omega (arith, c.loop-i-test.true, c.len-i-end.ensures) in
     let closed : c.in-Ok.ty ≡ closed_val es v = search rules in
-    let free : IsFree (val_checks es c.args.len v) = search rules in
+    let free : IsFree (val_checks c.args.site.known es c.args.site.len v) = search rules in
     record {
       types = (λ j. slice_set (c.loop-i.invariant.types j) i ((closed ∙ ap (closed_val es) same) j)) ∙ set_next (closed_val es) old i v;
-      free = free_next (val_checks es c.args.len) old i v h c.loop-i.invariant.free (subst (λ (w : ValType). IsFree (val_checks es c.args.len w)) same free);
+      free = free_next (val_checks c.args.site.known es c.args.site.len) old i v h c.loop-i.invariant.free (subst (λ (w : ValType). IsFree (val_checks c.args.site.known es c.args.site.len w)) same free);
     }
 
 pub returns-clause-ok : goal.returns-clause-ok
