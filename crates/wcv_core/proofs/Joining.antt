@@ -1,18 +1,22 @@
 -- The causes of a written group, put together.
-use Rattle.std.proofs.Common.{◌≡◌, ℕ, zero, suc, ◌+◌, ◌<◌, ◌≤◌, List, [], ◌∷◌, ◌++◌, length, map, Bool, true, false, cond, not, ◌&&◌, Option, Some, None, refl, sym, ◌∙◌, ap, arith, subst, inl, inr}
+use Rattle.std.proofs.Common.{◌≡◌, ℕ, zero, suc, ◌+◌, ◌<◌, ◌≤◌, List, [], ◌∷◌, ◌++◌, length, map, Bool, true, false, cond, not, nat_lt, ◌&&◌, Option, Some, None, refl, sym, ◌∙◌, ap, arith, subst, inl, inr}
 use Rattle.std.specs.List.{range_with_len}
+use Rattle.std.specs.Option.{unwrap_or}
 use Rattle.std.specs.Str.{bytes_eq}
-use Rattle.wcv_core.specs.Checks.{Checks, Cause, IsFree, CausedBy, MemoryOrCausedBy, all_checks}
+use Rattle.wcv_core.specs.Checks.{Checks, Cause, IsFree, CausedBy, MemoryOrCausedBy, all_checks, too_many}
 use Rattle.wcv_core.specs.CoreCode.{code_of}
 use Rattle.wcv_core.specs.CoreFeatures.{group_needs}
 use Rattle.wcv_core.specs.CoreForm.{SubForm, Group}
 use Rattle.wcv_core.specs.CoreGroups.{total, id_from, id_of}
 use Rattle.wcv_core.specs.CoreJoining.{order_checks, written_checks, first_id, group_ids, rule_checks, table_checks, grown, is_free, then_checks, group_checks}
-use Rattle.wcv_core.specs.CoreTable.{with_group}
+use Rattle.wcv_core.specs.CoreRules.{type_checks}
+use Rattle.wcv_core.specs.CoreTable.{max_core_types, with_group, joined_to, passes}
 use Rattle.wcv_core.specs.CoreWritten.{Core_entry, index_checks, closed_group}
 use Rattle.wcv_core.specs.declared.error.Error.{Error}
+use Rattle.wcv_core.specs.declared.error.ErrorKind.TheVariants as kind
 use Rattle.wcv_core.specs.declared.features.WasmFeatures.{WasmFeatures}
 use Rattle.wcv_core.proofs.Causes.{cause_left, cause_right, free_both}
+use Rattle.wcv_core.proofs.Finding.{same_group-true}
 use Rattle.wcv_core.proofs.Closing.{caused_left, caused_right}
 
 -- ## What is seen in the group alone
@@ -68,3 +72,60 @@ some_table gs (s ∷ g) h = refl
 pub some_grown : (gs : List Group) (g : Group) → 0 < length g → grown gs g ≡ with_group gs g
 some_grown gs [] h = Prim.absurd (omega arith)
 some_grown gs (s ∷ g) h = refl
+
+-- ## A group that the table has, and one that it has not
+
+-- the rules for a group that is found so
+abbrev rules_by : List Group → Group → Option ℕ → Checks
+rules_by gs g o = (kind.Limit, passes o gs g) ∷ all_checks (type_checks (joined_to o gs g)) (range_with_len (unwrap_or o (total gs)) (length g))
+
+pub old_free : (gs : List Group) (g : Group) (i n : ℕ) → id_of gs g ≡ Some i → n ≡ length g → IsFree (all_checks (type_checks gs) (range_with_len i n)) → IsFree (rule_checks gs g)
+old_free gs g i n e l f = subst (λ (o : Option ℕ). IsFree (rules_by gs g o)) (sym e) (refl, subst (λ (m : ℕ). IsFree (all_checks (type_checks gs) (range_with_len i m))) l f)
+
+pub old_caused : (gs : List Group) (g : Group) (i n offset : ℕ) (err : Error) → id_of gs g ≡ Some i → n ≡ length g → CausedBy (all_checks (type_checks gs) (range_with_len i n)) offset err → MemoryOrCausedBy (rule_checks gs g) offset err
+old_caused gs g i n offset err e l c =
+    subst (λ (o : Option ℕ). MemoryOrCausedBy (rules_by gs g o) offset err) (sym e) (inr (inr (subst (λ (m : ℕ). Cause (all_checks (type_checks gs) (range_with_len i m)) err.kind) l c.0), c.1))
+
+pub new_free : (gs : List Group) (g : Group) (n i : ℕ) (hs : List Group) → id_of gs g ≡ None → n ≡ length g → i ≡ total gs → hs ≡ gs ++ g ∷ []
+    → IsFree (too_many max_core_types (total gs + n)) → IsFree (all_checks (type_checks hs) (range_with_len i n)) → IsFree (rule_checks gs g)
+new_free gs g n i hs e l k s a f =
+    subst (λ (o : Option ℕ). IsFree (rules_by gs g o)) (sym e)
+    (subst (λ (m : ℕ). nat_lt max_core_types (total gs + m) ≡ false) l a.0, subst (λ (p : List Group × ℕ × ℕ). IsFree (all_checks (type_checks p.0) (range_with_len p.1 p.2))) (λ j. (s j, k j, l j)) f)
+
+pub room_caused : (gs : List Group) (g : Group) (n offset : ℕ) (err : Error) → id_of gs g ≡ None → n ≡ length g → CausedBy (too_many max_core_types (total gs + n)) offset err → MemoryOrCausedBy (rule_checks gs g) offset err
+room_caused gs g n offset err e l (inl c, o) = subst (λ (q : Option ℕ). MemoryOrCausedBy (rules_by gs g q) offset err) (sym e) (inr (inl (c.0, subst (λ (m : ℕ). nat_lt max_core_types (total gs + m) ≡ true) l c.1), o))
+room_caused gs g n offset err e l (inr c, o) = elim c [ ]
+
+pub new_caused : (gs : List Group) (g : Group) (n i : ℕ) (hs : List Group) (offset : ℕ) (err : Error) → id_of gs g ≡ None → n ≡ length g → i ≡ total gs → hs ≡ gs ++ g ∷ []
+    → CausedBy (all_checks (type_checks hs) (range_with_len i n)) offset err → MemoryOrCausedBy (rule_checks gs g) offset err
+new_caused gs g n i hs offset err e l k s c =
+    subst (λ (o : Option ℕ). MemoryOrCausedBy (rules_by gs g o) offset err) (sym e)
+    (inr (inr (subst (λ (p : List Group × ℕ × ℕ). Cause (all_checks (type_checks p.0) (range_with_len p.1 p.2)) err.kind) (λ j. (s j, k j, l j)) c.0), c.1))
+
+pub old_first : (gs : List Group) (g : Group) (i : ℕ) → id_of gs g ≡ Some i → first_id gs g ≡ i
+old_first gs g i e = ap (λ (o : Option ℕ). unwrap_or o (total gs)) e
+
+pub new_first : (gs : List Group) (g : Group) → id_of gs g ≡ None → first_id gs g ≡ total gs
+new_first gs g e = ap (λ (o : Option ℕ). unwrap_or o (total gs)) e
+
+pub old_with : (gs : List Group) (g : Group) (i : ℕ) → id_of gs g ≡ Some i → with_group gs g ≡ gs
+old_with gs g i e = ap (λ (o : Option ℕ). joined_to o gs g) e
+
+pub new_with : (gs : List Group) (g : Group) → id_of gs g ≡ None → with_group gs g ≡ gs ++ g ∷ []
+new_with gs g e = ap (λ (o : Option ℕ). joined_to o gs g) e
+
+found_room : (n : ℕ) (gs : List Group) (g : Group) (i : ℕ) → id_from n gs (code_of g) ≡ Some i → i + length g ≤ n + total gs
+found_room n [] g i e = cc
+found_room n (h ∷ gs) g i e = go (bytes_eq (code_of g) (code_of h)) refl e (found_room (n + length h) gs g i)
+  where
+    go : (b : Bool) → bytes_eq (code_of g) (code_of h) ≡ b → cond b (Some n) (id_from (n + length h) gs (code_of g)) ≡ Some i
+        → (id_from (n + length h) gs (code_of g) ≡ Some i → i + length g ≤ n + length h + total gs) → i + length g ≤ n + (length h + total gs)
+    go true x e r =
+        let q : n ≡ i = cc in
+        let l : length g ≡ length h = ap (length {A = SubForm}) (same_group-true g h x) in
+        omega arith
+    go false x e r = omega (arith, r e)
+
+-- the types of a group that is there stand in the table
+pub old_room : (gs : List Group) (g : Group) (i : ℕ) → id_of gs g ≡ Some i → i + length g ≤ total gs
+old_room gs g i e = omega (arith, found_room 0 gs g i e)

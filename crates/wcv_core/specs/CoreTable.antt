@@ -19,9 +19,13 @@ joined_to (Some i) gs g = gs
 abbrev pub with_group : List Group → Group → List Group
 with_group gs g = joined_to (id_of gs g) gs g
 
+-- the most types of a table where there is a limit
+abbrev pub max_core_types : ℕ
+max_core_types = 1000000
+
 -- the groups would have too many types
 abbrev pub passes : Option ℕ → List Group → Group → Bool
-passes None gs g = nat_lt 1000000 (total gs + length g)
+passes None gs g = nat_lt max_core_types (total gs + length g)
 passes (Some i) gs g = false
 
 abbrev pub passes_limit : List Group → Group → Bool

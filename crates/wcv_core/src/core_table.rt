@@ -1,12 +1,13 @@
 // The table of core types.
-ghost use Rattle.std.specs.Prelude.{◌≡◌, ℕ, ◌<◌, ◌++◌, ◌∷◌, List, [], get_or, OnOk, OnErr, IfOk, IfErr, Some, None};
-ghost use Rattle.wcv_core.specs.Checks.{IsFree, MemoryOrCausedBy};
+ghost use Rattle.std.specs.Prelude.{◌≡◌, ℕ, ◌+◌, ◌≤◌, ◌<◌, ◌++◌, ◌∷◌, List, [], length, get_or, OnOk, OnErr, IfOk, IfErr, Some, None};
+ghost use Rattle.wcv_core.specs.Checks.{IsFree, CausedBy, MemoryOrCausedBy, too_many};
 ghost use Rattle.wcv_core.specs.CoreAbove.{is_declared};
 ghost use Rattle.wcv_core.specs.CoreCode.{code_of};
 ghost use Rattle.wcv_core.specs.CoreForm.{Group, SubForm, sub_form, group_form};
 ghost use Rattle.wcv_core.specs.CoreGroups.{IsClosed, IsValWithin, total, types_of, place_from, id_from, id_of};
+ghost use Rattle.wcv_core.specs.CoreJoining.{first_id, rule_checks};
 ghost use Rattle.wcv_core.specs.CoreMatching.{val_matches};
-ghost use Rattle.wcv_core.specs.CoreTable.{with_group, limit_checks, AreDistinct};
+ghost use Rattle.wcv_core.specs.CoreTable.{max_core_types, with_group, limit_checks, AreDistinct};
 
 use crate::core_codes::group_code;
 use crate::core_rows::Rows;
@@ -91,6 +92,25 @@ impl CoreTypes {
         }
     }
 
+    /// Whether so many types more keep the limit.
+    #[tactic(auto, using(crate::proofs::Rowing::not_below))]
+    fn check_room(&self, count: usize, offset: u64) -> Result<(), Error>
+        ensures ok { OnOk result (IsFree (too_many max_core_types (total self.now + count))) }
+        ensures err { IfErr result (CausedBy (too_many max_core_types (total self.now + count)) offset) }
+    {
+        let len = self.rows.len();
+        if len > LIMIT || count > LIMIT - len {
+            return Err(Error::new(
+                ErrorKind::Limit,
+                offset,
+                format_args!(
+                    "with this group there would be more than {LIMIT} distinct core types"
+                ),
+            ));
+        }
+        Ok(())
+    }
+
     /// Appends a group that is not there.
     fn add(&mut self, code: Vec<u64>, group: RecGroup) -> Result<CoreTypeId, OutOfMemory>
         requires closed { IsClosed (total self.old) (group_form group) }
@@ -139,18 +159,91 @@ impl CoreTypes {
         match self.find(&code) {
             Some(index) => Ok(CoreTypeId { index }),
             None => {
-                if group.types.len() > LIMIT.saturating_sub(self.rows.len()) {
-                    return Err(Error::new(
-                        ErrorKind::Limit,
-                        offset,
-                        format_args!(
-                            "with this group there would be more than {LIMIT} distinct core types"
-                        ),
-                    ));
-                }
+                self.check_room(group.types.len(), offset)?;
                 Ok(self.add(code, group)?)
             }
         }
+    }
+
+    /// The id of the first type of a group that is there, if its types keep the rules.
+    fn check_old(&self, first: u64, group: &RecGroup, offset: u64) -> Result<CoreTypeId, Error>
+        requires { id_of self.now (group_form group.now) ≡ Some first }
+        ensures id { IfOk result (λ id. id.index ≡ first) }
+        ensures room { OnOk result (first + length (group_form group.now) ≤ total self.now) }
+        ensures free { OnOk result (IsFree (rule_checks self.now (group_form group.now))) }
+        ensures cause { IfErr result (MemoryOrCausedBy (rule_checks self.now (group_form group.now)) offset) }
+    {
+        match self
+            .rows
+            .check_types(first, group.types.len() as u64, offset)
+        {
+            Ok(()) => Ok(CoreTypeId { index: first }),
+            Err(err) => Err(err),
+        }
+    }
+
+    /// Appends a group that is not there, if its types keep the rules.
+    fn check_new(
+        &mut self,
+        code: Vec<u64>,
+        group: RecGroup,
+        offset: u64,
+    ) -> Result<CoreTypeId, Error>
+        requires closed { IsClosed (total self.old) (group_form group) }
+        requires code { code.items ≡ code_of (group_form group) }
+        requires absent { id_of self.old (group_form group) ≡ None }
+        ensures id { IfOk result (λ id. id.index ≡ total self.old) }
+        ensures room { OnOk result (total self.old + length (group_form group) ≤ total self.new) }
+        ensures groups { OnOk result (self.new ≡ self.old ++ group_form group ∷ []) }
+        ensures free { OnOk result (IsFree (rule_checks self.old (group_form group))) }
+        ensures cause { IfErr result (MemoryOrCausedBy (rule_checks self.old (group_form group)) offset) }
+        ensures err { OnErr result (self.new ≡ self.old) }
+    {
+        let count = group.types.len();
+        self.check_room(count, offset)?;
+        let first = self.rows.len() as u64;
+        self.rows.push(group)?;
+        match self.rows.check_types(first, count as u64, offset) {
+            Ok(()) => {}
+            Err(err) => {
+                self.rows.pop();
+                return Err(err);
+            }
+        }
+        match self.codes.insert(code, first) {
+            Ok(_) => Ok(CoreTypeId { index: first }),
+            Err(refused) => {
+                drop(refused);
+                self.rows.pop();
+                Err(Error::from(OutOfMemory))
+            }
+        }
+    }
+
+    /// The id of the first type of a group whose types have to keep the rules, also where the group is there
+    /// already. A group that is not there is appended.
+    pub fn intern_checked(&mut self, group: RecGroup, offset: u64) -> Result<CoreTypeId, Error>
+        requires { IsClosed (total self.old) (group_form group) }
+        ensures id { IfOk result (λ id. id.index ≡ first_id self.old (group_form group)) }
+        ensures groups { OnOk result (self.new ≡ with_group self.old (group_form group)) }
+        ensures room { IfOk result (λ id. id.index + length (group_form group) ≤ total self.new) }
+        ensures free { OnOk result (IsFree (rule_checks self.old (group_form group))) }
+        ensures cause { IfErr result (MemoryOrCausedBy (rule_checks self.old (group_form group)) offset) }
+        ensures err { OnErr result (self.new ≡ self.old) }
+    {
+        let code = group_code(self.alloc, &group)?;
+        match self.find(&code) {
+            Some(first) => self.check_old(first, &group, offset),
+            None => self.check_new(code, group, offset),
+        }
+    }
+
+    /// The id of a type by its position in the group whose first id is `first`.
+    pub fn id_at(&self, first: u64, position: u64) -> CoreTypeId
+        requires { first + position < total self.now }
+        ensures { result.index ≡ first + position }
+    {
+        self.rows.id_at(first, position)
     }
 
     /// Whether `a` is `b` or has it as a declared supertype.
