@@ -1,5 +1,5 @@
 -- The causes of a written group, put together.
-use Rattle.std.proofs.Common.{◌≡◌, ℕ, zero, suc, ◌+◌, ◌<◌, ◌≤◌, List, [], ◌∷◌, ◌++◌, length, map, Bool, true, false, cond, not, nat_lt, ◌&&◌, Option, Some, None, refl, sym, ◌∙◌, ap, arith, subst, inl, inr}
+use Rattle.std.proofs.Common.{◌≡◌, ℕ, zero, suc, ◌+◌, ◌<◌, ◌≤◌, List, [], ◌∷◌, ◌++◌, length, map, Bool, true, false, cond, not, nat_lt, ◌==◌, ◌&&◌, Option, Some, None, refl, sym, ◌∙◌, ap, arith, subst, inl, inr}
 use Rattle.std.specs.List.{range_with_len}
 use Rattle.std.specs.Option.{unwrap_or}
 use Rattle.std.specs.Str.{bytes_eq}
@@ -11,12 +11,13 @@ use Rattle.wcv_core.specs.CoreGroups.{total, id_from, id_of}
 use Rattle.wcv_core.specs.CoreJoining.{order_checks, written_checks, first_id, group_ids, rule_checks, table_checks, grown, is_free, then_checks, group_checks}
 use Rattle.wcv_core.specs.CoreRules.{type_checks}
 use Rattle.wcv_core.specs.CoreTable.{max_core_types, with_group, joined_to, passes}
-use Rattle.wcv_core.specs.CoreWritten.{Core_entry, index_checks, closed_group}
+use Rattle.wcv_core.specs.CoreWritten.{Core_entry, index_checks, closed_sub, closed_group}
 use Rattle.wcv_core.specs.declared.error.Error.{Error}
 use Rattle.wcv_core.specs.declared.error.ErrorKind.TheVariants as kind
 use Rattle.wcv_core.specs.declared.features.WasmFeatures.{WasmFeatures}
 use Rattle.wcv_core.proofs.Causes.{cause_left, cause_right, free_both}
 use Rattle.wcv_core.proofs.Finding.{same_group-true}
+use Rattle.wcv_core.proofs.Rowing.{length-map}
 use Rattle.wcv_core.proofs.Closing.{caused_left, caused_right}
 
 -- ## What is seen in the group alone
@@ -75,45 +76,6 @@ some_grown gs (s ∷ g) h = refl
 
 -- ## A group that the table has, and one that it has not
 
--- the rules for a group that is found so
-abbrev rules_by : List Group → Group → Option ℕ → Checks
-rules_by gs g o = (kind.Limit, passes o gs g) ∷ all_checks (type_checks (joined_to o gs g)) (range_with_len (unwrap_or o (total gs)) (length g))
-
-pub old_free : (gs : List Group) (g : Group) (i n : ℕ) → id_of gs g ≡ Some i → n ≡ length g → IsFree (all_checks (type_checks gs) (range_with_len i n)) → IsFree (rule_checks gs g)
-old_free gs g i n e l f = subst (λ (o : Option ℕ). IsFree (rules_by gs g o)) (sym e) (refl, subst (λ (m : ℕ). IsFree (all_checks (type_checks gs) (range_with_len i m))) l f)
-
-pub old_caused : (gs : List Group) (g : Group) (i n offset : ℕ) (err : Error) → id_of gs g ≡ Some i → n ≡ length g → CausedBy (all_checks (type_checks gs) (range_with_len i n)) offset err → MemoryOrCausedBy (rule_checks gs g) offset err
-old_caused gs g i n offset err e l c =
-    subst (λ (o : Option ℕ). MemoryOrCausedBy (rules_by gs g o) offset err) (sym e) (inr (inr (subst (λ (m : ℕ). Cause (all_checks (type_checks gs) (range_with_len i m)) err.kind) l c.0), c.1))
-
-pub new_free : (gs : List Group) (g : Group) (n i : ℕ) (hs : List Group) → id_of gs g ≡ None → n ≡ length g → i ≡ total gs → hs ≡ gs ++ g ∷ []
-    → IsFree (too_many max_core_types (total gs + n)) → IsFree (all_checks (type_checks hs) (range_with_len i n)) → IsFree (rule_checks gs g)
-new_free gs g n i hs e l k s a f =
-    subst (λ (o : Option ℕ). IsFree (rules_by gs g o)) (sym e)
-    (subst (λ (m : ℕ). nat_lt max_core_types (total gs + m) ≡ false) l a.0, subst (λ (p : List Group × ℕ × ℕ). IsFree (all_checks (type_checks p.0) (range_with_len p.1 p.2))) (λ j. (s j, k j, l j)) f)
-
-pub room_caused : (gs : List Group) (g : Group) (n offset : ℕ) (err : Error) → id_of gs g ≡ None → n ≡ length g → CausedBy (too_many max_core_types (total gs + n)) offset err → MemoryOrCausedBy (rule_checks gs g) offset err
-room_caused gs g n offset err e l (inl c, o) = subst (λ (q : Option ℕ). MemoryOrCausedBy (rules_by gs g q) offset err) (sym e) (inr (inl (c.0, subst (λ (m : ℕ). nat_lt max_core_types (total gs + m) ≡ true) l c.1), o))
-room_caused gs g n offset err e l (inr c, o) = elim c [ ]
-
-pub new_caused : (gs : List Group) (g : Group) (n i : ℕ) (hs : List Group) (offset : ℕ) (err : Error) → id_of gs g ≡ None → n ≡ length g → i ≡ total gs → hs ≡ gs ++ g ∷ []
-    → CausedBy (all_checks (type_checks hs) (range_with_len i n)) offset err → MemoryOrCausedBy (rule_checks gs g) offset err
-new_caused gs g n i hs offset err e l k s c =
-    subst (λ (o : Option ℕ). MemoryOrCausedBy (rules_by gs g o) offset err) (sym e)
-    (inr (inr (subst (λ (p : List Group × ℕ × ℕ). Cause (all_checks (type_checks p.0) (range_with_len p.1 p.2)) err.kind) (λ j. (s j, k j, l j)) c.0), c.1))
-
-pub old_first : (gs : List Group) (g : Group) (i : ℕ) → id_of gs g ≡ Some i → first_id gs g ≡ i
-old_first gs g i e = ap (λ (o : Option ℕ). unwrap_or o (total gs)) e
-
-pub new_first : (gs : List Group) (g : Group) → id_of gs g ≡ None → first_id gs g ≡ total gs
-new_first gs g e = ap (λ (o : Option ℕ). unwrap_or o (total gs)) e
-
-pub old_with : (gs : List Group) (g : Group) (i : ℕ) → id_of gs g ≡ Some i → with_group gs g ≡ gs
-old_with gs g i e = ap (λ (o : Option ℕ). joined_to o gs g) e
-
-pub new_with : (gs : List Group) (g : Group) → id_of gs g ≡ None → with_group gs g ≡ gs ++ g ∷ []
-new_with gs g e = ap (λ (o : Option ℕ). joined_to o gs g) e
-
 found_room : (n : ℕ) (gs : List Group) (g : Group) (i : ℕ) → id_from n gs (code_of g) ≡ Some i → i + length g ≤ n + total gs
 found_room n [] g i e = cc
 found_room n (h ∷ gs) g i e = go (bytes_eq (code_of g) (code_of h)) refl e (found_room (n + length h) gs g i)
@@ -129,3 +91,28 @@ found_room n (h ∷ gs) g i e = go (bytes_eq (code_of g) (code_of h)) refl e (fo
 -- the types of a group that is there stand in the table
 pub old_room : (gs : List Group) (g : Group) (i : ℕ) → id_of gs g ≡ Some i → i + length g ≤ total gs
 old_room gs g i e = omega (arith, found_room 0 gs g i e)
+
+-- ## All of it
+
+not_zero : (n : ℕ) → (n == 0) ≡ false → 0 < n
+not_zero zero e = cc
+not_zero (suc n) e = omega arith
+
+-- a closed form with a type is that of a group with a type
+pub some_types : (es : List Core_entry) (w g : Group) (n : ℕ) → g ≡ closed_group es w → n ≡ length g → (n == 0) ≡ false → 0 < length w
+some_types es w g n e l z =
+    let a : 0 < n = not_zero n z in
+    let b : length g ≡ length (closed_group es w) = ap (length {A = SubForm}) e in
+    omega (arith, length-map (closed_sub es) w)
+
+pub all_free : (fs : WasmFeatures) (gs : List Group) (es : List Core_entry) (w g : Group) (n : ℕ) → n ≡ total gs → g ≡ closed_group es w → IsFree (written_checks fs n es w) → IsFree (table_checks gs g) → IsFree (group_checks fs gs es w)
+all_free fs gs es w g n l e a b =
+    then_free (written_checks fs (total gs) es w) (table_checks gs (closed_group es w)) (subst (λ (m : ℕ). IsFree (written_checks fs m es w)) l a) (subst (λ (h : Group). IsFree (table_checks gs h)) e b)
+
+pub alone_caused : (fs : WasmFeatures) (gs : List Group) (es : List Core_entry) (w : Group) (n offset : ℕ) (err : Error) → n ≡ total gs → CausedBy (written_checks fs n es w) offset err → MemoryOrCausedBy (group_checks fs gs es w) offset err
+alone_caused fs gs es w n offset err l c = then_first (written_checks fs (total gs) es w) (table_checks gs (closed_group es w)) offset err (subst (λ (m : ℕ). CausedBy (written_checks fs m es w) offset err) l c)
+
+pub table_caused : (fs : WasmFeatures) (gs : List Group) (es : List Core_entry) (w g : Group) (n offset : ℕ) (err : Error) → n ≡ total gs → g ≡ closed_group es w
+    → IsFree (written_checks fs n es w) → MemoryOrCausedBy (table_checks gs g) offset err → MemoryOrCausedBy (group_checks fs gs es w) offset err
+table_caused fs gs es w g n offset err l e a c =
+    then_second (written_checks fs (total gs) es w) (table_checks gs (closed_group es w)) offset err (subst (λ (m : ℕ). IsFree (written_checks fs m es w)) l a) (subst (λ (h : Group). MemoryOrCausedBy (table_checks gs h) offset err) e c)

@@ -16,3 +16,5 @@ pub mod Pairing
 pub mod Within
 pub mod Ordered
 pub mod Joining
+pub mod ClosedForms
+pub mod Ranges

@@ -20,7 +20,7 @@ mapped_within P f xs i x h l = subst P (get_or-map f xs i x) (h i (f x) (omega (
 pub mapped_seen : {A B : Type 0} (P : B → Type 0) (f : A → B) (xs : List A) (i : ℕ) (x : A) (v : B) → All P (map f xs) → i < length xs → v ≡ f (get_or xs i x) → P v
 mapped_seen P f xs i x v h l e = subst P (sym e) (mapped_within P f xs i x h l)
 
-mapped_of_all : {A B : Type 0} (P : A → Type 0) (Q : B → Type 0) (f : A → B) (xs : List A) → ((x : A) → P x → Q (f x)) → All P xs → All Q (map f xs)
+pub mapped_of_all : {A B : Type 0} (P : A → Type 0) (Q : B → Type 0) (f : A → B) (xs : List A) → ((x : A) → P x → Q (f x)) → All P xs → All Q (map f xs)
 mapped_of_all P Q f [] g h k d l = Prim.absurd (omega arith)
 mapped_of_all P Q f (x ∷ xs) g h k d l =
     let m : k < length (x ∷ xs) = omega (arith, length-map f (x ∷ xs)) in

@@ -76,10 +76,10 @@ abbrev pub with_types : {S : Type 0} → (S → ℕ → S) → S → List ℕ �
 with_types add s [] = s
 with_types add s (i ∷ is) = with_types add (add s i) is
 
--- some of them, from the first on
-abbrev pub IsBegun : {S : Type 0} → (S → ℕ → S) → S → List ℕ → S → Type 0
-IsBegun add s is t = (k : ℕ) × (t ≡ with_types add s (take k is))
+-- memory ended after some of them
+abbrev pub IsBegun : {S : Type 0} → (S → ℕ → S) → (S → S) → S → List ℕ → S → Type 0
+IsBegun add failed s is t = (k : ℕ) × (t ≡ failed (with_types add s (take k is)))
 
 -- after a refusal nothing has changed; if memory ended, the table may have the group, and the space some of its types
-abbrev pub IsLeft : {S : Type 0} → (S → ℕ → S) → S → S → List Group → List Group → Group → Error → Type 0
-IsLeft add s t gs hs g e = ((t ≡ s) × (hs ≡ gs)) ⊎ ((error_kind e ≡ kind.OutOfMemory) × ((hs ≡ grown gs g) × IsBegun add s (group_ids gs g) t))
+abbrev pub IsLeft : {S : Type 0} → (S → ℕ → S) → (S → S) → S → S → List Group → List Group → Group → Error → Type 0
+IsLeft add failed s t gs hs g e = ((t ≡ s) × (hs ≡ gs)) ⊎ ((error_kind e ≡ kind.OutOfMemory) × ((hs ≡ grown gs g) × IsBegun add failed s (group_ids gs g) t))

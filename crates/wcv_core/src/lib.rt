@@ -26,6 +26,7 @@ mod slip;
 mod text;
 
 pub use append_only::{IndexMapAppendOnly, IntoIter, Iter};
+pub use canonical::canonicalize_and_intern_rec_group;
 pub use core_features::{check_group_features, check_ref_features, check_val_features};
 pub use core_limits::check_group_limits;
 pub use core_table::CoreTypes;

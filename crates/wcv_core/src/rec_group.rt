@@ -4,7 +4,8 @@ use crate::error::Error;
 use crate::features::WasmFeatures;
 use crate::memory::OutOfMemory;
 
-/// A space of core types, and the features that may be used in it.
+/// A space of core types, and the features that may be used in it. Contracts see it as a value, so that an
+/// implementation says by its `Model` what else it keeps.
 pub trait InternRecGroup {
     ghost use Rattle.std.specs.Prelude.{◌≡◌, ℕ, List, ◌∷◌, [], ◌++◌, ◌+◌, ◌<◌, ◌^◌, length, slice_get, Some, IfOk, OnOk, OnErr, IfErr};
     ghost use Rattle.wcv_core.specs.Checks.{CausedBy};
@@ -20,6 +21,9 @@ pub trait InternRecGroup {
     /// The same with one more type behind the others.
     ghost with_type: { Self → ℕ → Self };
 
+    /// The same after memory ended.
+    ghost failed: { Self → Self };
+
     /// The features that may be used.
     fn features(&self) -> &WasmFeatures
         ensures { result.now ≡ allowed self.now };
@@ -30,7 +34,8 @@ pub trait InternRecGroup {
         ensures ok { OnOk result (self.new ≡ with_type self.old id.index) }
         ensures entries { OnOk result (entries self.new ≡ entries self.old ++ sub_entry id.index ∷ []) }
         ensures features { allowed self.new ≡ allowed self.old }
-        ensures err { OnErr result (self.new ≡ self.old) };
+        ensures err { OnErr result (self.new ≡ failed self.old) }
+        ensures stays { OnErr result (entries self.new ≡ entries self.old) };
 
     /// The type at an index.
     fn type_id_at(&self, idx: u32, offset: u64) -> Result<CoreTypeId, Error>
