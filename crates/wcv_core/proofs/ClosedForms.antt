@@ -1,5 +1,5 @@
 -- A written group without a cause has a closed form.
-use Rattle.std.proofs.Common.{◌≡◌, ℕ, zero, suc, ◌+◌, ◌-◌, ◌<◌, ◌≤◌, List, [], ◌∷◌, ◌++◌, length, map, get_or, slice_get, Bool, true, false, nat_lt, not, ◌⊎◌, inl, inr, Option, Some, None, IfSome, All, refl, sym, ◌∙◌, ap, arith, subst}
+use Rattle.std.proofs.Common.{◌≡◌, ℕ, zero, suc, ◌+◌, ◌-◌, ◌<◌, ◌≤◌, List, [], ◌∷◌, ◌++◌, length, map, get_or, slice_get, false, nat_lt, not, ◌⊎◌, inl, inr, Option, Some, None, IfSome, All, refl, sym, ◌∙◌, ap, arith, subst}
 use Rattle.std.proofs.lemmas.Bool.Decides.{nat_tests}
 use Rattle.std.proofs.lemmas.Option.{slice_get_cases}
 use Rattle.wcv_core.specs.Checks.{Checks, IsFree, all_checks}
@@ -8,7 +8,6 @@ use Rattle.wcv_core.specs.CoreForm.{CompositeForm, func_form, struct_form, array
 use Rattle.wcv_core.specs.CoreGroups.{IsHeapWithin, IsValWithin, IsStorageWithin, IsFieldWithin, IsFormWithin, parent_id, AreOrdered, IsClosed}
 use Rattle.wcv_core.specs.CoreJoining.{is_late, order_checks, written_checks}
 use Rattle.wcv_core.specs.CoreWritten.{Core_entry, sub_entry, module_entry, is_module, IsKnown, heap_checks, val_checks, storage_checks, field_checks, form_checks, super_heap, super_index_checks, index_checks, closed_index, closed_heap, closed_val, closed_storage, closed_field, closed_form, heap_super, closed_super, closed_sub, closed_group}
-use Rattle.wcv_core.specs.declared.core_types.FieldType.{FieldType}
 use Rattle.wcv_core.specs.declared.core_types.HeapType.{HeapType}
 use Rattle.wcv_core.specs.declared.core_types.HeapType.TheVariants as heap
 use Rattle.wcv_core.specs.declared.core_types.StorageType.{StorageType}
@@ -19,7 +18,7 @@ use Rattle.wcv_core.specs.declared.core_types.ValType.{ValType}
 use Rattle.wcv_core.specs.declared.core_types.ValType.TheVariants as val
 use Rattle.wcv_core.specs.declared.features.WasmFeatures.{WasmFeatures}
 use Rattle.wcv_core.proofs.Causes.{free_left, free_right}
-use Rattle.wcv_core.proofs.Rowing.{length-map, split}
+use Rattle.wcv_core.proofs.Rowing.{length-map}
 use Rattle.wcv_core.proofs.Within.{mapped_of_all}
 
 below : (i m : ℕ) → not (nat_lt i m) ≡ false → i < m

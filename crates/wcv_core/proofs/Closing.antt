@@ -1,11 +1,7 @@
 -- Lists that are checked, and put into closed form one element after the other.
-use Rattle.std.proofs.Common.{◌≡◌, ℕ, zero, suc, ◌+◌, ◌-◌, ◌<◌, ◌≤◌, List, [], ◌∷◌, ◌++◌, length, take, get_or, slice_get, Bool, true, false, nat_lt, Option, Some, None, refl, sym, ◌∙◌, ap, arith, subst, inl, inr, not, add-one, slice_set, map}
+use Rattle.std.proofs.Common.{◌≡◌, ℕ, zero, suc, ◌+◌, ◌<◌, ◌≤◌, List, [], ◌∷◌, ◌++◌, length, take, get_or, refl, sym, ◌∙◌, ap, arith, subst, add-one, slice_set, map}
 use Rattle.std.specs.List.{range_with_len}
-use Rattle.std.proofs.lemmas.Bool.Decides.{nat_tests}
-use Rattle.std.proofs.lemmas.Option.{slice_get_past, slice_get_within}
-use Rattle.wcv_core.specs.Checks.{Checks, Cause, IsFree, CausedBy, all_checks, is_none}
-use Rattle.wcv_core.specs.CoreWritten.{Core_entry, sub_entry, is_module, entry_checks, heap_checks, closed_index, closed_heap}
-use Rattle.wcv_core.specs.declared.core_types.HeapType.TheVariants as heap
+use Rattle.wcv_core.specs.Checks.{Checks, Cause, IsFree, CausedBy, all_checks}
 use Rattle.wcv_core.specs.declared.error.Error.{Error}
 use Rattle.wcv_core.specs.declared.error.ErrorKind.{ErrorKind}
 use Rattle.wcv_core.proofs.Rowing.{length-map, get_or-map}

@@ -1,21 +1,17 @@
 -- The causes of a written group, put together.
-use Rattle.std.proofs.Common.{◌≡◌, ℕ, zero, suc, ◌+◌, ◌<◌, ◌≤◌, List, [], ◌∷◌, ◌++◌, length, map, Bool, true, false, cond, not, nat_lt, ◌==◌, ◌&&◌, Option, Some, None, refl, sym, ◌∙◌, ap, arith, subst, inl, inr}
-use Rattle.std.specs.List.{range_with_len}
-use Rattle.std.specs.Option.{unwrap_or}
+use Rattle.std.proofs.Common.{◌≡◌, ℕ, zero, suc, ◌+◌, ◌<◌, ◌≤◌, List, [], ◌∷◌, ◌++◌, length, Bool, true, false, cond, not, ◌==◌, ◌&&◌, Some, refl, sym, ap, arith, subst, inl, inr}
 use Rattle.std.specs.Str.{bytes_eq}
-use Rattle.wcv_core.specs.Checks.{Checks, Cause, IsFree, CausedBy, MemoryOrCausedBy, all_checks, too_many}
+use Rattle.wcv_core.specs.Checks.{Checks, IsFree, CausedBy, MemoryOrCausedBy, all_checks}
 use Rattle.wcv_core.specs.CoreCode.{code_of}
 use Rattle.wcv_core.specs.CoreFeatures.{group_needs}
 use Rattle.wcv_core.specs.CoreForm.{SubForm, Group}
 use Rattle.wcv_core.specs.CoreGroups.{total, id_from, id_of}
-use Rattle.wcv_core.specs.CoreJoining.{order_checks, written_checks, first_id, group_ids, rule_checks, table_checks, grown, is_free, then_checks, group_checks}
-use Rattle.wcv_core.specs.CoreRules.{type_checks}
-use Rattle.wcv_core.specs.CoreTable.{max_core_types, with_group, joined_to, passes}
+use Rattle.wcv_core.specs.CoreJoining.{order_checks, written_checks, rule_checks, table_checks, grown, is_free, then_checks, group_checks}
+use Rattle.wcv_core.specs.CoreTable.{with_group}
 use Rattle.wcv_core.specs.CoreWritten.{Core_entry, index_checks, closed_sub, closed_group}
 use Rattle.wcv_core.specs.declared.error.Error.{Error}
-use Rattle.wcv_core.specs.declared.error.ErrorKind.TheVariants as kind
 use Rattle.wcv_core.specs.declared.features.WasmFeatures.{WasmFeatures}
-use Rattle.wcv_core.proofs.Causes.{cause_left, cause_right, free_both}
+use Rattle.wcv_core.proofs.Causes.{free_both}
 use Rattle.wcv_core.proofs.Finding.{same_group-true}
 use Rattle.wcv_core.proofs.Rowing.{length-map}
 use Rattle.wcv_core.proofs.Closing.{caused_left, caused_right}

@@ -18,3 +18,5 @@ pub mod Ordered
 pub mod Joining
 pub mod ClosedForms
 pub mod Ranges
+pub mod TableLaws
+pub mod HeapWords

@@ -1,5 +1,5 @@
 -- Supertypes that stand before their types, one after the other.
-use Rattle.std.proofs.Common.{◌≡◌, ℕ, zero, suc, ◌+◌, ◌<◌, List, [], ◌∷◌, length, take, map, get_or, Bool, true, false, refl, sym, ◌∙◌, ap, arith, subst, add-one, inl, inr}
+use Rattle.std.proofs.Common.{◌≡◌, ℕ, zero, suc, ◌+◌, ◌<◌, List, [], ◌∷◌, length, take, map, get_or, true, false, refl, sym, ◌∙◌, ap, arith, subst, add-one, inl, inr}
 use Rattle.wcv_core.specs.Checks.{Cause, IsFree}
 use Rattle.wcv_core.specs.CoreForm.{SubForm, Group, sub_form}
 use Rattle.wcv_core.specs.CoreJoining.{is_late, order_checks}

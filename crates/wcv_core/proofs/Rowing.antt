@@ -4,7 +4,7 @@ use Rattle.std.proofs.lemmas.Bool.Decides.{nat_tests}
 use Rattle.wcv_core.specs.CoreForm.{SubForm, Group, struct_form}
 use Rattle.wcv_core.specs.declared.core_rows.Row.{Row}
 use Rattle.wcv_core.specs.CoreGroups.{total, types_of, place_from, parent_in, parents_from, AreOrdered, IsClosed, AreClosed, depth_after, add_depths}
-use Rattle.wcv_core.specs.CoreRows.{place_in, places_from, AreLow}
+use Rattle.wcv_core.specs.CoreRows.{place_in, places_from}
 
 append_nil : {A : Type 0} (c : List A) → c ++ [] ≡ c
 append_nil [] = refl

@@ -1,10 +1,9 @@
 -- Forms of types of a table name types of the table.
-use Rattle.std.proofs.Common.{◌≡◌, ℕ, zero, suc, ◌+◌, ◌-◌, ◌<◌, ◌≤◌, List, [], ◌∷◌, ◌++◌, length, map, get_or, Bool, true, false, cond, nat_lt, ◌⊎◌, inl, inr, Option, Some, None, IfSome, All, refl, sym, ◌∙◌, ap, arith, subst}
+use Rattle.std.proofs.Common.{◌≡◌, ℕ, ◌+◌, ◌-◌, ◌<◌, ◌≤◌, List, [], ◌∷◌, length, map, get_or, Bool, cond, ◌⊎◌, inl, inr, Option, Some, None, IfSome, All, sym, ◌∙◌, ap, arith, subst}
 use Rattle.wcv_core.specs.CoreForm.{CompositeForm, func_form, struct_form, array_form, SubForm, Group, no_type}
-use Rattle.wcv_core.specs.CoreGroups.{total, types_of, place_from, parents_from, IsHeapWithin, IsValWithin, IsStorageWithin, IsFieldWithin, IsFormWithin, IsClosed, AreClosed}
+use Rattle.wcv_core.specs.CoreGroups.{total, types_of, place_from, parents_from, IsHeapWithin, IsValWithin, IsStorageWithin, IsFieldWithin, IsFormWithin, AreClosed}
 use Rattle.wcv_core.specs.CoreMatching.{type_at}
 use Rattle.wcv_core.specs.CoreRules.{id_heap, id_val, id_storage, id_field, id_form, form_at}
-use Rattle.wcv_core.specs.declared.core_types.FieldType.{FieldType}
 use Rattle.wcv_core.specs.declared.core_types.HeapType.{HeapType}
 use Rattle.wcv_core.specs.declared.core_types.HeapType.TheVariants as heap
 use Rattle.wcv_core.specs.declared.core_types.StorageType.{StorageType}

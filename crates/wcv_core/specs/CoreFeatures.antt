@@ -1,5 +1,5 @@
 -- The features that core types need, and the limits on their lists.
-use Rattle.std.specs.Prelude.{ℕ, List, [], ◌∷◌, ◌++◌, length, Bool, true, false, ◌&&◌, not, eqb, Option, is_some, codes}
+use Rattle.std.specs.Prelude.{ℕ, List, [], ◌∷◌, ◌++◌, length, Bool, true, false, ◌&&◌, not, eqb, is_some, codes}
 use Rattle.wcv_core.specs.Checks.{Checks, all_checks, too_many}
 use Rattle.wcv_core.specs.CoreForm.{CompositeForm, func_form, struct_form, array_form, SubForm, Group}
 use Rattle.wcv_core.specs.Features.{has_feature}

@@ -1,10 +1,10 @@
 -- The interning of a written group, and the causes for which it is refused.
-use Rattle.std.specs.Prelude.{ℕ, suc, List, [], ◌∷◌, ◌++◌, length, take, Bool, true, false, ◌&&◌, not, cond, nat_lt, Option, None, Some, ◌≡◌, ◌⊎◌}
+use Rattle.std.specs.Prelude.{ℕ, suc, List, [], ◌∷◌, ◌++◌, length, take, Bool, true, false, ◌&&◌, not, cond, nat_lt, Option, Some, ◌≡◌, ◌⊎◌}
 use Rattle.std.specs.List.{range_with_len}
 use Rattle.std.specs.Option.{unwrap_or}
 use Rattle.wcv_core.specs.Checks.{Checks, all_checks}
 use Rattle.wcv_core.specs.CoreFeatures.{group_needs}
-use Rattle.wcv_core.specs.CoreForm.{SubForm, Group}
+use Rattle.wcv_core.specs.CoreForm.{Group}
 use Rattle.wcv_core.specs.CoreGroups.{total, id_of}
 use Rattle.wcv_core.specs.CoreRules.{type_checks}
 use Rattle.wcv_core.specs.CoreTable.{with_group, limit_checks}

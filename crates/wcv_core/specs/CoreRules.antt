@@ -4,7 +4,7 @@ use Rattle.std.specs.List.{list_all}
 use Rattle.std.specs.Str.{bytes_eq}
 use Rattle.wcv_core.specs.Checks.{Checks}
 use Rattle.wcv_core.specs.CoreCode.{storage_kind, storage_rest}
-use Rattle.wcv_core.specs.CoreForm.{CompositeForm, func_form, struct_form, array_form, SubForm, Group}
+use Rattle.wcv_core.specs.CoreForm.{CompositeForm, func_form, struct_form, array_form, Group}
 use Rattle.wcv_core.specs.CoreGroups.{place_from, parents_from, depths_of}
 use Rattle.wcv_core.specs.CoreMatching.{type_at, same_bool, ref_shared, val_matches}
 use Rattle.wcv_core.specs.CoreWritten.{closed_mark}

@@ -1,10 +1,9 @@
 -- Groups as they were written, and their closed forms.
-use Rattle.std.specs.Prelude.{ℕ, zero, suc, ◌+◌, ◌-◌, ◌<◌, List, [], ◌∷◌, ◌++◌, length, map, Bool, true, false, Option, Some, None, nat_lt, not, slice_get}
+use Rattle.std.specs.Prelude.{ℕ, ◌+◌, ◌-◌, ◌<◌, List, [], ◌∷◌, ◌++◌, length, map, Bool, true, false, Option, Some, None, nat_lt, not, slice_get}
 use Rattle.wcv_core.specs.Checks.{Checks, all_checks, missing}
 use Rattle.wcv_core.specs.declared.core_types.FieldType.{FieldType}
 use Rattle.wcv_core.specs.declared.core_types.HeapType.{HeapType}
 use Rattle.wcv_core.specs.declared.core_types.HeapType.TheVariants as heap
-use Rattle.wcv_core.specs.declared.core_types.RefType.{RefType}
 use Rattle.wcv_core.specs.declared.core_types.StorageType.{StorageType}
 use Rattle.wcv_core.specs.declared.core_types.StorageType.TheVariants as storage
 use Rattle.wcv_core.specs.declared.core_types.SuperType.{SuperType}

@@ -18,3 +18,4 @@ pub mod CoreWritten
 pub mod CoreFeatures
 pub mod CoreRules
 pub mod CoreJoining
+pub mod CoreWords

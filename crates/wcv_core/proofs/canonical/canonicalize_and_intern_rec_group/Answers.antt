@@ -1,10 +1,10 @@
-use Rattle.std.proofs.Common.{rules, arith, ◌≡◌, ◌<◌, ℕ, List, length, sym, ◌∙◌, subst}
+use Rattle.std.proofs.Common.{arith, ◌≡◌, ◌<◌, ℕ, List, length, sym, subst}
 use Rattle.std.specs.Vec.{vec_len}
-use Rattle.wcv_core.specs.Checks.{IsFree, CausedBy, MemoryOrCausedBy}
+use Rattle.wcv_core.specs.Checks.{IsFree}
 use Rattle.wcv_core.specs.CoreForm.{Group, sub_form, group_form}
 use Rattle.wcv_core.specs.CoreGroups.{IsClosed, total}
-use Rattle.wcv_core.specs.CoreJoining.{written_checks, table_checks}
-use Rattle.wcv_core.specs.CoreWritten.{Core_entry, closed_group}
+use Rattle.wcv_core.specs.CoreJoining.{written_checks}
+use Rattle.wcv_core.specs.CoreWritten.{Core_entry}
 use Rattle.wcv_core.specs.declared.features.WasmFeatures.{WasmFeatures}
 use Rattle.wcv_core.proofs.ClosedForms.{written_closed}
 use Rattle.wcv_core.proofs.Joining.{some_types, all_free, alone_caused, table_caused}

@@ -1,8 +1,8 @@
-use Rattle.std.proofs.Common.{rules, arith, ◌≡◌, ℕ, List, length, map, sym, ◌∙◌, ap, subst}
+use Rattle.std.proofs.Common.{rules, arith, ◌≡◌, List, length, map, subst}
 use Rattle.wcv_core.specs.Checks.{IsFree, CausedBy, all_checks}
 use Rattle.wcv_core.specs.CoreFeatures.{group_needs}
-use Rattle.wcv_core.specs.CoreForm.{Group, SubForm, sub_form, group_form}
-use Rattle.wcv_core.specs.CoreJoining.{order_checks, written_checks}
+use Rattle.wcv_core.specs.CoreForm.{Group, sub_form, group_form}
+use Rattle.wcv_core.specs.CoreJoining.{order_checks}
 use Rattle.wcv_core.specs.CoreWritten.{Core_entry, index_checks, closed_group}
 use Rattle.wcv_core.specs.declared.features.WasmFeatures.{WasmFeatures}
 use Rattle.wcv_core.proofs.Rowing.{length-map}

@@ -1,4 +1,3 @@
-use Rattle.std.proofs.Common.{take}
 use Rattle.std.specs.List.{range_with_len}
 use Rattle.wcv_core.specs.Checks.{IsFree, all_checks}
 use Rattle.wcv_core.specs.CoreRules.{type_checks}

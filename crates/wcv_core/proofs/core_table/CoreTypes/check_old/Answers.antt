@@ -1,5 +1,5 @@
-use Rattle.std.proofs.Common.{arith, ◌≡◌, ◌+◌, ◌≤◌, List, length, ap}
-use Rattle.wcv_core.specs.CoreForm.{Group, sub_form, group_form}
+use Rattle.std.proofs.Common.{arith, ◌≡◌, ◌+◌, ◌≤◌, length, ap}
+use Rattle.wcv_core.specs.CoreForm.{sub_form, group_form}
 use Rattle.wcv_core.specs.CoreGroups.{total}
 use Rattle.wcv_core.proofs.Rowing.{length-map}
 use Rattle.wcv_core.proofs.Joining.{old_room}
