@@ -1,10 +1,14 @@
 -- Depths and declared supertypes.
-use Rattle.std.proofs.Common.{◌≡◌, ℕ, zero, suc, ◌+◌, ◌-◌, ◌<◌, ◌≤◌, List, [], ◌∷◌, ◌++◌, length, map, get_or, eqb, Bool, true, false, ◌||◌, ◌⊎◌, inl, inr, Option, Some, None, IfSome, refl, sym, ◌∙◌, ap, arith, subst, length-append, eq-eqb}
+use Rattle.std.proofs.Common.{◌≡◌, ℕ, zero, suc, ◌+◌, ◌-◌, ◌<◌, ◌≤◌, List, [], ◌∷◌, ◌++◌, length, map, get_or, eqb, Bool, true, false, ◌||◌, ◌⊎◌, inl, inr, Option, Some, None, IfSome, refl, sym, ◌∙◌, ap, arith, subst, length-append, eq-eqb, nat_lt}
 use Rattle.std.proofs.lemmas.Bool.{eqb-true}
 use Rattle.wcv_core.specs.CoreForm.{Group}
 use Rattle.wcv_core.specs.CoreGroups.{total, parent_in, parents_from, AreOrdered, AreClosed, depth_after, add_depths, depths_of}
+use Rattle.wcv_core.specs.Checks.{Cause}
+use Rattle.wcv_core.specs.CoreRules.{max_supertypes, super_checks, type_checks}
+use Rattle.wcv_core.specs.declared.error.ErrorKind.{ErrorKind}
+use Rattle.wcv_core.specs.declared.error.ErrorKind.TheVariants as kind
 use Rattle.wcv_core.specs.CoreAbove.{if_parent, climbs, is_declared}
-use Rattle.wcv_core.proofs.Rowing.{length-map, get_or-front, get_or-back, split}
+use Rattle.wcv_core.proofs.Rowing.{length-map, get_or-front, get_or-back, is_below, split}
 use Rattle.wcv_core.proofs.Kept.{length-parents}
 
 -- ## Parents stand before
@@ -130,3 +134,14 @@ apart_depths ds a b h = go (eqb a b) refl
     go : (t : Bool) → eqb a b ≡ t → t ≡ false
     go false e = refl
     go true e = let q : get_or ds a 0 ≡ get_or ds b 0 = ap (λ (k : ℕ). get_or ds k 0) (eqb-true a b e) in Prim.absurd (omega arith)
+
+-- a type with supertypes above it has one that it declares
+pub deep_cause : (gs : List Group) (i : ℕ) (k : ErrorKind) → AreClosed 0 gs → i < total gs → max_supertypes < get_or (depths_of gs) i 0 → k ≡ kind.Limit → Cause (type_checks gs i) k
+deep_cause gs i k c h d e = go (get_or (parents_from 0 gs) i None) refl
+  where
+    deep : nat_lt max_supertypes (get_or (depths_of gs) i 0) ≡ true
+    deep = is_below max_supertypes (get_or (depths_of gs) i 0) d
+
+    go : (o : Option ℕ) → get_or (parents_from 0 gs) i None ≡ o → Cause (type_checks gs i) k
+    go None p = let z : get_or (depths_of gs) i 0 ≡ 0 = depth_law gs i c h ∙ ap (depth_after (depths_of gs)) p in Prim.absurd (omega (arith, d))
+    go (Some p) q = inr (subst (λ (o : Option ℕ). Cause (super_checks gs i o) k) (sym q) (inr (inr (inr (inl (e, deep))))))

@@ -1,10 +1,10 @@
 // Whether the types of a group keep the rules, once the group stands in the rows of a table.
-ghost use Rattle.std.specs.Prelude.{◌≡◌, ◌+◌, ◌≤◌, ◌<◌, Some, get_or, OnOk, IfErr};
+ghost use Rattle.std.specs.Prelude.{◌≡◌, ℕ, ◌+◌, ◌≤◌, ◌<◌, Some, get_or, OnOk, IfErr};
 ghost use Rattle.std.specs.List.{range_with_len};
 ghost use Rattle.wcv_core.specs.Checks.{IsFree, CausedBy, all_checks};
-ghost use Rattle.wcv_core.specs.CoreGroups.{total};
+ghost use Rattle.wcv_core.specs.CoreGroups.{total, depths_of};
 ghost use Rattle.wcv_core.specs.CoreMatching.{type_at};
-ghost use Rattle.wcv_core.specs.CoreRules.{form_at, form_matches, form_shared, super_checks, type_checks};
+ghost use Rattle.wcv_core.specs.CoreRules.{form_at, form_matches, form_shared, max_supertypes, super_checks, type_checks};
 ghost use Rattle.wcv_core.specs.Refusal.{error_kind, error_offset};
 
 use crate::core_rows::Rows;
@@ -98,6 +98,22 @@ impl Rows {
         }
     }
 
+    /// Whether none of so many types, from this id on, has too many supertypes above it. This is looked at before
+    /// anything is matched: a walk up from a type is then short, whatever the group has.
+    fn check_depths(&self, first: u64, count: u64, offset: u64) -> Result<(), Error>
+        requires { first + count ≤ total self.now }
+        ensures ok { OnOk result ((k : ℕ) → k < count → get_or (depths_of self.now) (first + k) 0 ≤ max_supertypes) }
+        ensures err { IfErr result (CausedBy (all_checks (type_checks self.now) (range_with_len first count)) offset) }
+    {
+        for position in 0..count {
+            if self.depth(self.id_at(first, position)) > MAX_SUPERTYPES {
+                let what = "has more than 63 supertypes above it";
+                return Err(refused(ErrorKind::Limit, position, what, offset));
+            }
+        }
+        Ok(())
+    }
+
     /// Whether so many types keep the rules, those of a group from its first id on.
     #[tactic(auto, using(crate::proofs::Closing::free_ranged))]
     pub fn check_types(&self, first: u64, count: u64, offset: u64) -> Result<(), Error>
@@ -105,6 +121,7 @@ impl Rows {
         ensures ok { OnOk result (IsFree (all_checks (type_checks self.now) (range_with_len first count))) }
         ensures err { IfErr result (CausedBy (all_checks (type_checks self.now) (range_with_len first count)) offset) }
     {
+        self.check_depths(first, count, offset)?;
         for position in 0..count {
             self.check_type(self.id_at(first, position), position, offset)?;
         }
