@@ -1,5 +1,5 @@
 -- The features by their names in Rust, and the bits that stand for them.
-use Rattle.std.specs.Prelude.{ℕ, List, [], ◌∷◌, codes}
+use Rattle.std.specs.Prelude.{ℕ, List, [], ◌∷◌, codes, Bool, ◌==◌, bit_and}
 use Rattle.wcv_core.specs.declared.features.WasmFeatures.{WasmFeatures}
 
 abbrev pub feature_bits : List (List ℕ × ℕ)
@@ -16,3 +16,7 @@ default_bits = 319
 
 abbrev pub default_features : WasmFeatures
 default_features = record { 0 = default_bits }
+
+-- the set has the feature, by its bit
+abbrev pub has_feature : WasmFeatures → ℕ → Bool
+has_feature fs bit = bit_and fs.0 bit == bit

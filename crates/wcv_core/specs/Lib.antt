@@ -6,3 +6,16 @@ pub mod Kinds
 pub mod Refusal
 pub mod Names
 pub mod LabelSet
+pub mod Checks
+pub mod CoreForm
+pub mod CoreCode
+pub mod CoreGroups
+pub mod CoreRows
+pub mod CoreTable
+pub mod CoreAbove
+pub mod CoreMatching
+pub mod CoreWritten
+pub mod CoreFeatures
+pub mod CoreRules
+pub mod CoreJoining
+pub mod CoreWords

@@ -1,4 +1,8 @@
 // Core types of WebAssembly, as plain data.
+ghost use Rattle.std.specs.Prelude.{Some};
+ghost use Rattle.wcv_core.specs.CoreFeatures.{heap_word};
+
+use std::fmt;
 
 /// The id of a core type in the table of core types.
 #[derive(Clone, Copy, Debug, PartialEq, Eq, Hash, PartialOrd, Ord)]
@@ -21,6 +25,27 @@ pub enum AbstractHeap {
     None,
     Exn,
     NoExn,
+}
+
+impl fmt::Display for AbstractHeap {
+    ghost output = { λ name. Some (heap_word name) };
+
+    fn fmt<W: fmt::Write>(&self, f: &mut fmt::Formatter<W>) -> fmt::Result {
+        match self {
+            AbstractHeap::Func => f.write_str("func"),
+            AbstractHeap::NoFunc => f.write_str("nofunc"),
+            AbstractHeap::Extern => f.write_str("extern"),
+            AbstractHeap::NoExtern => f.write_str("noextern"),
+            AbstractHeap::Any => f.write_str("any"),
+            AbstractHeap::Eq => f.write_str("eq"),
+            AbstractHeap::I31 => f.write_str("i31"),
+            AbstractHeap::Struct => f.write_str("struct"),
+            AbstractHeap::Array => f.write_str("array"),
+            AbstractHeap::None => f.write_str("none"),
+            AbstractHeap::Exn => f.write_str("exn"),
+            AbstractHeap::NoExn => f.write_str("noexn"),
+        }
+    }
 }
 
 /// What a reference points to. An index is that of a type as it was written, an id that of a type in

@@ -2,6 +2,17 @@
 #![tactic(auto)]
 
 mod append_only;
+mod canonical;
+mod core_checks;
+mod core_closing;
+mod core_codes;
+mod core_features;
+mod core_laws;
+mod core_limits;
+mod core_matching;
+mod core_rows;
+mod core_rules;
+mod core_table;
 mod core_types;
 mod error;
 mod excerpt;
@@ -11,10 +22,21 @@ mod kebab;
 mod label_set;
 mod memory;
 mod primitive;
+mod rec_group;
 mod slip;
 mod text;
 
 pub use append_only::{IndexMapAppendOnly, IntoIter, Iter};
+pub use canonical::canonicalize_and_intern_rec_group;
+pub use core_features::{check_group_features, check_ref_features, check_val_features};
+pub use core_laws::{
+    an_interned_group_is_found, equal_codes_are_of_equal_groups, equal_groups_have_one_id,
+    groups_with_a_common_id_are_equal, interning_again_changes_nothing,
+    older_groups_keep_their_ids, older_types_keep_their_ids, types_stand_at_their_ids,
+    words_match_by_the_rules,
+};
+pub use core_limits::check_group_limits;
+pub use core_table::CoreTypes;
 pub use core_types::{
     AbstractHeap, ArrayType, CompositeInnerType, CoreTypeId, EntityType, FieldType, FuncType,
     GlobalType, HeapType, MemoryType, RecGroup, RefType, StorageType, StructType, SubType,
@@ -28,5 +50,6 @@ pub use kebab::{KebabString, is_label};
 pub use label_set::LabelSet;
 pub use memory::OutOfMemory;
 pub use primitive::PrimitiveValType;
+pub use rec_group::InternRecGroup;
 pub use slip::Slip;
 pub use text::{Place, Text};
