@@ -3,8 +3,8 @@ use Rattle.std.specs.Prelude.{Some, None, if◌then◌else◌}
 use Rattle.std.specs.Str.{bytes_eq}
 use Rattle.wcv_core.specs.Label.{lower_case}
 use Rattle.wcv_syntax.specs.ExternName.{Text, Access, call, get, set, Form, item, constructor, method, static, interface, written}
-use Rattle.wcv_syntax.specs.declared.name_key.NameKey.{NameKey}
-use Rattle.wcv_syntax.specs.declared.name_key.NameKey.TheVariants as key
+use Rattle.wcv_syntax.specs.declared.key.NameKey.{NameKey}
+use Rattle.wcv_syntax.specs.declared.key.NameKey.TheVariants as key
 
 -- a function that is named as its resource is told from it by nothing
 abbrev pub member_key : Text → Text → NameKey

@@ -2,16 +2,20 @@
 ghost use Rattle.std.specs.Prelude.{◌≡◌, ◌⊎◌, Some, None, IfOk, IfErr};
 ghost use Rattle.wcv_core.specs.Refusal.{error_kind, error_offset};
 ghost use Rattle.wcv_core.specs.declared.error.ErrorKind.TheVariants as kind;
+ghost use Rattle.std.specs.Option.{option_map};
+ghost use Rattle.wcv_syntax.specs.ExternName.{set, access_of, getter_of, written};
 ghost use Rattle.wcv_syntax.specs.FormOf.{form_of};
+ghost use Rattle.wcv_syntax.specs.Keys.{key_of};
 ghost use Rattle.wcv_syntax.specs.NameFaults.{form_fault, name_fault};
 ghost use Rattle.wcv_syntax.specs.NameViews.{kind_view};
 
+use crate::key::NameKey;
 use crate::name_kind::ComponentNameKind;
 use crate::name_slip::NameSlip;
 use bitflags::Flags;
 use std::alloc::Global;
 use std::marker::Model;
-use wcv_core::{Error, ErrorKind, Excerpt, Text, WasmFeatures};
+use wcv_core::{Error, ErrorKind, Excerpt, OutOfMemory, Text, WasmFeatures};
 
 /// A name that has a form. Contracts see it as its text.
 #[derive(Debug, Drop)]
@@ -102,5 +106,19 @@ impl ComponentName {
             Some(kind) => kind,
             None => unreachable!(),
         }
+    }
+    /// The key of the name.
+    pub fn uniqueness_key(&self, alloc: Global) -> Result<NameKey, OutOfMemory>
+        ensures { IfOk result (λ k. option_map key_of (form_of self.now) ≡ Some k) }
+    {
+        self.kind().uniqueness_key(alloc)
+    }
+
+    /// The name of the getter of a setter, of the same spelling.
+    pub fn getter_for_setter(&self, alloc: Global) -> Result<Text, OutOfMemory>
+        requires { option_map access_of (form_of self.now) ≡ Some set }
+        ensures { IfOk result (λ t. option_map (λ f. written (getter_of f)) (form_of self.now) ≡ Some t) }
+    {
+        self.kind().getter_for_setter(alloc)
     }
 }
