@@ -32,8 +32,8 @@ impl Model for LabelSet {
     ghost invariant = { λ s. AreNumbered s.labels.keys };
 }
 
-/// The number that the bytes give.
-fn mix(text: &str) -> u64
+/// The number that the bytes give: texts are mostly told apart by it.
+pub fn mix(text: &str) -> u64
     ensures { result ≡ mixed text.now }
 {
     let mut number = 0u64;
@@ -63,7 +63,24 @@ impl LabelSet {
         ensures err { OnErr result (self.new ≡ self.old) }
     {
         let text = label.to_ascii_lowercase(self.alloc)?;
+        self.insert_text(text)
+    }
+
+    /// Adds the text as it is. The answer is false exactly where the set has it already.
+    pub fn insert_text(&mut self, text: String) -> Result<bool, OutOfMemory>
+        ensures added { IfOk result (λ added. added ≡ not (is_among (string_bytes text) self.old)) }
+        ensures has { OnOk result ((t : List ℕ) → is_among t self.new ≡ (bytes_eq t (string_bytes text) || is_among t self.old)) }
+        ensures err { OnErr result (self.new ≡ self.old) }
+    {
         let number = mix(text.as_str());
         Ok(self.labels.insert((number, text))?)
+    }
+
+    /// Whether the set has the text as it is.
+    pub fn has_text(&self, text: String) -> bool
+        ensures { result ≡ is_among (string_bytes text) self.now }
+    {
+        let number = mix(text.as_str());
+        self.labels.contains(&(number, text))
     }
 }

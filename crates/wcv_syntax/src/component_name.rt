@@ -36,7 +36,7 @@ impl Model for ComponentName {
 
 /// The form of the name. Refuses as `Name` a text that has none, and as `Feature` a getter or a setter
 /// where the feature for them is missing.
-fn checked_kind<'a>(
+pub fn checked_kind<'a>(
     name: &'a str,
     offset: u64,
     features: &WasmFeatures,

@@ -147,21 +147,29 @@ impl ComponentNameKind<'_> {
         }
     }
 
-    /// The name of the getter of the same spelling.
+    /// The text of the name of the getter of a setter, of the same spelling.
+    pub fn getter_text(&self, alloc: Global) -> Result<String, OutOfMemory>
+        requires { access_of (kind_view self.now) ≡ set }
+        ensures { IfOk result (λ s. string_bytes s ≡ written (getter_of (kind_view self.now))) }
+    {
+        match self {
+            ComponentNameKind::Setter(label) => marked_label(alloc, "[get]", label),
+            ComponentNameKind::MethodSetter(resource, function) => {
+                marked_member(alloc, "[method][get]", resource, function)
+            }
+            ComponentNameKind::StaticSetter(resource, function) => {
+                marked_member(alloc, "[static][get]", resource, function)
+            }
+            _ => unreachable!(),
+        }
+    }
+
+    /// The name of the getter of a setter, of the same spelling.
     pub fn getter_for_setter(&self, alloc: Global) -> Result<Text, OutOfMemory>
         requires { access_of (kind_view self.now) ≡ set }
         ensures { IfOk result (λ t. t ≡ written (getter_of (kind_view self.now))) }
     {
-        let text = match self {
-            ComponentNameKind::Setter(label) => marked_label(alloc, "[get]", label)?,
-            ComponentNameKind::MethodSetter(resource, function) => {
-                marked_member(alloc, "[method][get]", resource, function)?
-            }
-            ComponentNameKind::StaticSetter(resource, function) => {
-                marked_member(alloc, "[static][get]", resource, function)?
-            }
-            _ => unreachable!(),
-        };
+        let text = self.getter_text(alloc)?;
         Ok(Text::from(text))
     }
 }
