@@ -4,3 +4,4 @@ pub mod Appending
 pub mod Names
 pub mod Words
 pub mod Places
+pub mod Mixing

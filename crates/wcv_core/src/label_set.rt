@@ -2,7 +2,7 @@
 ghost use Rattle.std.specs.Prelude.{◌≡◌, ◌||◌, List, [], ℕ, not, string_bytes, OnOk, OnErr, IfOk};
 ghost use Rattle.std.specs.Str.{bytes_eq};
 ghost use Rattle.wcv_core.specs.Label.{lower_case, is_among};
-ghost use Rattle.wcv_core.specs.LabelSet.{mixed};
+ghost use Rattle.wcv_core.specs.LabelSet.{mixed, mix_step as mix_step_of};
 
 use crate::memory::OutOfMemory;
 use std::alloc::Global;
@@ -32,15 +32,29 @@ impl Model for LabelSet {
     ghost invariant = { λ s. AreNumbered s.labels.keys };
 }
 
-/// The number that the bytes give: texts are mostly told apart by it.
+/// The number with one more part.
+fn mix_step(number: u64, part: u64) -> u64
+    ensures { result ≡ mix_step_of number part }
+{
+    number
+        .wrapping_mul(0x9e37_79b9_7f4a_7c15)
+        .wrapping_add(part)
+}
+
+/// The number that the bytes give: texts are mostly told apart by it. It takes eight bytes at a time.
+#[tactic(auto, using(crate::proofs::Mixing::few_left))]
 pub fn mix(text: &str) -> u64
     ensures { result ≡ mixed text.now }
 {
     let mut number = 0u64;
-    for b in text.as_bytes() {
-        number = number
-            .wrapping_mul(0x9e37_79b9_7f4a_7c15)
-            .wrapping_add(*b as u64);
+    let mut rest = text.as_bytes();
+    while let [a, b, c, d, e, f, g, h, more @ ..] = rest {
+        let part = u64::from_le_bytes([*a, *b, *c, *d, *e, *f, *g, *h]);
+        number = mix_step(number, part);
+        rest = more;
+    }
+    for b in rest {
+        number = mix_step(number, *b as u64);
     }
     number
 }
