@@ -20,3 +20,4 @@ pub mod ClosedForms
 pub mod Ranges
 pub mod TableLaws
 pub mod HeapWords
+pub mod Mixing

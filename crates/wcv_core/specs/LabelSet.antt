@@ -1,11 +1,24 @@
 -- What a set of labels holds.
 use Rattle.std.specs.Prelude.{ℕ, ◌+◌, ◌*◌, ◌%◌, ◌^◌, List, [], ◌∷◌, map, String, string_bytes, ◌≡◌}
+use Rattle.std.specs.Int.{from_le_bytes, w64}
 use Rattle.std.specs.List.{fold}
 use Rattle.std.specs.declared.alloc.Global.{Global}
 
+-- eight bytes as one number
+abbrev pub word : ℕ → ℕ → ℕ → ℕ → ℕ → ℕ → ℕ → ℕ → ℕ
+word a b c d e f g h = from_le_bytes w64 (a ∷ b ∷ c ∷ d ∷ e ∷ f ∷ g ∷ h ∷ [])
+
+abbrev pub mix_step : ℕ → ℕ → ℕ
+mix_step n w = (n * 11400714819323198485 % 2 ^ 64 + w) % 2 ^ 64
+
+-- the number that bytes give after others, eight at a time
+abbrev pub mixed_from : ℕ → List ℕ → ℕ
+mixed_from n (a ∷ b ∷ c ∷ d ∷ e ∷ f ∷ g ∷ h ∷ bs) = mixed_from (mix_step n (word a b c d e f g h)) bs
+mixed_from n bs = fold mix_step n bs
+
 -- the number that bytes give
 abbrev pub mixed : List ℕ → ℕ
-mixed bs = fold (λ n b. (n * 11400714819323198485 % 2 ^ 64 + b) % 2 ^ 64) 0 bs
+mixed bs = mixed_from 0 bs
 
 -- a label behind its number
 abbrev pub Numbered : Type 0

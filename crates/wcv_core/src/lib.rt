@@ -47,7 +47,7 @@ pub use excerpt::Excerpt;
 pub use extern_kind::ExternKind;
 pub use features::WasmFeatures;
 pub use kebab::{KebabString, is_label};
-pub use label_set::LabelSet;
+pub use label_set::{LabelSet, mix};
 pub use memory::OutOfMemory;
 pub use primitive::PrimitiveValType;
 pub use rec_group::InternRecGroup;

@@ -36,6 +36,17 @@ impl Text {
     }
 }
 
+impl From<String> for Text {
+    ghost use Rattle.std.specs.Prelude.{◌≡◌, string_bytes};
+
+    ghost from_gives = { λ s t. t ≡ string_bytes s };
+
+    /// The text itself, with no copy.
+    fn from(text: String) -> Text {
+        Text { text }
+    }
+}
+
 /// A place in a listing: the positions that lead from the root's items to an item, or to a
 /// declaration inside a type item. Contracts see it as that list of numbers.
 #[derive(Debug, Drop)]

@@ -241,4 +241,12 @@ impl TypeAlloc {
     {
         same_value(self, Some(*a), Some(*b))
     }
+    /// So of value types that may be left out: what is left out is the same as that alone.
+    pub fn option_type_eq(&self, a: Option<ComponentValType>, b: Option<ComponentValType>) -> bool
+        requires a { SlotStands self.now (option_slot a) }
+        requires b { SlotStands self.now (option_slot b) }
+        ensures { Decides result (Alike (slot_tree (trees self.now.nodes) (option_slot a)) (slot_tree (trees self.now.nodes) (option_slot b))) }
+    {
+        same_value(self, a, b)
+    }
 }

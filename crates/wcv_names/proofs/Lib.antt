@@ -1,0 +1,9 @@
+pub mod Placing
+pub mod ById
+pub mod Shaping
+pub mod NameRules
+pub mod KeySets
+pub mod FuncTrees
+pub mod Nearest
+pub mod Following
+pub mod Entering

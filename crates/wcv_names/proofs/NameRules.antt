@@ -1,0 +1,90 @@
+-- A broken rule of a part is a broken rule of the whole name.
+use Rattle.std.proofs.Common.{◌≡◌, ℕ, Bool, true, false, not, cond, ◌||◌, ◌&&◌, ◌⊎◌, Option, Some, None, inl, inr, refl, sym, ap, ◌∙◌}
+use Rattle.std.specs.Prelude.{is_none}
+use Rattle.std.proofs.lemmas.Bool.{or_left, or_right}
+use Rattle.wcv_core.specs.Refusal.{error_kind, error_offset}
+use Rattle.wcv_core.specs.declared.error.Error.{Error}
+use Rattle.wcv_core.specs.declared.error.ErrorKind.TheVariants as kind
+use Rattle.wcv_core.specs.declared.features.WasmFeatures.{WasmFeatures}
+use Rattle.wcv_syntax.specs.ExternName.{Form, is_accessor, access_of}
+use Rattle.wcv_syntax.specs.FormOf.{form_of}
+use Rattle.wcv_syntax.specs.NameFaults.{has_accessors, fault_in, name_fault}
+use Rattle.wcv_types.specs.Tree.{Text, Extern_name}
+use Rattle.wcv_names.specs.WholeNames.{bad_suffix, bad_implements, bad_version, is_bad_name, lacks_accessors, lacks_canon_names, lacks_implements, lacks_feature, NameRefused}
+
+module _ (inst : Bool) (fs : WasmFeatures) (n : Extern_name) (offset : ℕ) (e : Error) (at : error_offset e ≡ offset) where
+  pub by_name : error_kind e ≡ kind.Name → is_bad_name inst n ≡ true → NameRefused inst fs n offset e
+  by_name k h = inr (inl (k, h), at)
+
+  pub by_feature : error_kind e ≡ kind.Feature → lacks_feature fs n ≡ true → NameRefused inst fs n offset e
+  by_feature k h = inr (inr (k, h), at)
+
+  pub by_no_form : error_kind e ≡ kind.Name → is_none (form_of n.name) ≡ true → NameRefused inst fs n offset e
+  by_no_form k h = by_name k (or_left (is_none (form_of n.name)) (bad_suffix inst n || (bad_implements inst n || bad_version n)) h)
+
+  pub by_suffix : error_kind e ≡ kind.Name → bad_suffix inst n ≡ true → NameRefused inst fs n offset e
+  by_suffix k h = by_name k (or_right (is_none (form_of n.name)) (bad_suffix inst n || (bad_implements inst n || bad_version n)) (or_left (bad_suffix inst n) (bad_implements inst n || bad_version n) h))
+
+  pub by_implements : error_kind e ≡ kind.Name → bad_implements inst n ≡ true → NameRefused inst fs n offset e
+  by_implements k h = by_name k (or_right (is_none (form_of n.name)) (bad_suffix inst n || (bad_implements inst n || bad_version n)) (or_right (bad_suffix inst n) (bad_implements inst n || bad_version n) (or_left (bad_implements inst n) (bad_version n) h)))
+
+  pub by_version : error_kind e ≡ kind.Name → bad_version n ≡ true → NameRefused inst fs n offset e
+  by_version k h = by_name k (or_right (is_none (form_of n.name)) (bad_suffix inst n || (bad_implements inst n || bad_version n)) (or_right (bad_suffix inst n) (bad_implements inst n || bad_version n) (or_right (bad_implements inst n) (bad_version n) h)))
+
+  pub by_accessors : error_kind e ≡ kind.Feature → lacks_accessors fs (form_of n.name) ≡ true → NameRefused inst fs n offset e
+  by_accessors k h = by_feature k (or_left (lacks_accessors fs (form_of n.name)) (lacks_canon_names fs n || lacks_implements fs n) h)
+
+  pub by_canon_names : error_kind e ≡ kind.Feature → lacks_canon_names fs n ≡ true → NameRefused inst fs n offset e
+  by_canon_names k h = by_feature k (or_right (lacks_accessors fs (form_of n.name)) (lacks_canon_names fs n || lacks_implements fs n) (or_left (lacks_canon_names fs n) (lacks_implements fs n) h))
+
+  pub by_feature_implements : error_kind e ≡ kind.Feature → lacks_implements fs n ≡ true → NameRefused inst fs n offset e
+  by_feature_implements k h = by_feature k (or_right (lacks_accessors fs (form_of n.name)) (lacks_canon_names fs n || lacks_implements fs n) (or_right (lacks_canon_names fs n) (lacks_implements fs n) h))
+
+-- what the name alone is refused by
+module _ (inst : Bool) (fs : WasmFeatures) (n : Extern_name) (offset : ℕ) (e : Error) where
+  pub by_checked : name_fault fs n.name ≡ Some (error_kind e) → error_offset e ≡ offset → NameRefused inst fs n offset e
+  by_checked h at = go (form_of n.name) refl h
+    where
+      some : {X : Type 0} {x y : X} → Some x ≡ Some y → x ≡ y
+      some k = cc k
+
+      lack : (f : Form) (b : Bool) → (is_accessor (access_of f) && not (has_accessors fs)) ≡ b → cond b (Some kind.Feature) None ≡ Some (error_kind e) → (error_kind e ≡ kind.Feature) × (b ≡ true)
+      lack f true q k = (sym (some k), refl)
+      lack f false q k = cc k
+
+      go : (o : Option Form) → form_of n.name ≡ o → fault_in fs o ≡ Some (error_kind e) → NameRefused inst fs n offset e
+      go None q k = by_no_form inst fs n offset e at (sym (some k)) (ap (λ (o : Option Form). is_none o) q)
+      go (Some f) q k =
+          let l = lack f (is_accessor (access_of f) && not (has_accessors fs)) refl k in
+          by_accessors inst fs n offset e at l.0 (ap (lacks_accessors fs) q ∙ l.1)
+
+-- where the name alone is not refused
+pub has_accessors_for : (fs : WasmFeatures) (t : Text) → name_fault fs t ≡ None → (is_none (form_of t) ≡ false) × (lacks_accessors fs (form_of t) ≡ false)
+has_accessors_for fs t h = go (form_of t) h
+  where
+    lack : (b : Bool) → cond b (Some kind.Feature) None ≡ None → b ≡ false
+    lack true k = cc k
+    lack false k = refl
+
+    go : (o : Option Form) → fault_in fs o ≡ None → (is_none o ≡ false) × (lacks_accessors fs o ≡ false)
+    go None k = cc k
+    go (Some f) k = (refl, lack (is_accessor (access_of f) && not (has_accessors fs)) k)
+
+or_none : (a b : Bool) → a ≡ false → b ≡ false → (a || b) ≡ false
+or_none false b h k = k
+or_none true b h k = cc h
+
+pub no_bad_name : (inst : Bool) (fs : WasmFeatures) (n : Extern_name) → name_fault fs n.name ≡ None → bad_suffix inst n ≡ false → bad_implements inst n ≡ false → bad_version n ≡ false → is_bad_name inst n ≡ false
+no_bad_name inst fs n h s i v =
+    or_none (is_none (form_of n.name)) (bad_suffix inst n || (bad_implements inst n || bad_version n)) (has_accessors_for fs n.name h).0
+    (or_none (bad_suffix inst n) (bad_implements inst n || bad_version n) s (or_none (bad_implements inst n) (bad_version n) i v))
+
+pub no_lack : (fs : WasmFeatures) (n : Extern_name) → name_fault fs n.name ≡ None → lacks_canon_names fs n ≡ false → lacks_implements fs n ≡ false → lacks_feature fs n ≡ false
+no_lack fs n h c i =
+    or_none (lacks_accessors fs (form_of n.name)) (lacks_canon_names fs n || lacks_implements fs n) (has_accessors_for fs n.name h).1
+    (or_none (lacks_canon_names fs n) (lacks_implements fs n) c i)
+
+-- a version that is refused, or out of memory
+pub by_version_or_memory : (inst : Bool) (fs : WasmFeatures) (n : Extern_name) (offset : ℕ) (e : Error) → (error_kind e ≡ kind.OutOfMemory) ⊎ ((error_kind e ≡ kind.Name) × (error_offset e ≡ offset) × (bad_version n ≡ true)) → NameRefused inst fs n offset e
+by_version_or_memory inst fs n offset e (inl k) = inl k
+by_version_or_memory inst fs n offset e (inr h) = by_version inst fs n offset e h.1 h.0 h.2

@@ -1,0 +1,26 @@
+use Rattle.std.proofs.Common.{sym, ◌∙◌}
+use Rattle.wcv_syntax.specs.NameViews.{kind_view}
+use Rattle.wcv_types.specs.Entities.{entry_trees}
+use Rattle.wcv_types.specs.Unfold.{trees}
+use Rattle.wcv_names.specs.ResourceNames.{names_of}
+use Rattle.wcv_names.proofs.FuncTrees.{entity_func}
+use Rattle.wcv_names.proofs.Following.{func_not, func_yes, other_follows}
+use Rattle.wcv_names.proofs.context.ComponentNameContext.follows.Goals as goal
+
+pub func_of-func-requires : goal.func_of-func-requires
+func_of-func-requires c = entity_func c.args.types.now c.args.ty.now c.in-Some.id c.requires.entity (sym c.func_part.ensures ∙ c.in-Some.is)
+
+pub returns-then-not-fits : goal.returns-then-not-fits
+returns-then-not-fits c =
+    func_not c.args.types.now c.args.ty.now (names_of c.args.self.now) (entry_trees (trees c.args.types.now.nodes) c.args.items.now) (kind_view c.args.kind.now)
+    c.in-Some.id c.func_of-func.result.now (sym c.func_part.ensures ∙ c.in-Some.is) c.func_of-func.ensures.tree (sym c.in_ok-fits-in-Some.ensures ∙ c.if-not-fits.true)
+
+pub returns-in_ok-paired-in-Some : goal.returns-in_ok-paired-in-Some
+returns-in_ok-paired-in-Some c =
+    func_yes c.args.types.now c.args.ty.now (names_of c.args.self.now) (entry_trees (trees c.args.types.now.nodes) c.args.items.now) (kind_view c.args.kind.now)
+    c.in-Some.id c.func_of-func.result.now c.in_ok-paired-in-Some.paired (sym c.func_part.ensures ∙ c.in-Some.is) c.func_of-func.ensures.tree (sym c.in_ok-fits-in-Some.ensures ∙ c.if-not-fits.false) c.in_ok-paired-in-Some.ensures
+
+pub returns-in-None : goal.returns-in-None
+returns-in-None c =
+    other_follows c.args.types.now c.args.ty.now (names_of c.args.self.now) (entry_trees (trees c.args.types.now.nodes) c.args.items.now) (kind_view c.args.kind.now)
+    c.is_free.result c.requires.entity (sym c.func_part.ensures ∙ c.in-None.is) c.is_free.ensures

@@ -1,0 +1,54 @@
+// Entities, as entries of a list.
+ghost use Rattle.std.specs.Prelude.{◌≡◌};
+ghost use Rattle.wcv_types.specs.Entities.{entity_tree, EntityStands, any_part};
+ghost use Rattle.wcv_types.specs.Standing.{Stands};
+ghost use Rattle.wcv_types.specs.Unfold.{tree_at, trees, IsInfoOf};
+ghost use Rattle.wcv_names.specs.Externs.{is_instance_tree};
+
+use wcv_types::{
+    ComponentAnyTypeId, ComponentEntityType, ComponentValType, TypeAlloc, TypeInfo, TypeSort,
+};
+
+/// Whether the entity is an instance. No arena holds one yet.
+#[tactic(auto, using(crate::proofs::Following::no_instance))]
+pub fn is_instance(ty: &ComponentEntityType, types: &TypeAlloc) -> bool
+    requires { EntityStands types.now ty.now }
+    ensures { result ≡ is_instance_tree (entity_tree (trees types.now.nodes) ty.now) }
+{
+    let _ = ty;
+    let _ = types;
+    false
+}
+
+/// The size and the depth of a type of any sort.
+fn any_info(id: ComponentAnyTypeId, types: &TypeAlloc) -> TypeInfo
+    requires { Stands types.now (any_part id) }
+    ensures { IsInfoOf result (tree_at types.now (any_part id)) }
+{
+    match id {
+        ComponentAnyTypeId::Resource(_) => TypeInfo { size: 1, depth: 1 },
+        ComponentAnyTypeId::Defined(id) => id.info(types),
+        ComponentAnyTypeId::Func(id) => id.info(types),
+        ComponentAnyTypeId::Instance(_) => unreachable!(),
+        ComponentAnyTypeId::Component(_) => unreachable!(),
+    }
+}
+
+/// The size and the depth of an entity.
+pub fn entity_info(ty: &ComponentEntityType, types: &TypeAlloc) -> TypeInfo
+    requires { EntityStands types.now ty.now }
+    ensures { IsInfoOf result (entity_tree (trees types.now.nodes) ty.now) }
+{
+    match ty {
+        ComponentEntityType::Func(id) => id.info(types),
+        ComponentEntityType::Value(ComponentValType::Primitive(_)) => TypeInfo {
+            size: 1,
+            depth: 1,
+        },
+        ComponentEntityType::Value(ComponentValType::Ty(id)) => id.info(types),
+        ComponentEntityType::Ty { created, .. } => any_info(*created, types),
+        ComponentEntityType::Module(_) => unreachable!(),
+        ComponentEntityType::Instance(_) => unreachable!(),
+        ComponentEntityType::Component(_) => unreachable!(),
+    }
+}

@@ -1,0 +1,141 @@
+// Entries that join a list of imports or of exports.
+ghost use Rattle.std.specs.Prelude.{◌≡◌, ◌∷◌, ◌++◌, [], All, OnOk, OnErr, IfOk, IfErr};
+ghost use Rattle.wcv_types.specs.Entities.{entity_tree, entry_trees, EntityStands, EntryStands};
+ghost use Rattle.wcv_types.specs.Unfold.{trees};
+ghost use Rattle.wcv_names.specs.Externs.{MayJoin, Counted, Refused, entry_of};
+ghost use Rattle.wcv_names.specs.FuncTrees.{names_in};
+ghost use Rattle.wcv_names.specs.KeySet.{HasKeys};
+ghost use Rattle.wcv_names.specs.ResourceNames.{names_of};
+ghost use Rattle.wcv_names.specs.WholeNames.{whole_name};
+
+use crate::context::ComponentNameContext;
+use crate::entity::{entity_info, is_instance};
+use crate::name_set::NameSet;
+use crate::whole_name::check_whole_name;
+use std::alloc::Global;
+use wcv_core::{Error, ErrorKind, Excerpt, ExternKind, OutOfMemory, Text, WasmFeatures};
+use wcv_syntax::ComponentExternName;
+use wcv_types::{ComponentEntityType, ComponentItem, ItemMap, TypeAlloc, TypeInfo};
+
+/// A copy of a text that may be there.
+fn copied(alloc: Global, text: &Option<Text>) -> Result<Option<Text>, OutOfMemory>
+    ensures { IfOk result (λ t. t ≡ text.now) }
+{
+    match text {
+        Some(text) => {
+            let text = Text::new(alloc, text.as_str())?;
+            Ok(Some(text))
+        }
+        None => Ok(None),
+    }
+}
+
+/// The entry of an entity under a whole name.
+fn new_entry(
+    alloc: Global,
+    name: &ComponentExternName,
+    ty: &ComponentEntityType,
+) -> Result<(Text, ComponentItem), OutOfMemory>
+    ensures { IfOk result (λ e. e ≡ entry_of name.now ty.now) }
+{
+    let text = Text::new(alloc, name.name.as_str())?;
+    let implements = copied(alloc, &name.implements)?;
+    let version_suffix = copied(alloc, &name.version_suffix)?;
+    let external_id = copied(alloc, &name.external_id)?;
+    Ok((
+        text,
+        ComponentItem {
+            ty: *ty,
+            implements,
+            version_suffix,
+            external_id,
+        },
+    ))
+}
+
+impl ComponentNameContext {
+    #[tactic(auto, using(crate::proofs::Entering::key_new, crate::proofs::Entering::key_taken, crate::proofs::Entering::may_join, crate::proofs::Entering::by_name, crate::proofs::Entering::by_member, crate::proofs::Entering::by_conflict, crate::proofs::Entering::by_limit, crate::proofs::Entering::by_memory, crate::proofs::Entering::counted))]
+    /// Whether an entity may join a list under a whole name. The set of keys gets that of the name, and the
+    /// size and the depth those of the entity; after a refusal they may have it or not. Refuses as `Name`
+    /// and `Feature` what the name itself may not be, as `MethodName` an entity that does not look as the
+    /// name says, as `Conflict` a key that is taken, as `Limit` what becomes too large.
+    pub fn check_extern(
+        &self,
+        name: &ComponentExternName,
+        kind: ExternKind,
+        ty: &ComponentEntityType,
+        types: &TypeAlloc,
+        offset: u64,
+        kind_names: &mut NameSet,
+        items: &ItemMap,
+        info: &mut TypeInfo,
+        features: &WasmFeatures,
+    ) -> Result<(), Error>
+        requires entity { EntityStands types.now ty.now }
+        requires items { All (EntryStands types.now) items.now }
+        requires keys { HasKeys kind_names.old (names_in items.now) }
+        ensures ok { OnOk result (MayJoin (names_of self.now) features.now (entry_trees (trees types.now.nodes) items.now) (names_in items.now) (whole_name name.now) (entity_tree (trees types.now.nodes) ty.now)) }
+        ensures keys { OnOk result (HasKeys kind_names.new (names_in items.now ++ name.now.name ∷ [])) }
+        ensures info { OnOk result (Counted info.old info.new (entity_tree (trees types.now.nodes) ty.now)) }
+        ensures err { IfErr result (Refused (names_of self.now) features.now (entry_trees (trees types.now.nodes) items.now) (names_in items.now) info.old (whole_name name.now) (entity_tree (trees types.now.nodes) ty.now) offset) }
+    {
+        let text = name.name.as_str();
+        let form = match check_whole_name(
+            self.allocator(),
+            name,
+            is_instance(ty, types),
+            offset,
+            features,
+        ) {
+            Ok(form) => form,
+            Err(error) => return Err(error),
+        };
+        self.check_member(&form, text, kind, ty, kind_names, items, types, offset)?;
+        let added = kind_names.insert(text, &form, items.len())?;
+        if !added {
+            let word = kind.desc();
+            let excerpt = Excerpt(text);
+            return Err(Error::new(
+                ErrorKind::Conflict,
+                offset,
+                format_args!(
+                    "{word} name `{excerpt}` conflicts with an earlier {word}: names must differ in more than case, and a getter or a function stands for its item"
+                ),
+            ));
+        }
+        info.combine(entity_info(ty, types), offset)?;
+        Ok(())
+    }
+    /// An entity joins a list under a whole name, as `check_extern` says. After a refusal the list is as it
+    /// was.
+    #[tactic(auto, using(crate::proofs::Entering::keys_of_joined))]
+    pub fn validate_extern(
+        &self,
+        name: &ComponentExternName,
+        kind: ExternKind,
+        ty: &ComponentEntityType,
+        types: &TypeAlloc,
+        offset: u64,
+        kind_names: &mut NameSet,
+        items: &mut ItemMap,
+        info: &mut TypeInfo,
+        features: &WasmFeatures,
+    ) -> Result<(), Error>
+        requires entity { EntityStands types.now ty.now }
+        requires items { All (EntryStands types.now) items.old }
+        requires keys { HasKeys kind_names.old (names_in items.old) }
+        ensures ok { OnOk result (MayJoin (names_of self.now) features.now (entry_trees (trees types.now.nodes) items.old) (names_in items.old) (whole_name name.now) (entity_tree (trees types.now.nodes) ty.now)) }
+        ensures joined { OnOk result (items.new ≡ items.old ++ entry_of name.now ty.now ∷ []) }
+        ensures keys { OnOk result (HasKeys kind_names.new (names_in items.new)) }
+        ensures info { OnOk result (Counted info.old info.new (entity_tree (trees types.now.nodes) ty.now)) }
+        ensures err { IfErr result (Refused (names_of self.now) features.now (entry_trees (trees types.now.nodes) items.old) (names_in items.old) info.old (whole_name name.now) (entity_tree (trees types.now.nodes) ty.now) offset) }
+        ensures kept { OnErr result (items.new ≡ items.old) }
+    {
+        self.check_extern(
+            name, kind, ty, types, offset, kind_names, items, info, features,
+        )?;
+        let entry = new_entry(self.allocator(), name, ty)?;
+        items.push(entry)?;
+        Ok(())
+    }
+}

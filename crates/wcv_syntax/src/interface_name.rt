@@ -1,0 +1,15 @@
+// Names of interfaces.
+ghost use Rattle.std.specs.Prelude.{◌≡◌};
+ghost use Rattle.std.specs.Option.{option_copied};
+ghost use Rattle.wcv_syntax.specs.ExternName.{written, interface as interface_form};
+
+/// The parts of the name of an interface, which make up the text.
+#[derive(Clone, Copy, Debug)]
+pub struct InterfaceName<'a> {
+    pub text: &'a str,
+    pub namespace: &'a str,
+    pub package: &'a str,
+    pub interface: &'a str,
+    pub version: Option<&'a str>,
+    pub ghost whole: { written (interface_form namespace.now «package».now interface.now (option_copied version)) ≡ text.now },
+}
