@@ -5,7 +5,7 @@
 
 The listings that are changed are those in examples/, one for each example of a form in the schema, one for
 each canonical function, and the .json files below each FOLDER; each second change is one of a listing whose
-forms are all built. In examples/functions.json and examples/defined.json each place is also changed in each
+forms are all built. In examples/functions.json, examples/defined.json and examples/resources.json each place is also changed in each
 way. The same seed makes the same listings. What disagrees is printed, and the last line has counts. Needs Python 3.10 and its package
 `jsonschema`, 4.0, or later versions of both.
 
@@ -140,13 +140,13 @@ def is_built_name(name):
 def is_built(item):
     """Whether an item that has a form is of one that is read and built today."""
     match item:
-        case {"type": {"func": _}}:
+        case {"type": {"func": _} | {"defined": _}}:
             return True
-        case {"type": {"defined": defined}}:
-            return isinstance(defined, str) or not {"own", "borrow"} & set(defined)
-        case {"import": {"name": name, "type": {"func": _}}}:
+        case {"type": {"resource": resource}}:
+            return "dtor" not in resource
+        case {"import": {"name": name, "type": "sub-resource" | {"func": _} | {"eq": _}}}:
             return is_built_name(name)
-        case {"export": {"name": name, "sort": "func", **others}}:
+        case {"export": {"name": name, "sort": "func" | "type", **others}}:
             return is_built_name(name) and "type" not in others
     return False
 
@@ -442,7 +442,7 @@ def main():
     in_turn = zip(itertools.cycle(seeds), itertools.cycle(filter(is_read, seeds)))
     changes = Changes(random.Random(given.seed), seeds)
     changed = itertools.islice(itertools.chain.from_iterable(in_turn), given.count)
-    whole = [text for name in ("functions.json", "defined.json") for text in every_change(read_example(name))]
+    whole = [text for name in ("functions.json", "defined.json", "resources.json") for text in every_change(read_example(name))]
     texts = [*map(write, seeds), *whole, *map(changes.make, changed)]
     wrong, said, statuses = list(check_parts()), collections.Counter(), collections.Counter()
 
