@@ -1,8 +1,9 @@
 -- Value types as they are written, in a context.
-use Rattle.std.specs.Prelude.{ℕ, List, [], ◌∷◌, ◌++◌, Bool, not, ◌==◌, bit_and, cond, slice_get, Option, Some, None}
+use Rattle.std.specs.Prelude.{ℕ, List, [], ◌∷◌, ◌++◌, cond, slice_get, Option, Some, None}
 use Rattle.std.specs.Option.{option_map, option_and_then}
+pub use Rattle.wcv_core.specs.Checks.{lacks}
+pub use Rattle.wcv_core.specs.Features.{has_feature}
 use Rattle.wcv_core.specs.Names.{Name}
-use Rattle.wcv_core.specs.declared.error.ErrorKind.TheVariants as kind
 use Rattle.wcv_core.specs.declared.features.WasmFeatures.{WasmFeatures}
 use Rattle.wcv_core.specs.declared.primitive.PrimitiveValType.{PrimitiveValType}
 use Rattle.wcv_core.specs.declared.primitive.PrimitiveValType.TheVariants as prim
@@ -13,13 +14,6 @@ use Rattle.wcv_lower.specs.Checks.{Checks, missing_of, same_sort}
 use Rattle.wcv_lower.specs.Context.{Type_tree, Context, types}
 
 -- ## Features
-
--- the set has the feature, by its bit
-abbrev pub has_feature : WasmFeatures → ℕ → Bool
-has_feature fs bit = bit_and fs.0 bit == bit
-
-abbrev pub lacks : WasmFeatures → ℕ → Checks
-lacks fs bit = (kind.Feature, not (has_feature fs bit)) ∷ []
 
 abbrev pub cm_async : ℕ
 cm_async = 256
