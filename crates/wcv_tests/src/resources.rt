@@ -176,11 +176,7 @@ fn push(text: &mut String, at: u64, item: &str) -> Result<(), Fail> {
 }
 
 // The listing of these items, and the offset of the last.
-fn listing(
-    alloc: Global,
-    features: Option<&str>,
-    items: &str,
-) -> Result<(Vec<u8>, u64), Fail> {
+fn listing(alloc: Global, features: Option<&str>, items: &str) -> Result<(Vec<u8>, u64), Fail> {
     let mut text = String::from_str(alloc, "{\"version\":1,\"items\":[")?;
     let mut count = 0u64;
     for item in items.split(" ; ") {
