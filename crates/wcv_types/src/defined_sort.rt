@@ -119,17 +119,6 @@ impl TypeSort for ComponentDefinedTypeId {
         }
     }
 
-    fn part_at(self, types: &TypeAlloc, k: usize) -> Part {
-        let shape = Self::node(types, self);
-        match handle_part(shape) {
-            Some(part) => part,
-            None => match nth_node(shape, k) {
-                Some(part) => part,
-                None => unreachable!(),
-            },
-        }
-    }
-
     fn rebuild(self, types: &mut TypeAlloc, parts: &Parts) -> Result<Self, OutOfMemory> {
         let mut left = Refill::new(parts);
         let shape = defined_again(types.allocator(), Self::node(types, self), &mut left)?;
@@ -148,6 +137,17 @@ impl NodeSort for ComponentDefinedTypeId {
     fn node(types: &TypeAlloc, id: Self) -> &ComponentDefinedType {
         let k = id.index as usize;
         defined_shape(types.nodes.get(k))
+    }
+
+    fn part_at(self, types: &TypeAlloc, k: usize) -> Part {
+        let shape = Self::node(types, self);
+        match handle_part(shape) {
+            Some(part) => part,
+            None => match nth_node(shape, k) {
+                Some(part) => part,
+                None => unreachable!(),
+            },
+        }
     }
 
     #[tactic(auto, using(crate::proofs::Rebuilding::defined_parts_after))]

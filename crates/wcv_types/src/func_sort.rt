@@ -105,17 +105,6 @@ impl TypeSort for ComponentFuncTypeId {
         }
     }
 
-    fn part_at(self, types: &TypeAlloc, k: usize) -> Part {
-        let shape = Self::node(types, self);
-        match nth_field_part(&shape.params, k) {
-            Some(part) => part,
-            None => match option_part(shape.result) {
-                Some(part) => part,
-                None => unreachable!(),
-            },
-        }
-    }
-
     fn rebuild(self, types: &mut TypeAlloc, parts: &Parts) -> Result<Self, OutOfMemory> {
         let shape = func_again(types, Self::node(types, self), parts)?;
         let made = Self::store(types, shape)?;
@@ -133,6 +122,17 @@ impl NodeSort for ComponentFuncTypeId {
     fn node(types: &TypeAlloc, id: Self) -> &ComponentFuncType {
         let k = id.index as usize;
         func_shape(types.nodes.get(k))
+    }
+
+    fn part_at(self, types: &TypeAlloc, k: usize) -> Part {
+        let shape = Self::node(types, self);
+        match nth_field_part(&shape.params, k) {
+            Some(part) => part,
+            None => match option_part(shape.result) {
+                Some(part) => part,
+                None => unreachable!(),
+            },
+        }
     }
 
     #[tactic(auto, using(crate::proofs::Slots::func_parts_after))]

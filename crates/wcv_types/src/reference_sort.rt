@@ -23,10 +23,6 @@ impl TypeSort for AliasableResourceId {
         0
     }
 
-    fn part_at(self, _types: &TypeAlloc, _k: usize) -> Part {
-        unreachable!()
-    }
-
     fn rebuild(self, _types: &mut TypeAlloc, _parts: &Parts) -> Result<Self, OutOfMemory> {
         Ok(self)
     }

@@ -31,12 +31,6 @@ pub trait TypeSort: Copy {
         requires { Stands types.now (as_part self) }
         ensures { result ≡ length (parts_at types.now (as_part self)) };
 
-    /// The k-th part of the type.
-    fn part_at(self, types: &TypeAlloc, k: usize) -> Part
-        requires stands { Stands types.now (as_part self) }
-        requires below { k < length (parts_at types.now (as_part self)) }
-        ensures { slice_get (parts_at types.now (as_part self)) k ≡ Some result };
-
     /// The same type with other parts, as a new node behind all others. What has no parts stays.
     fn rebuild(self, types: &mut TypeAlloc, parts: &Parts) -> Result<Self, OutOfMemory>
         requires stands { Stands types.old (as_part self) }
@@ -61,6 +55,12 @@ pub trait NodeSort: TypeSort {
         ensures found { slice_get types.now.nodes (place (Self.as_part id)) ≡ Some (as_node result.now) }
         ensures unfolds { tree_at types.now (Self.as_part id) ≡ unfolded types.now (place (Self.as_part id)) (as_node result.now) }
         ensures before { All (StandsBefore types.now (rank (Self.as_part id))) (parts_of (as_node result.now)) };
+
+    /// The k-th part of the type.
+    fn part_at(self, types: &TypeAlloc, k: usize) -> Part
+        requires stands { Stands types.now (Self.as_part self) }
+        requires below { k < length (parts_at types.now (Self.as_part self)) }
+        ensures { slice_get (parts_at types.now (Self.as_part self)) k ≡ Some result };
 
     /// The parts of the node join the list, in order.
     fn parts_into(shape: &Self::Shape, parts: &mut Parts) -> Result<(), OutOfMemory>

@@ -2,7 +2,7 @@ use Rattle.std.proofs.Common.{◌∙◌, ap, List, []}
 use Rattle.std.specs.Prelude.{slice_get}
 use Rattle.wcv_types.specs.Unfold.{parts_in, field_slots}
 use Rattle.wcv_types.proofs.Slots.{Field, part_of_params, part_of_result, no_part_left}
-use Rattle.wcv_types.proofs.func_sort.ComponentFuncTypeIdTypeSort.part_at.Goals as goal
+use Rattle.wcv_types.proofs.func_sort.ComponentFuncTypeIdNodeSort.part_at.Goals as goal
 
 pub unreachable-requires : goal.unreachable-requires
 unreachable-requires c =
