@@ -171,3 +171,21 @@ def functions_over(limit):
 def long_list(count):
     """One enum with so many cases."""
     yield defined({"enum": [f"{WORDS[k * 7 % 31]}-{WORDS[k % 31]}-n{k}" for k in range(count)]})
+
+
+def resources(limit):
+    """Groups of six items: the import of a resource, both handles of it, a function over them, its import, and
+    an export of the resource. The largest listing keeps below the limits on types and on a component's size."""
+
+    def make(k):
+        first, place = k // 6 * 5, k % 6
+        return (
+            {"import": {"name": words_name("resource", k), "type": "sub-resource"}},
+            defined({"own": first}),
+            defined({"borrow": first}),
+            func_type([["self", first + 2], ["other", first + 1]], None),
+            import_of(words_name("function", k), first + 3),
+            {"export": {"name": words_name("exported", k), "sort": "type", "index": first}},
+        )[place]
+
+    yield from bounded(limit, make)

@@ -128,7 +128,11 @@ def types(runs):
     print_table("Listing of types", ALL, rows, runs)
 
 
-TABLES = {"small": small, "front": front, "long": long, "nested": nested, "types": types}
+def resources(runs):
+    print_table("Listing of imported resources", ALL, by_size(make_listings.resources), runs)
+
+
+TABLES = {"small": small, "front": front, "long": long, "nested": nested, "types": types, "resources": resources}
 
 
 def main(runs, names):
