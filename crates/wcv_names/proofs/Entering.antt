@@ -2,6 +2,7 @@
 use Rattle.std.proofs.Common.{◌≡◌, ◌⊎◌, ℕ, List, [], ◌∷◌, ◌++◌, Bool, true, false, Option, Some, inl, inr, refl, sym, ap, ◌∙◌, subst}
 use Rattle.std.specs.Prelude.{not}
 use Rattle.std.proofs.lemmas.List.{map-append}
+use Rattle.wcv_core.specs.Checks.{Checks, Cause, IsFree, MemoryOrCausedBy}
 use Rattle.wcv_core.specs.Label.{is_among}
 use Rattle.wcv_core.specs.Refusal.{error_kind, error_offset}
 use Rattle.wcv_core.specs.declared.error.Error.{Error}
@@ -10,17 +11,17 @@ use Rattle.wcv_core.specs.declared.features.WasmFeatures.{WasmFeatures}
 use Rattle.wcv_syntax.specs.ExternName.{Form, is_formed}
 use Rattle.wcv_syntax.specs.FormOf.{form_of}
 use Rattle.wcv_syntax.proofs.Formed.{sound}
-use Rattle.wcv_types.specs.Info.{combined, PassesLimit, IsWithinLimits}
 use Rattle.wcv_types.specs.Tree.{Text, Extern_name}
-use Rattle.wcv_types.specs.Unfold.{Type_tree, IsInfoOf}
+use Rattle.wcv_types.specs.Entities.{entry_trees}
+use Rattle.wcv_types.specs.Unfold.{Type_tree}
 use Rattle.wcv_types.specs.declared.info.TypeInfo.{TypeInfo}
 use Rattle.wcv_types.specs.declared.item_map.ComponentItem.{ComponentItem}
 use Rattle.wcv_names.specs.FuncTrees.{names_in}
-use Rattle.wcv_names.specs.Externs.{is_instance_tree, Follows, has_key, conflicts, MayJoin, Counted, Refused}
+use Rattle.wcv_names.specs.Externs.{is_instance_tree, has_key, conflicts, breaks_rule, entry_names, extern_checks, too_large_with}
 use Rattle.wcv_names.specs.KeySet.{Key_set, HasKeys, key_text_of, keys_in}
 use Rattle.wcv_names.specs.ResourceNames.{Resource_names}
-use Rattle.wcv_names.specs.Rules.{Entries}
-use Rattle.wcv_names.specs.WholeNames.{is_bad_name, lacks_feature, NameRefused}
+use Rattle.wcv_names.specs.Rules.{Entries, follows}
+use Rattle.wcv_names.specs.WholeNames.{is_bad_name, lacks_feature, IsNameFault, NameRefused}
 
 pub form_formed : (t : Text) (f : Form) → Some f ≡ form_of t → is_formed f ≡ true
 form_formed t f h = (sound t f (sym h)).formed
@@ -39,32 +40,53 @@ key_new s names n f added h e a k = sym (key_there s names n f h e) ∙ (not_is 
 pub key_taken : (s : Key_set) (names : List Text) (n : Text) (f : Form) (added : Bool) → HasKeys s names → Some f ≡ form_of n → added ≡ not (is_among (key_text_of f) s.keys) → added ≡ false → conflicts names n ≡ true
 key_taken s names n f added h e a k = sym (key_there s names n f h e) ∙ (not_is added (is_among (key_text_of f) s.keys) a).1 k
 
-module _ (ns : Resource_names) (fs : WasmFeatures) (es : Entries) (names : List Text) (info : TypeInfo) (n : Extern_name) (t : Type_tree) (offset : ℕ) where
-  pub may_join : (inst : Bool) (f : Form) → inst ≡ is_instance_tree t → Some f ≡ form_of n.name → is_bad_name inst n ≡ false → lacks_feature fs n ≡ false → Follows ns es f t → conflicts names n.name ≡ false → MayJoin ns fs es names n t
-  may_join inst f i e r l w c = record { form = f; named = e; rules = ap (λ (b : Bool). is_bad_name b n) (sym i) ∙ r; features = l; follows = w; apart = c }
+-- the names of entries by ids are those of their trees
+pub names_same : (ts : List Type_tree) (es : List (Text × ComponentItem)) → entry_names (entry_trees ts es) ≡ names_in es
+names_same ts [] = refl
+names_same ts (e ∷ es) = ap (λ (l : List Text). e.0 ∷ l) (names_same ts es)
 
-  pub by_name : (inst : Bool) (e : Error) → inst ≡ is_instance_tree t → NameRefused inst fs n offset e → Refused ns fs es names info n t offset e
+module _ (ts : List Type_tree) (items : List (Text × ComponentItem)) (ns : Resource_names) (fs : WasmFeatures) (info : TypeInfo) (n : Extern_name) (t : Type_tree) (offset : ℕ) where
+  abbrev Es : Entries
+  Es = entry_trees ts items
+
+  abbrev All_checks : Checks
+  All_checks = extern_checks ns fs Es info n t
+
+  conflict_same : conflicts (entry_names Es) n.name ≡ conflicts (names_in items) n.name
+  conflict_same = ap (λ (l : List Text). conflicts l n.name) (names_same ts items)
+
+  rule_is : (f : Form) (b : Bool) → Some f ≡ form_of n.name → follows ns Es f t ≡ b → breaks_rule ns Es (form_of n.name) t ≡ not b
+  rule_is f b e h = ap (λ (o : Option Form). breaks_rule ns Es o t) (sym e) ∙ ap not h
+
+  pub may_join : (inst : Bool) (f : Form) → inst ≡ is_instance_tree t → Some f ≡ form_of n.name → is_bad_name inst n ≡ false → lacks_feature fs n ≡ false → follows ns (entry_trees ts items) f t ≡ true → conflicts (names_in items) n.name ≡ false
+      → IsFree (too_large_with info t) → IsFree (extern_checks ns fs (entry_trees ts items) info n t)
+  may_join inst f i e r l w c k = (ap (λ (b : Bool). is_bad_name b n) (sym i) ∙ r, l, rule_is f true e w, conflict_same ∙ c, k)
+
+  pub by_name : (inst : Bool) (e : Error) → inst ≡ is_instance_tree t → NameRefused inst fs n offset e → MemoryOrCausedBy (extern_checks ns fs (entry_trees ts items) info n t) offset e
   by_name inst e i h = go (subst (λ (b : Bool). NameRefused b fs n offset e) i h)
     where
-      go : NameRefused (is_instance_tree t) fs n offset e → Refused ns fs es names info n t offset e
+      which : IsNameFault (is_instance_tree t) fs n e → Cause All_checks (error_kind e)
+      which (inl k) = inl k
+      which (inr k) = inr (inl k)
+
+      go : NameRefused (is_instance_tree t) fs n offset e → MemoryOrCausedBy All_checks offset e
       go (inl k) = inl k
-      go (inr k) = inr (inl k.0, k.1)
+      go (inr k) = inr (which k.0, k.1)
 
-  pub by_member : (f : Form) (e : Error) → Some f ≡ form_of n.name → (error_kind e ≡ kind.OutOfMemory) ⊎ ((error_kind e ≡ kind.MethodName) × (error_offset e ≡ offset) × (Follows ns es f t → ⊥)) → Refused ns fs es names info n t offset e
+  pub by_member : (f : Form) (e : Error) → Some f ≡ form_of n.name → (error_kind e ≡ kind.OutOfMemory) ⊎ ((error_kind e ≡ kind.MethodName) × (error_offset e ≡ offset) × (follows ns (entry_trees ts items) f t ≡ false))
+      → MemoryOrCausedBy (extern_checks ns fs (entry_trees ts items) info n t) offset e
   by_member f e q (inl k) = inl k
-  by_member f e q (inr k) = inr (inr (inl (k.0, (f, q, k.2))), k.1)
+  by_member f e q (inr k) = inr (inr (inr (inl (k.0, rule_is f false q k.2))), k.1)
 
-  pub by_conflict : (e : Error) → error_kind e ≡ kind.Conflict → error_offset e ≡ offset → conflicts names n.name ≡ true → Refused ns fs es names info n t offset e
-  by_conflict e k at c = inr (inr (inr (inl (k, c))), at)
+  pub by_conflict : (e : Error) → error_kind e ≡ kind.Conflict → error_offset e ≡ offset → conflicts (names_in items) n.name ≡ true → MemoryOrCausedBy (extern_checks ns fs (entry_trees ts items) info n t) offset e
+  by_conflict e k at c = inr (inr (inr (inr (inl (k, conflict_same ∙ c)))), at)
 
-  pub by_limit : (i : TypeInfo) (e : Error) → error_kind e ≡ kind.Limit → error_offset e ≡ offset → IsInfoOf i t → PassesLimit (combined info i) → Refused ns fs es names info n t offset e
-  by_limit i e k at is p = inr (inr (inr (inr (k, (i, is, p)))), at)
+  pub by_size : (e : Error) → MemoryOrCausedBy (too_large_with info t) offset e → MemoryOrCausedBy (extern_checks ns fs (entry_trees ts items) info n t) offset e
+  by_size e (inl k) = inl k
+  by_size e (inr k) = inr (inr (inr (inr (inr k.0))), k.1)
 
-  pub by_memory : (e : Error) → error_kind e ≡ kind.OutOfMemory → Refused ns fs es names info n t offset e
+  pub by_memory : (e : Error) → error_kind e ≡ kind.OutOfMemory → MemoryOrCausedBy (extern_checks ns fs (entry_trees ts items) info n t) offset e
   by_memory e k = inl k
-
-pub counted : (old new i : TypeInfo) (t : Type_tree) → IsInfoOf i t → new ≡ combined old i → IsWithinLimits (combined old i) → Counted old new t
-counted old new i t is w l = record { of = i; is = is; whole = w; within = l }
 
 -- the names with that of the entry
 pub keys_of_joined : (s : Key_set) (es fs : List (Text × ComponentItem)) (e : Text × ComponentItem) → fs ≡ es ++ e ∷ [] → HasKeys s (names_in es ++ e.0 ∷ []) → HasKeys s (names_in fs)

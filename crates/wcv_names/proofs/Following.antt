@@ -1,5 +1,6 @@
 -- Whether entities look as their names say.
-use Rattle.std.proofs.Common.{◌≡◌, ℕ, List, Bool, true, false, Option, Some, None, Decides, ◌-◌, arith, refl, sym, ap, ◌∙◌, subst, true≢false}
+use Rattle.std.proofs.Common.{◌≡◌, ℕ, List, Bool, true, false, ◌&&◌, Option, Some, None, Decides, ◌-◌, arith, refl, sym, ap, ◌∙◌, subst}
+use Rattle.std.proofs.lemmas.Bool.Decides.{same_from_decides}
 use Rattle.std.specs.Prelude.{slice_get, ◌<◌, length}
 use Rattle.wcv_syntax.specs.ExternName.{Access, call, get, set, Form, item, constructor, method, static, interface, is_formed, access_of, getter_of, written}
 use Rattle.wcv_syntax.specs.FormOf.{form_of}
@@ -17,27 +18,23 @@ use Rattle.wcv_types.specs.declared.shapes.ComponentEntityType.TheVariants as en
 use Rattle.wcv_types.specs.declared.shapes.ComponentFuncType.{ComponentFuncType}
 use Rattle.wcv_types.specs.declared.shapes.ComponentValType.TheVariants as v
 use Rattle.wcv_types.proofs.Unfolding.{sort_stands}
-use Rattle.wcv_names.specs.Externs.{Follows, is_set, is_instance_tree}
+use Rattle.wcv_names.specs.Externs.{is_set, is_instance_tree}
 use Rattle.wcv_names.specs.FuncTrees.{IsFunction, func_part, names_in}
 use Rattle.wcv_names.specs.KeySet.{Key_set, HasKeys, is_getter}
 use Rattle.wcv_names.specs.Places.{position_of}
 use Rattle.wcv_names.specs.ResourceNames.{Resource_names}
-use Rattle.wcv_names.specs.Rules.{Entries, function_fits, is_free, fits, gotten, taken, nearest, by_name, IsGiven, IsPairedBy, IsPaired}
+use Rattle.wcv_names.specs.Rules.{Entries, function_fits, is_free, fits, gotten, taken, nearest, by_name, is_given, is_paired_by, is_paired, follows}
 use Rattle.wcv_names.specs.Shapes.{option_tree, param_trees}
 use Rattle.wcv_names.proofs.FuncTrees.{function_looks, function_pairs, other_looks, other_pairs, entity_is_func}
+use Rattle.wcv_names.specs.SameValues.{alike}
+use Rattle.wcv_names.proofs.SameTrees.{alike-decides}
 use Rattle.wcv_names.proofs.Nearest.{Found, found, not_found, found_within}
-
-denied : (P : Type 0) → (P → ⊥) → Decides false P
-denied P h = (λ e. absurd (true≢false (sym e)), λ q. absurd (h q))
-
-granted : (P : Type 0) → P → Decides true P
-granted P h = (λ e. h, λ q. refl)
 
 -- ## Getters and setters
 
-pub pair_free : (a : Access) (t : Type_tree) (o : Option Type_tree) → is_set a ≡ false → Decides true (IsPairedBy a t o)
-pair_free call t o h = granted (IsPairedBy call t o) tt
-pair_free get t o h = granted (IsPairedBy get t o) tt
+pub pair_free : (a : Access) (t : Type_tree) (o : Option Type_tree) → is_set a ≡ false → true ≡ is_paired_by a t o
+pair_free call t o h = refl
+pair_free get t o h = refl
 pair_free set t o h = cc h
 
 pub is_setter-set : (a : Access) → is_set a ≡ true → a ≡ set
@@ -54,11 +51,10 @@ known_getter (constructor l) h e = cc e
 known_getter (interface n q i w) h e = cc e
 
 module _ (ts : List Type_tree) (f : Form) (formed : is_formed f ≡ true) (sets : access_of f ≡ set) (s : Key_set) (es : List (Text × ComponentItem)) (keys : HasKeys s (names_in es)) where
-  pub pair_none : (t : Type_tree) → position_of (written (getter_of f)) s.getters ≡ None → Decides false (IsPairedBy (access_of f) t (nearest (written (getter_of f)) (by_name (entry_trees ts es))))
+  pub pair_none : (t : Type_tree) → position_of (written (getter_of f)) s.getters ≡ None → false ≡ is_paired_by (access_of f) t (nearest (written (getter_of f)) (by_name (entry_trees ts es)))
   pair_none t h =
       let n = not_found ts (written (getter_of f)) 0 es (sym (keys.getters (written (getter_of f)) (known_getter f formed sets)) ∙ h) in
-      denied (IsPairedBy (access_of f) t (nearest (written (getter_of f)) (by_name (entry_trees ts es))))
-      (λ q. subst (IsGiven t) n (subst (λ (a : Access). IsPairedBy a t (nearest (written (getter_of f)) (by_name (entry_trees ts es)))) sets q))
+      sym (ap (λ (a : Access). is_paired_by a t (nearest (written (getter_of f)) (by_name (entry_trees ts es)))) sets ∙ ap (is_given t) n)
 
   pub getter_found : (k : ℕ) → position_of (written (getter_of f)) s.getters ≡ Some k → Found ts (written (getter_of f)) 0 es k
   getter_found k h = found ts (written (getter_of f)) 0 es k (sym (keys.getters (written (getter_of f)) (known_getter f formed sets)) ∙ h)
@@ -67,45 +63,40 @@ module _ (ts : List Type_tree) (f : Form) (formed : is_formed f ≡ true) (sets 
   getter_within k h = found_within ts (written (getter_of f)) es k (getter_found k h)
 
   pub pair_some : (k : ℕ) (w g t : Type_tree) (b : Bool) → position_of (written (getter_of f)) s.getters ≡ Some k → ((e : Text × ComponentItem) → slice_get es k ≡ Some e → g ≡ gotten (entity_tree ts e.1.ty)) → w ≡ t → Decides b (Alike w g)
-      → Decides b (IsPairedBy (access_of f) t (nearest (written (getter_of f)) (by_name (entry_trees ts es))))
+      → b ≡ is_paired_by (access_of f) t (nearest (written (getter_of f)) (by_name (entry_trees ts es)))
   pair_some k w g t b h gives takes d =
       let at = getter_found k h in
       let same : g ≡ gotten (entity_tree ts at.entry.1.ty) = gives at.entry (zero_less k at.entry at.there) in
-      let there : Decides b (IsGiven t (Some (entity_tree ts at.entry.1.ty))) = subst (λ (x : Type_tree). Decides b (Alike x (gotten (entity_tree ts at.entry.1.ty)))) takes (subst (λ (y : Type_tree). Decides b (Alike w y)) same d) in
-      subst (λ (a : Access). Decides b (IsPairedBy a t (nearest (written (getter_of f)) (by_name (entry_trees ts es))))) (sym sets)
-      (subst (λ (o : Option Type_tree). Decides b (IsGiven t o)) (sym at.is) there)
+      let there : b ≡ is_given t (Some (entity_tree ts at.entry.1.ty)) = same_from_decides b (alike w g) d (alike-decides w g) ∙ (λ j. alike (takes j) (same j)) in
+      there ∙ sym (ap (λ (a : Access). is_paired_by a t (nearest (written (getter_of f)) (by_name (entry_trees ts es)))) sets ∙ ap (is_given t) at.is)
     where
       zero_less : (k : ℕ) (e : Text × ComponentItem) → slice_get es (k - 0) ≡ Some e → slice_get es k ≡ Some e
       zero_less k e q = let z : k - 0 ≡ k = omega arith in ap (slice_get es) (sym z) ∙ q
 
 -- ## Entities
 
-follows_both : (ns : Resource_names) (es : Entries) (f : Form) (t : Type_tree) (b : Bool) → fits ns f t ≡ true → Decides b (IsPaired es f t) → Decides b (Follows ns es f t)
-follows_both ns es f t b h d = (λ e. record { looks = h; paired = d.0 e }, λ q. d.1 q.paired)
-
-follows_not : (ns : Resource_names) (es : Entries) (f : Form) (t : Type_tree) → fits ns f t ≡ false → Decides false (Follows ns es f t)
-follows_not ns es f t h = denied (Follows ns es f t) (λ q. true≢false (sym q.looks ∙ h))
-
 module _ (a : Arena) (x : ComponentEntityType) (ns : Resource_names) (es : Entries) (f : Form) where
   pub func_not : (i : ComponentFuncTypeId) (s : ComponentFuncType) → func_part x ≡ Some i → IsFunction a (tree_at a (p.Func i)) s → function_fits ns f s.async_ (param_trees a s.params.items) (option_tree a s.result) ≡ false
-      → Decides false (Follows ns es f (entity_tree (trees a.nodes) x))
+      → false ≡ follows ns es f (entity_tree (trees a.nodes) x)
   func_not i s e h k =
       let t : Type_tree = entity_tree (trees a.nodes) x in
-      follows_not ns es f t (function_looks a t s ns f (entity_is_func a x i s e h) ∙ k)
+      sym (ap (λ (b : Bool). b && is_paired es f t) (function_looks a t s ns f (entity_is_func a x i s e h) ∙ k))
 
   pub func_yes : (i : ComponentFuncTypeId) (s : ComponentFuncType) (b : Bool) → func_part x ≡ Some i → IsFunction a (tree_at a (p.Func i)) s → function_fits ns f s.async_ (param_trees a s.params.items) (option_tree a s.result) ≡ true
-      → Decides b (IsPairedBy (access_of f) (taken f (param_trees a s.params.items)) (nearest (written (getter_of f)) (by_name es))) → Decides b (Follows ns es f (entity_tree (trees a.nodes) x))
+      → b ≡ is_paired_by (access_of f) (taken f (param_trees a s.params.items)) (nearest (written (getter_of f)) (by_name es)) → b ≡ follows ns es f (entity_tree (trees a.nodes) x)
   func_yes i s b e h k d =
       let t : Type_tree = entity_tree (trees a.nodes) x in
       let is = entity_is_func a x i s e h in
-      follows_both ns es f t b (function_looks a t s ns f is ∙ k) (subst (Decides b) (sym (function_pairs a t s es f is)) d)
+      d ∙ sym (function_pairs a t s es f is) ∙ sym (ap (λ (c : Bool). c && is_paired es f t) (function_looks a t s ns f is ∙ k))
 
-  pub other_follows : (b : Bool) → EntityStands a x → func_part x ≡ None → b ≡ is_free f → Decides b (Follows ns es f (entity_tree (trees a.nodes) x))
-  other_follows b st e k = go b (other_looks a x ns f st e ∙ sym k)
+  pub other_follows : (b : Bool) → EntityStands a x → func_part x ≡ None → b ≡ is_free f → b ≡ follows ns es f (entity_tree (trees a.nodes) x)
+  other_follows b st e k =
+      let t : Type_tree = entity_tree (trees a.nodes) x in
+      k ∙ sym (ap (λ (c : Bool). fits ns f t && c) (other_pairs a x es f st e) ∙ and_true (fits ns f t) ∙ other_looks a x ns f st e)
     where
-      go : (b : Bool) → fits ns f (entity_tree (trees a.nodes) x) ≡ b → Decides b (Follows ns es f (entity_tree (trees a.nodes) x))
-      go true h = granted (Follows ns es f (entity_tree (trees a.nodes) x)) (record { looks = h; paired = other_pairs a x es f st e })
-      go false h = follows_not ns es f (entity_tree (trees a.nodes) x) h
+      and_true : (c : Bool) → (c && true) ≡ c
+      and_true true = refl
+      and_true false = refl
 
 -- ## Instances
 

@@ -19,7 +19,7 @@ use Rattle.wcv_types.specs.declared.shapes.ComponentValType.{ComponentValType}
 use Rattle.wcv_types.specs.declared.shapes.ComponentValType.TheVariants as v
 use Rattle.wcv_types.proofs.Unfolding.{all_left, all_right, sort_stands}
 use Rattle.wcv_names.specs.ResourceNames.{Resource_names}
-use Rattle.wcv_names.specs.Rules.{Params, Entries, params, gives, function_fits, is_free, fits, gotten, if_ok, taken, nearest, by_name, IsPairedBy, IsPaired}
+use Rattle.wcv_names.specs.Rules.{Params, Entries, params, gives, function_fits, is_free, fits, gotten, if_ok, taken, nearest, by_name, is_paired_by, is_paired}
 use Rattle.wcv_names.specs.Shapes.{option_tree, OptionStands, param_trees, ParamsStand, FuncStands, rest_of}
 use Rattle.wcv_names.specs.FuncTrees.{IsFunction, func_part}
 
@@ -83,9 +83,9 @@ pub function_gives : (a : Arena) (t : Type_tree) (s : ComponentFuncType) → IsF
 function_gives a t s h = sym (ap gotten h.1 ∙ ap if_ok (gives_is a s.params.items (option_slot s.result)))
 
 -- what it is for the function to be paired with the getter before it
-pub function_pairs : (a : Arena) (t : Type_tree) (s : ComponentFuncType) (es : Entries) (f : Form) → IsFunction a t s → IsPaired es f t ≡ IsPairedBy (access_of f) (taken f (param_trees a s.params.items)) (nearest (written (getter_of f)) (by_name es))
+pub function_pairs : (a : Arena) (t : Type_tree) (s : ComponentFuncType) (es : Entries) (f : Form) → IsFunction a t s → is_paired es f t ≡ is_paired_by (access_of f) (taken f (param_trees a s.params.items)) (nearest (written (getter_of f)) (by_name es))
 function_pairs a t s es f h =
-    ap (IsPaired es f) h.1 ∙ ap (λ (ps : Params). IsPairedBy (access_of f) (taken f ps) (nearest (written (getter_of f)) (by_name es))) (params_are a s.params.items (option_slot s.result))
+    ap (is_paired es f) h.1 ∙ ap (λ (ps : Params). is_paired_by (access_of f) (taken f ps) (nearest (written (getter_of f)) (by_name es))) (params_are a s.params.items (option_slot s.result))
 
 -- ## What is no function
 
@@ -109,15 +109,15 @@ value_gives (node (instance i own) ps) h = refl
 value_gives (node (component i x y) ps) h = refl
 value_gives (node type_entity ps) h = refl
 
-value_pairs : (t : Type_tree) (es : Entries) (f : Form) → sort t ≡ is_value → IsPaired es f t
+value_pairs : (t : Type_tree) (es : Entries) (f : Form) → sort t ≡ is_value → is_paired es f t ≡ true
 value_pairs (node (func i b) ps) es f h = cc h
-value_pairs (node nothing ps) es f h = tt
-value_pairs (node (primitive q) ps) es f h = tt
-value_pairs (node (resource r s) ps) es f h = tt
-value_pairs (node (defined i k) ps) es f h = tt
-value_pairs (node (instance i own) ps) es f h = tt
-value_pairs (node (component i x y) ps) es f h = tt
-value_pairs (node type_entity ps) es f h = tt
+value_pairs (node nothing ps) es f h = refl
+value_pairs (node (primitive q) ps) es f h = refl
+value_pairs (node (resource r s) ps) es f h = refl
+value_pairs (node (defined i k) ps) es f h = refl
+value_pairs (node (instance i own) ps) es f h = refl
+value_pairs (node (component i x y) ps) es f h = refl
+value_pairs (node type_entity ps) es f h = refl
 
 pub other_looks : (a : Arena) (x : ComponentEntityType) (ns : Resource_names) (f : Form) → EntityStands a x → func_part x ≡ None → fits ns f (entity_tree (trees a.nodes) x) ≡ is_free f
 other_looks a (entity.Func i) ns f h e = cc e
@@ -137,12 +137,12 @@ other_gives a (entity.Ty c r) h e = refl
 other_gives a (entity.Instance i) h e = absurd h
 other_gives a (entity.Component i) h e = absurd h
 
-pub other_pairs : (a : Arena) (x : ComponentEntityType) (es : Entries) (f : Form) → EntityStands a x → func_part x ≡ None → IsPaired es f (entity_tree (trees a.nodes) x)
+pub other_pairs : (a : Arena) (x : ComponentEntityType) (es : Entries) (f : Form) → EntityStands a x → func_part x ≡ None → is_paired es f (entity_tree (trees a.nodes) x) ≡ true
 other_pairs a (entity.Func i) es f h e = cc e
 other_pairs a (entity.Module i) es f h e = absurd h
-other_pairs a (entity.Value (v.Primitive q)) es f h e = tt
+other_pairs a (entity.Value (v.Primitive q)) es f h e = refl
 other_pairs a (entity.Value (v.Ty i)) es f h e = value_pairs (tree_at a (p.Defined i)) es f (sort_stands a (p.Defined i) h)
-other_pairs a (entity.Ty c r) es f h e = tt
+other_pairs a (entity.Ty c r) es f h e = refl
 other_pairs a (entity.Instance i) es f h e = absurd h
 other_pairs a (entity.Component i) es f h e = absurd h
 

@@ -4,6 +4,7 @@ pub mod Shaping
 pub mod NameRules
 pub mod KeySets
 pub mod FuncTrees
+pub mod SameTrees
 pub mod Nearest
 pub mod Following
 pub mod Entering

@@ -1,5 +1,6 @@
 pub mod Places
 pub mod ResourceNames
+pub mod SameValues
 pub mod Rules
 pub mod Shapes
 pub mod WholeNames

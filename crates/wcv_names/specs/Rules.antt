@@ -3,10 +3,10 @@ use Rattle.std.specs.Prelude.{List, [], ◌∷◌, map, Bool, true, false, not, 
 use Rattle.wcv_core.specs.Names.{Name}
 use Rattle.wcv_core.specs.Label.{is_among}
 use Rattle.wcv_syntax.specs.ExternName.{Access, call, get, set, Form, item, constructor, method, static, interface, access_of, getter_of, written}
-use Rattle.wcv_types.specs.Alike.{Alike}
 use Rattle.wcv_types.specs.Tree.{Text, Extern_name, nothing, defined, func, own_of, borrow_of, result_of, label, node, Parts, none, part, first_part}
 use Rattle.wcv_types.specs.Unfold.{Type_tree, left_out}
 use Rattle.wcv_names.specs.ResourceNames.{Resource_names, is_named_so}
+use Rattle.wcv_names.specs.SameValues.{alike}
 
 -- ## Types of values
 
@@ -117,16 +117,20 @@ abbrev pub taken : Form → Params → Type_tree
 taken (method a r f) ps = first_type (rest ps)
 taken f ps = first_type ps
 
-abbrev pub IsGiven : Type_tree → Option Type_tree → Type 0
-IsGiven t None = ⊥
-IsGiven t (Some g) = Alike t (gotten g)
+abbrev pub is_given : Type_tree → Option Type_tree → Bool
+is_given t None = false
+is_given t (Some g) = alike t (gotten g)
 
-abbrev pub IsPairedBy : Access → Type_tree → Option Type_tree → Type 0
-IsPairedBy call t o = Unit {0}
-IsPairedBy get t o = Unit {0}
-IsPairedBy set t o = IsGiven t o
+abbrev pub is_paired_by : Access → Type_tree → Option Type_tree → Bool
+is_paired_by call t o = true
+is_paired_by get t o = true
+is_paired_by set t o = is_given t o
 
 -- a setter takes what the getter of the same spelling gives that stands before it
-abbrev pub IsPaired : Entries → Form → Type_tree → Type 0
-IsPaired es f (node (func i async) ps) = IsPairedBy (access_of f) (taken f (params ps)) (nearest (written (getter_of f)) (by_name es))
-IsPaired es f t = Unit {0}
+abbrev pub is_paired : Entries → Form → Type_tree → Bool
+is_paired es f (node (func i async) ps) = is_paired_by (access_of f) (taken f (params ps)) (nearest (written (getter_of f)) (by_name es))
+is_paired es f t = true
+
+-- what has the name looks as the name says, also beside the getter before it
+abbrev pub follows : Resource_names → Entries → Form → Type_tree → Bool
+follows ns es f t = fits ns f t && is_paired es f t

@@ -11,8 +11,8 @@ use Rattle.wcv_syntax.specs.Versions.{is_versioned}
 use Rattle.wcv_syntax.specs.declared.name.ComponentExternName.{ComponentExternName}
 use Rattle.wcv_types.specs.Tree.{Text, Extern_name}
 
-abbrev pub whole_name : ComponentExternName → Extern_name
-whole_name n = record { name = n.name; implements = n.implements; version_suffix = n.version_suffix; external_id = n.external_id }
+abbrev pub extern_name : ComponentExternName → Extern_name
+extern_name n = record { name = n.name; implements = n.implements; version_suffix = n.version_suffix; external_id = n.external_id }
 
 -- ## Forms
 

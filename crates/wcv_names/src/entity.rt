@@ -1,10 +1,12 @@
 // Entities, as entries of a list.
-ghost use Rattle.std.specs.Prelude.{◌≡◌};
+ghost use Rattle.std.specs.Prelude.{◌≡◌, OnOk, IfOk, IfErr};
+ghost use Rattle.wcv_core.specs.Checks.{IsFree, MemoryOrCausedBy};
 ghost use Rattle.wcv_types.specs.Entities.{entity_tree, EntityStands, any_part};
 ghost use Rattle.wcv_types.specs.Standing.{Stands};
 ghost use Rattle.wcv_types.specs.Unfold.{tree_at, trees, IsInfoOf};
-ghost use Rattle.wcv_names.specs.Externs.{is_instance_tree};
+ghost use Rattle.wcv_names.specs.Externs.{is_instance_tree, too_large_with, with_entry};
 
+use wcv_core::Error;
 use wcv_types::{
     ComponentAnyTypeId, ComponentEntityType, ComponentValType, TypeAlloc, TypeInfo, TypeSort,
 };
@@ -35,7 +37,7 @@ fn any_info(id: ComponentAnyTypeId, types: &TypeAlloc) -> TypeInfo
 }
 
 /// The size and the depth of an entity.
-pub fn entity_info(ty: &ComponentEntityType, types: &TypeAlloc) -> TypeInfo
+fn entity_info(ty: &ComponentEntityType, types: &TypeAlloc) -> TypeInfo
     requires { EntityStands types.now ty.now }
     ensures { IsInfoOf result (entity_tree (trees types.now.nodes) ty.now) }
 {
@@ -51,4 +53,22 @@ pub fn entity_info(ty: &ComponentEntityType, types: &TypeAlloc) -> TypeInfo
         ComponentEntityType::Instance(_) => unreachable!(),
         ComponentEntityType::Component(_) => unreachable!(),
     }
+}
+
+/// The size and the depth of what is made, with one more entry. Refuses as `Limit` what becomes too large or
+/// too deep.
+pub fn measured(
+    info: TypeInfo,
+    ty: &ComponentEntityType,
+    types: &TypeAlloc,
+    offset: u64,
+) -> Result<TypeInfo, Error>
+    requires { EntityStands types.now ty.now }
+    ensures info { IfOk result (λ i. i ≡ with_entry info (entity_tree (trees types.now.nodes) ty.now)) }
+    ensures ok { OnOk result (IsFree (too_large_with info (entity_tree (trees types.now.nodes) ty.now))) }
+    ensures err { IfErr result (MemoryOrCausedBy (too_large_with info (entity_tree (trees types.now.nodes) ty.now)) offset) }
+{
+    let mut whole = info;
+    whole.combine(entity_info(ty, types), offset)?;
+    Ok(whole)
 }

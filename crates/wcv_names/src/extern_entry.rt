@@ -1,15 +1,16 @@
 // Entries that join a list of imports or of exports.
 ghost use Rattle.std.specs.Prelude.{◌≡◌, ◌∷◌, ◌++◌, [], All, OnOk, OnErr, IfOk, IfErr};
+ghost use Rattle.wcv_core.specs.Checks.{IsFree, MemoryOrCausedBy};
 ghost use Rattle.wcv_types.specs.Entities.{entity_tree, entry_trees, EntityStands, EntryStands};
 ghost use Rattle.wcv_types.specs.Unfold.{trees};
-ghost use Rattle.wcv_names.specs.Externs.{MayJoin, Counted, Refused, entry_of};
+ghost use Rattle.wcv_names.specs.Externs.{extern_checks, with_entry, entry_of};
 ghost use Rattle.wcv_names.specs.FuncTrees.{names_in};
 ghost use Rattle.wcv_names.specs.KeySet.{HasKeys};
 ghost use Rattle.wcv_names.specs.ResourceNames.{names_of};
-ghost use Rattle.wcv_names.specs.WholeNames.{whole_name};
+ghost use Rattle.wcv_names.specs.WholeNames.{extern_name};
 
 use crate::context::ComponentNameContext;
-use crate::entity::{entity_info, is_instance};
+use crate::entity::{is_instance, measured};
 use crate::name_set::NameSet;
 use crate::whole_name::check_whole_name;
 use std::alloc::Global;
@@ -54,11 +55,11 @@ fn new_entry(
 }
 
 impl ComponentNameContext {
-    #[tactic(auto, using(crate::proofs::Entering::key_new, crate::proofs::Entering::key_taken, crate::proofs::Entering::may_join, crate::proofs::Entering::by_name, crate::proofs::Entering::by_member, crate::proofs::Entering::by_conflict, crate::proofs::Entering::by_limit, crate::proofs::Entering::by_memory, crate::proofs::Entering::counted))]
     /// Whether an entity may join a list under a whole name. The set of keys gets that of the name, and the
     /// size and the depth those of the entity; after a refusal they may have it or not. Refuses as `Name`
     /// and `Feature` what the name itself may not be, as `MethodName` an entity that does not look as the
     /// name says, as `Conflict` a key that is taken, as `Limit` what becomes too large.
+    #[tactic(auto, using(crate::proofs::Entering::key_new, crate::proofs::Entering::key_taken, crate::proofs::Entering::may_join, crate::proofs::Entering::by_name, crate::proofs::Entering::by_member, crate::proofs::Entering::by_conflict, crate::proofs::Entering::by_size, crate::proofs::Entering::by_memory))]
     pub fn check_extern(
         &self,
         name: &ComponentExternName,
@@ -74,10 +75,10 @@ impl ComponentNameContext {
         requires entity { EntityStands types.now ty.now }
         requires items { All (EntryStands types.now) items.now }
         requires keys { HasKeys kind_names.old (names_in items.now) }
-        ensures ok { OnOk result (MayJoin (names_of self.now) features.now (entry_trees (trees types.now.nodes) items.now) (names_in items.now) (whole_name name.now) (entity_tree (trees types.now.nodes) ty.now)) }
+        ensures ok { OnOk result (IsFree (extern_checks (names_of self.now) features.now (entry_trees (trees types.now.nodes) items.now) info.old (extern_name name.now) (entity_tree (trees types.now.nodes) ty.now))) }
         ensures keys { OnOk result (HasKeys kind_names.new (names_in items.now ++ name.now.name ∷ [])) }
-        ensures info { OnOk result (Counted info.old info.new (entity_tree (trees types.now.nodes) ty.now)) }
-        ensures err { IfErr result (Refused (names_of self.now) features.now (entry_trees (trees types.now.nodes) items.now) (names_in items.now) info.old (whole_name name.now) (entity_tree (trees types.now.nodes) ty.now) offset) }
+        ensures info { OnOk result (info.new ≡ with_entry info.old (entity_tree (trees types.now.nodes) ty.now)) }
+        ensures err { IfErr result (MemoryOrCausedBy (extern_checks (names_of self.now) features.now (entry_trees (trees types.now.nodes) items.now) info.old (extern_name name.now) (entity_tree (trees types.now.nodes) ty.now)) offset) }
     {
         let text = name.name.as_str();
         let form = match check_whole_name(
@@ -103,9 +104,10 @@ impl ComponentNameContext {
                 ),
             ));
         }
-        info.combine(entity_info(ty, types), offset)?;
+        *info = measured(*info, ty, types, offset)?;
         Ok(())
     }
+
     /// An entity joins a list under a whole name, as `check_extern` says. After a refusal the list is as it
     /// was.
     #[tactic(auto, using(crate::proofs::Entering::keys_of_joined))]
@@ -124,11 +126,11 @@ impl ComponentNameContext {
         requires entity { EntityStands types.now ty.now }
         requires items { All (EntryStands types.now) items.old }
         requires keys { HasKeys kind_names.old (names_in items.old) }
-        ensures ok { OnOk result (MayJoin (names_of self.now) features.now (entry_trees (trees types.now.nodes) items.old) (names_in items.old) (whole_name name.now) (entity_tree (trees types.now.nodes) ty.now)) }
+        ensures ok { OnOk result (IsFree (extern_checks (names_of self.now) features.now (entry_trees (trees types.now.nodes) items.old) info.old (extern_name name.now) (entity_tree (trees types.now.nodes) ty.now))) }
         ensures joined { OnOk result (items.new ≡ items.old ++ entry_of name.now ty.now ∷ []) }
         ensures keys { OnOk result (HasKeys kind_names.new (names_in items.new)) }
-        ensures info { OnOk result (Counted info.old info.new (entity_tree (trees types.now.nodes) ty.now)) }
-        ensures err { IfErr result (Refused (names_of self.now) features.now (entry_trees (trees types.now.nodes) items.old) (names_in items.old) info.old (whole_name name.now) (entity_tree (trees types.now.nodes) ty.now) offset) }
+        ensures info { OnOk result (info.new ≡ with_entry info.old (entity_tree (trees types.now.nodes) ty.now)) }
+        ensures err { IfErr result (MemoryOrCausedBy (extern_checks (names_of self.now) features.now (entry_trees (trees types.now.nodes) items.old) info.old (extern_name name.now) (entity_tree (trees types.now.nodes) ty.now)) offset) }
         ensures kept { OnErr result (items.new ≡ items.old) }
     {
         self.check_extern(

@@ -1,6 +1,5 @@
 // Whether an entity looks as its name says.
-ghost use Rattle.std.specs.Prelude.{◌≡◌, ◌⊎◌, ◌<◌, List, length, slice_get, All, Some, true, OnOk, IfOk, IfErr};
-ghost use Rattle.std.specs.Bool.{Decides};
+ghost use Rattle.std.specs.Prelude.{◌≡◌, ◌⊎◌, ◌<◌, List, length, slice_get, All, Some, true, false, OnOk, IfOk, IfErr};
 ghost use Rattle.wcv_core.specs.Refusal.{error_kind, error_offset};
 ghost use Rattle.wcv_core.specs.declared.error.ErrorKind.TheVariants as kinds;
 ghost use Rattle.wcv_syntax.specs.ExternName.{is_formed, access_of, getter_of, written};
@@ -9,12 +8,12 @@ ghost use Rattle.wcv_types.specs.Entities.{entity_tree, entry_trees, EntityStand
 ghost use Rattle.wcv_types.specs.Tree.{Text as Name_text};
 ghost use Rattle.wcv_types.specs.Unfold.{trees};
 ghost use Rattle.wcv_types.specs.declared.item_map.ComponentItem.{ComponentItem};
-ghost use Rattle.wcv_names.specs.Externs.{Follows, is_set};
+ghost use Rattle.wcv_names.specs.Externs.{is_set};
 ghost use Rattle.wcv_names.specs.FuncTrees.{names_in};
 ghost use Rattle.wcv_names.specs.KeySet.{HasKeys};
 ghost use Rattle.wcv_names.specs.ResourceNames.{names_of};
 ghost use Rattle.wcv_names.specs.Rules as rules;
-ghost use Rattle.wcv_names.specs.Rules.{nearest, by_name};
+ghost use Rattle.wcv_names.specs.Rules.{nearest, by_name, follows};
 ghost use Rattle.wcv_names.specs.Shapes.{option_tree, OptionStands, param_trees, FuncStands};
 
 use crate::context::ComponentNameContext;
@@ -71,7 +70,7 @@ fn is_paired(
     requires func { FuncStands types.now func.now }
     requires items { All (EntryStands types.now) items.now }
     requires keys { HasKeys names.now (names_in items.now) }
-    ensures { IfOk result (λ b. Decides b (rules.IsPairedBy (access_of (kind_view kind.now)) (rules.taken (kind_view kind.now) (param_trees types.now func.now.params.items)) (nearest (written (getter_of (kind_view kind.now))) (by_name (entry_trees (trees types.now.nodes) items.now))))) }
+    ensures { IfOk result (λ b. b ≡ rules.is_paired_by (access_of (kind_view kind.now)) (rules.taken (kind_view kind.now) (param_trees types.now func.now.params.items)) (nearest (written (getter_of (kind_view kind.now))) (by_name (entry_trees (trees types.now.nodes) items.now)))) }
 {
     if !is_setter(kind) {
         return Ok(true);
@@ -99,7 +98,7 @@ impl ComponentNameContext {
         requires entity { EntityStands types.now ty.now }
         requires items { All (EntryStands types.now) items.now }
         requires keys { HasKeys names.now (names_in items.now) }
-        ensures { IfOk result (λ b. Decides b (Follows (names_of self.now) (entry_trees (trees types.now.nodes) items.now) (kind_view kind.now) (entity_tree (trees types.now.nodes) ty.now))) }
+        ensures { IfOk result (λ b. b ≡ follows (names_of self.now) (entry_trees (trees types.now.nodes) items.now) (kind_view kind.now) (entity_tree (trees types.now.nodes) ty.now)) }
     {
         match func_part(ty) {
             Some(id) => {
@@ -131,8 +130,8 @@ impl ComponentNameContext {
         requires entity { EntityStands types.now ty.now }
         requires items { All (EntryStands types.now) items.now }
         requires keys { HasKeys names.now (names_in items.now) }
-        ensures ok { OnOk result (Follows (names_of self.now) (entry_trees (trees types.now.nodes) items.now) (kind_view kind.now) (entity_tree (trees types.now.nodes) ty.now)) }
-        ensures err { IfErr result (λ e. (error_kind e ≡ kinds.OutOfMemory) ⊎ ((error_kind e ≡ kinds.MethodName) × (error_offset e ≡ offset) × (Follows (names_of self.now) (entry_trees (trees types.now.nodes) items.now) (kind_view kind.now) (entity_tree (trees types.now.nodes) ty.now) → ⊥))) }
+        ensures ok { OnOk result (follows (names_of self.now) (entry_trees (trees types.now.nodes) items.now) (kind_view kind.now) (entity_tree (trees types.now.nodes) ty.now) ≡ true) }
+        ensures err { IfErr result (λ e. (error_kind e ≡ kinds.OutOfMemory) ⊎ ((error_kind e ≡ kinds.MethodName) × (error_offset e ≡ offset) × (follows (names_of self.now) (entry_trees (trees types.now.nodes) items.now) (kind_view kind.now) (entity_tree (trees types.now.nodes) ty.now) ≡ false))) }
     {
         if !self.follows(kind, ty, names, items, types)? {
             let word = list.desc();

@@ -7,7 +7,7 @@ ghost use Rattle.wcv_syntax.specs.FormOf.{form_of};
 ghost use Rattle.wcv_syntax.specs.NameViews.{kind_view};
 ghost use Rattle.wcv_syntax.specs.Versions.{is_versioned};
 ghost use Rattle.wcv_names.specs.WholeNames as rules;
-ghost use Rattle.wcv_names.specs.WholeNames.{whole_name, NameRefused};
+ghost use Rattle.wcv_names.specs.WholeNames.{extern_name, NameRefused};
 
 use bitflags::Flags;
 use std::alloc::Global;
@@ -76,9 +76,9 @@ fn check_suffix(
     features: &WasmFeatures,
 ) -> Result<(), Error>
     requires { Some (kind_view kind.now) ≡ form_of name.now.name }
-    ensures rule { OnOk result (rules.bad_suffix is_instance (whole_name name.now) ≡ false) }
-    ensures feature { OnOk result (rules.lacks_canon_names features.now (whole_name name.now) ≡ false) }
-    ensures err { IfErr result (NameRefused is_instance features.now (whole_name name.now) offset) }
+    ensures rule { OnOk result (rules.bad_suffix is_instance (extern_name name.now) ≡ false) }
+    ensures feature { OnOk result (rules.lacks_canon_names features.now (extern_name name.now) ≡ false) }
+    ensures err { IfErr result (NameRefused is_instance features.now (extern_name name.now) offset) }
 {
     let suffix = match suffix_of(name) {
         Some(suffix) => suffix,
@@ -112,9 +112,9 @@ fn check_implements(
     features: &WasmFeatures,
 ) -> Result<(), Error>
     requires { Some (kind_view kind.now) ≡ form_of name.now.name }
-    ensures rule { OnOk result (rules.bad_implements is_instance (whole_name name.now) ≡ false) }
-    ensures feature { OnOk result (rules.lacks_implements features.now (whole_name name.now) ≡ false) }
-    ensures err { IfErr result (NameRefused is_instance features.now (whole_name name.now) offset) }
+    ensures rule { OnOk result (rules.bad_implements is_instance (extern_name name.now) ≡ false) }
+    ensures feature { OnOk result (rules.lacks_implements features.now (extern_name name.now) ≡ false) }
+    ensures err { IfErr result (NameRefused is_instance features.now (extern_name name.now) offset) }
 {
     let has = features.contains(WasmFeatures::CM_IMPLEMENTS);
     if name.external_id.is_some() && !has {
@@ -200,8 +200,8 @@ fn check_version<'a>(
     features: &WasmFeatures,
 ) -> Result<(), Error>
     requires { Some (kind_view kind.now) ≡ form_of name.now.name }
-    ensures rule { OnOk result (rules.bad_version (whole_name name.now) ≡ false) }
-    ensures err { IfErr result (NameRefused is_instance features.now (whole_name name.now) offset) }
+    ensures rule { OnOk result (rules.bad_version (extern_name name.now) ≡ false) }
+    ensures err { IfErr result (NameRefused is_instance features.now (extern_name name.now) offset) }
 {
     let _ = features;
     let suffix = suffix_of(name);
@@ -224,9 +224,9 @@ pub fn check_whole_name<'a>(
     features: &WasmFeatures,
 ) -> Result<ComponentNameKind<'a>, Error>
     ensures kind { IfOk result (λ k. Some (kind_view k) ≡ form_of name.now.name) }
-    ensures rule { OnOk result (rules.is_bad_name is_instance (whole_name name.now) ≡ false) }
-    ensures feature { OnOk result (rules.lacks_feature features.now (whole_name name.now) ≡ false) }
-    ensures err { IfErr result (NameRefused is_instance features.now (whole_name name.now) offset) }
+    ensures rule { OnOk result (rules.is_bad_name is_instance (extern_name name.now) ≡ false) }
+    ensures feature { OnOk result (rules.lacks_feature features.now (extern_name name.now) ≡ false) }
+    ensures err { IfErr result (NameRefused is_instance features.now (extern_name name.now) offset) }
 {
     let kind = match checked_kind(name.name.as_str(), offset, features) {
         Ok(kind) => kind,

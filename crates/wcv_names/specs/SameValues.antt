@@ -1,0 +1,86 @@
+-- Whether two value types are the same, identities aside.
+use Rattle.std.specs.Prelude.{ℕ, List, Bool, true, false, ◌&&◌, eqb, beq, bytes_eq}
+use Rattle.std.specs.Option.{option_eq}
+use Rattle.std.specs.Cmp.{pointwise}
+use Rattle.wcv_core.specs.Names.{Name, same}
+use Rattle.wcv_core.specs.declared.primitive.PrimitiveValType.{PrimitiveValType}
+use Rattle.wcv_core.specs.declared.primitive.PrimitiveValType.TheVariants as prim
+use Rattle.wcv_types.specs.Alike.{form_number, form_primitive, form_length, form_names}
+use Rattle.wcv_types.specs.Seen.{Within, outer, inner, seen}
+use Rattle.wcv_types.specs.Tree.{Former, Extern_name, Head, nothing, primitive, resource, defined, func, instance, component, type_entity, Role, here, label, import, export, Tree, node, Parts, none, part}
+use Rattle.wcv_types.specs.Unfold.{Type_tree}
+
+-- ## Heads, as they are seen
+
+abbrev pub primitive_number : PrimitiveValType → ℕ
+primitive_number prim.Bool = 0
+primitive_number prim.S8 = 1
+primitive_number prim.U8 = 2
+primitive_number prim.S16 = 3
+primitive_number prim.U16 = 4
+primitive_number prim.S32 = 5
+primitive_number prim.U32 = 6
+primitive_number prim.S64 = 7
+primitive_number prim.U64 = 8
+primitive_number prim.F32 = 9
+primitive_number prim.F64 = 10
+primitive_number prim.Char = 11
+primitive_number prim.String = 12
+primitive_number prim.ErrorContext = 13
+
+abbrev pub same_primitive : PrimitiveValType → PrimitiveValType → Bool
+same_primitive p q = eqb (primitive_number p) (primitive_number q)
+
+abbrev pub same_within : Within Name → Within Name → Bool
+same_within (outer a) (outer b) = same a b
+same_within (inner a) (inner b) = same a b
+same_within _ _ = false
+
+abbrev pub same_former : Former → Former → Bool
+same_former j k =
+    eqb (form_number j) (form_number k) && (option_eq same_primitive (form_primitive j) (form_primitive k)
+    && (eqb (form_length j) (form_length k) && pointwise bytes_eq (form_names j) (form_names k)))
+
+-- a resource with its path
+abbrev pub same_listed : Within Name × List ℕ → Within Name × List ℕ → Bool
+same_listed p q = same_within p.0 q.0 && bytes_eq p.1 q.1
+
+abbrev pub same_head : Head (Within Name) (Unit {0}) → Head (Within Name) (Unit {0}) → Bool
+same_head nothing nothing = true
+same_head (primitive p) (primitive q) = same_primitive p q
+same_head (resource a s) (resource b t) = same_within a b
+same_head (defined i j) (defined l k) = same_former j k
+same_head (func i a) (func l b) = beq a b
+same_head (instance i own) (instance l others) = pointwise same_within own others
+same_head (component i ins outs) (component l sins souts) = pointwise same_listed ins sins && pointwise same_listed outs souts
+same_head type_entity type_entity = true
+same_head _ _ = false
+
+-- ## Roles
+
+abbrev pub same_name : Extern_name → Extern_name → Bool
+same_name m n =
+    bytes_eq m.name n.name && (option_eq bytes_eq m.implements n.implements
+    && (option_eq bytes_eq m.version_suffix n.version_suffix && option_eq bytes_eq m.external_id n.external_id))
+
+abbrev pub same_role : Role → Role → Bool
+same_role here here = true
+same_role (label l) (label m) = bytes_eq l m
+same_role (import m) (import n) = same_name m n
+same_role (export m) (export n) = same_name m n
+same_role _ _ = false
+
+-- ## Trees
+
+abbrev mutual
+  pub same_tree : Tree (Within Name) (Unit {0}) → Tree (Within Name) (Unit {0}) → Bool
+  same_tree (node h ps) (node g qs) = same_head h g && same_parts ps qs
+
+  pub same_parts : Parts (Within Name) (Unit {0}) → Parts (Within Name) (Unit {0}) → Bool
+  same_parts none none = true
+  same_parts (part r t ps) (part q s qs) = same_role r q && (same_tree t s && same_parts ps qs)
+  same_parts _ _ = false
+
+-- they look alike
+abbrev pub alike : Type_tree → Type_tree → Bool
+alike s t = same_tree (seen outer s) (seen outer t)
