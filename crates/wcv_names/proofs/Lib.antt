@@ -1,5 +1,6 @@
 pub mod Placing
 pub mod ById
+pub mod ByNames
 pub mod Shaping
 pub mod NameRules
 pub mod KeySets

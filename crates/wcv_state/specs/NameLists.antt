@@ -5,8 +5,6 @@ use Rattle.wcv_state.specs.declared.labels.NameList.{NameList}
 use Rattle.wcv_state.specs.declared.labels.NameList.TheVariants as list
 
 abbrev pub list_names : NameList → List Text
-list_names (list.Imports m) = map (λ e. e.0) m.now
-list_names (list.Exports m) = map (λ e. e.0) m.now
 list_names (list.Params ps) = map (λ p. p.0) ps.now
 list_names (list.Fields fs) = map (λ f. f.0) fs.now
 list_names (list.Cases cs) = map (λ c. c.name) cs.now

@@ -2,9 +2,8 @@
 use crate::component_type::{ComponentType, ComponentTypeRef};
 use crate::instance::ComponentExternalKind;
 use crate::item::ItemForm;
-use crate::name::{ComponentExport, ComponentExternName, ComponentImport};
+use crate::name::{ComponentExport, ComponentImport};
 use std::fmt;
-use wcv_core::Excerpt;
 
 /// Shows which bodies of a form of items are read, for a body that is none of them.
 #[derive(Clone, Copy)]
@@ -58,23 +57,6 @@ impl fmt::Display for TypeForm<'_> {
     }
 }
 
-/// What of a name is not built, if anything is.
-fn name_form(name: &ComponentExternName) -> Option<&'static str> {
-    let bytes = name.name.as_str().as_bytes();
-    if bytes.iter().any(|b| *b == b'[') {
-        Some("names with `[` are not built yet")
-    } else if bytes.iter().any(|b| *b == b':') {
-        Some("names with `:` are not built yet")
-    } else if name.implements.is_some()
-        || name.version_suffix.is_some()
-        || name.external_id.is_some()
-    {
-        Some("texts beside a name are not built yet")
-    } else {
-        None
-    }
-}
-
 /// What the imports of that type are called.
 fn ref_word(ty: &ComponentTypeRef) -> &'static str {
     match ty {
@@ -101,29 +83,17 @@ fn sort_word(sort: ComponentExternalKind) -> &'static str {
 
 impl fmt::Display for ImportForm<'_> {
     fn fmt<W: fmt::Write>(&self, f: &mut fmt::Formatter<W>) -> fmt::Result {
-        let name = Excerpt(self.0.name.name.as_str());
-        match name_form(&self.0.name) {
-            Some(form) => write!(f, "import name `{name}`: {form}"),
-            None => {
-                let word = ref_word(&self.0.ty);
-                write!(f, "imports of {word} are not built yet")
-            }
-        }
+        let word = ref_word(&self.0.ty);
+        write!(f, "imports of {word} are not built yet")
     }
 }
 
 impl fmt::Display for ExportForm<'_> {
     fn fmt<W: fmt::Write>(&self, f: &mut fmt::Formatter<W>) -> fmt::Result {
-        let name = Excerpt(self.0.name.name.as_str());
-        match name_form(&self.0.name) {
-            Some(form) => write!(f, "export name `{name}`: {form}"),
-            None if self.0.ty.is_some() => {
-                f.write_str("exports with a written type are not built yet")
-            }
-            None => {
-                let word = sort_word(self.0.kind);
-                write!(f, "exports of {word} are not built yet")
-            }
+        if self.0.ty.is_some() {
+            return f.write_str("exports with a written type are not built yet");
         }
+        let word = sort_word(self.0.kind);
+        write!(f, "exports of {word} are not built yet")
     }
 }

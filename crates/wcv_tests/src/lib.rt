@@ -17,6 +17,8 @@ mod faults;
 #[cfg(test)]
 mod messages;
 #[cfg(test)]
+mod names;
+#[cfg(test)]
 mod outside;
 #[cfg(test)]
 mod resources;

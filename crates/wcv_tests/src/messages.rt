@@ -24,17 +24,11 @@ A form that is not built (a record type).
 => refused Unbuilt at 5
 item 0: the body of this "type" is none of {"func": {"params": [[NAME, TYPE], ..], "result": TYPE, "async": BOOL}}, {"defined": DEFINED} and {"resource": {"rep": CORE-TYPE}}; no other is built yet
 
-A name with `:`.
-T
-{"at":1,"import":{"name":"wasi:io/streams","type":{"func":0}}}
-=> refused Unbuilt at 1
-item 1: import name `wasi:io/streams`: names with `:` are not built yet
-
-A name with `[`.
+A method with no parameter.
 TI
 {"at":2,"export":{"name":"[method]a.b","sort":"func","index":0}}
-=> refused Unbuilt at 2
-item 2: export name `[method]a.b`: names with `[` are not built yet
+=> refused MethodName at 2
+item 2: export `[method]a.b` must be a function whose first parameter is `self`, a borrow of the resource that is named `a` here
 
 `error-context`.
 -

@@ -192,7 +192,7 @@ fn listing(alloc: Global, features: Option<&str>, items: &str) -> Result<(Vec<u8
 }
 
 // What a line is answered with, where that is not what it says.
-fn wrong_line(alloc: Global, line: &str) -> Result<Option<String>, Fail> {
+pub fn wrong_line(alloc: Global, line: &str) -> Result<Option<String>, Fail> {
     let (question, due) = line.split_once(" => ").ok_or("a line has no answer")?;
     let (features, items) = match question.split_once(" | ") {
         Some((features, items)) => (Some(features), items),
