@@ -1,5 +1,5 @@
 -- Names of resources are looked at by what they are and which there are, in no order.
-use Rattle.std.proofs.Common.{◌≡◌, List, ◌∷◌, Bool, ◌&&◌, Option, Some, None, refl, ap, ◌∙◌, subst}
+use Rattle.std.proofs.Common.{◌≡◌, List, [], ◌∷◌, Bool, ◌&&◌, Option, Some, None, refl, ap, ◌∙◌, subst}
 use Rattle.std.specs.Prelude.{not}
 use Rattle.wcv_core.specs.Checks.{Checks}
 use Rattle.wcv_core.specs.Label.{is_among}

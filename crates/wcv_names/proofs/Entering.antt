@@ -60,7 +60,7 @@ module _ (ts : List Type_tree) (items : List (Text × ComponentItem)) (ns : Reso
 
   pub may_join : (inst : Bool) (f : Form) → inst ≡ is_instance_tree t → Some f ≡ form_of n.name → is_bad_name inst n ≡ false → lacks_feature fs n ≡ false → follows ns (entry_trees ts items) f t ≡ true → conflicts (names_in items) n.name ≡ false
       → IsFree (too_large_with info t) → IsFree (extern_checks ns fs (entry_trees ts items) info n t)
-  may_join inst f i e r l w c k = (ap (λ (b : Bool). is_bad_name b n) (sym i) ∙ r, l, rule_is f true e w, conflict_same ∙ c, k)
+  may_join inst f i e r l w c k = (ap (λ (b : Bool). is_bad_name b n) (sym i) ∙ r, (l, (rule_is f true e w, (conflict_same ∙ c, k))))
 
   pub by_name : (inst : Bool) (e : Error) → inst ≡ is_instance_tree t → NameRefused inst fs n offset e → MemoryOrCausedBy (extern_checks ns fs (entry_trees ts items) info n t) offset e
   by_name inst e i h = go (subst (λ (b : Bool). NameRefused b fs n offset e) i h)

@@ -1,6 +1,8 @@
 -- The test on value types answers whether they look alike.
-use Rattle.std.proofs.Common.{◌≡◌, ℕ, List, [], ◌∷◌, Bool, true, false, ◌&&◌, Option, Some, None, Decides, refl, sym, ◌∙◌, ap, subst, arith, eq-eqb}
-use Rattle.std.specs.Prelude.{eqb, beq, bytes_eq}
+use Rattle.std.proofs.Common.{◌≡◌, ℕ, List, [], ◌∷◌, Bool, true, false, ◌&&◌, cond, Option, Some, None, Decides, refl, sym, ◌∙◌, ap, subst, arith, eq-eqb}
+use Rattle.std.specs.Prelude.{eqb, bytes_eq}
+use Rattle.std.specs.Bool.{beq}
+use Rattle.std.specs.Cmp.Lexicographic.{pointwise}
 use Rattle.std.specs.Option.{option_eq}
 use Rattle.std.proofs.lemmas.Bool.{eqb-true}
 use Rattle.std.proofs.lemmas.Slice.Eq.{bytes_eq-Decides, slice_eq-Decides}
@@ -46,22 +48,23 @@ text-refl t = (bytes_eq-Decides t t).1 refl
 -- ## Heads
 
 primitive_at : ℕ → PrimitiveValType
-primitive_at 0 = prim.Bool
-primitive_at 1 = prim.S8
-primitive_at 2 = prim.U8
-primitive_at 3 = prim.S16
-primitive_at 4 = prim.U16
-primitive_at 5 = prim.S32
-primitive_at 6 = prim.U32
-primitive_at 7 = prim.S64
-primitive_at 8 = prim.U64
-primitive_at 9 = prim.F32
-primitive_at 10 = prim.F64
-primitive_at 11 = prim.Char
-primitive_at 12 = prim.String
-primitive_at _ = prim.ErrorContext
+primitive_at n =
+    cond (eqb n 0) prim.Bool 
+    (cond (eqb n 1) prim.S8 
+    (cond (eqb n 2) prim.U8 
+    (cond (eqb n 3) prim.S16 
+    (cond (eqb n 4) prim.U16 
+    (cond (eqb n 5) prim.S32 
+    (cond (eqb n 6) prim.U32 
+    (cond (eqb n 7) prim.S64 
+    (cond (eqb n 8) prim.U64 
+    (cond (eqb n 9) prim.F32 
+    (cond (eqb n 10) prim.F64 
+    (cond (eqb n 11) prim.Char 
+    (cond (eqb n 12) prim.String prim.ErrorContext))))))))))))
 
 primitive_back : (p : PrimitiveValType) → primitive_at (primitive_number p) ≡ p
+unfolding primitive_at
 primitive_back prim.Bool = refl
 primitive_back prim.S8 = refl
 primitive_back prim.U8 = refl

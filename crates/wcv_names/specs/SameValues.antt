@@ -1,7 +1,8 @@
 -- Whether two value types are the same, identities aside.
-use Rattle.std.specs.Prelude.{ℕ, List, Bool, true, false, ◌&&◌, eqb, beq, bytes_eq}
+use Rattle.std.specs.Prelude.{ℕ, List, Bool, true, false, ◌&&◌, eqb, bytes_eq}
+use Rattle.std.specs.Bool.{beq}
 use Rattle.std.specs.Option.{option_eq}
-use Rattle.std.specs.Cmp.{pointwise}
+use Rattle.std.specs.Cmp.Lexicographic.{pointwise}
 use Rattle.wcv_core.specs.Names.{Name, same}
 use Rattle.wcv_core.specs.declared.primitive.PrimitiveValType.{PrimitiveValType}
 use Rattle.wcv_core.specs.declared.primitive.PrimitiveValType.TheVariants as prim

@@ -9,12 +9,13 @@ ghost use Rattle.wcv_names.specs.KeySet.{HasKeys};
 ghost use Rattle.wcv_names.specs.ResourceNames.{names_of};
 ghost use Rattle.wcv_names.specs.WholeNames.{extern_name};
 
+use crate::conflict::conflict;
 use crate::context::ComponentNameContext;
 use crate::entity::{is_instance, measured};
 use crate::name_set::NameSet;
 use crate::whole_name::check_whole_name;
 use std::alloc::Global;
-use wcv_core::{Error, ErrorKind, Excerpt, ExternKind, OutOfMemory, Text, WasmFeatures};
+use wcv_core::{Error, ExternKind, OutOfMemory, Text, WasmFeatures};
 use wcv_syntax::ComponentExternName;
 use wcv_types::{ComponentEntityType, ComponentItem, ItemMap, TypeAlloc, TypeInfo};
 
@@ -59,7 +60,7 @@ impl ComponentNameContext {
     /// size and the depth those of the entity; after a refusal they may have it or not. Refuses as `Name`
     /// and `Feature` what the name itself may not be, as `MethodName` an entity that does not look as the
     /// name says, as `Conflict` a key that is taken, as `Limit` what becomes too large.
-    #[tactic(auto, using(crate::proofs::Entering::key_new, crate::proofs::Entering::key_taken, crate::proofs::Entering::may_join, crate::proofs::Entering::by_name, crate::proofs::Entering::by_member, crate::proofs::Entering::by_conflict, crate::proofs::Entering::by_size, crate::proofs::Entering::by_memory))]
+    #[tactic(auto, using(crate::proofs::Entering::by_name, crate::proofs::Entering::by_member, crate::proofs::Entering::by_size, crate::proofs::Entering::by_memory))]
     pub fn check_extern(
         &self,
         name: &ComponentExternName,
@@ -94,14 +95,13 @@ impl ComponentNameContext {
         self.check_member(&form, text, kind, ty, kind_names, items, types, offset)?;
         let added = kind_names.insert(text, &form, items.len())?;
         if !added {
-            let word = kind.desc();
-            let excerpt = Excerpt(text);
-            return Err(Error::new(
-                ErrorKind::Conflict,
+            return Err(conflict(
+                text,
+                &form,
+                kind,
+                items,
+                self.allocator(),
                 offset,
-                format_args!(
-                    "{word} name `{excerpt}` conflicts with an earlier {word}: names must differ in more than case, and a getter or a function stands for its item"
-                ),
             ));
         }
         *info = measured(*info, ty, types, offset)?;

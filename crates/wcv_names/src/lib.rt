@@ -1,6 +1,7 @@
 //! Names of imports and exports: which entities they may stand for, and which may stand in one list.
 #![tactic(auto)]
 
+mod conflict;
 mod context;
 mod entity;
 mod extern_entry;
