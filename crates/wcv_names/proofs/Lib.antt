@@ -6,6 +6,7 @@ pub mod NameRules
 pub mod KeySets
 pub mod FuncTrees
 pub mod SameTrees
+pub mod Renamed
 pub mod Nearest
 pub mod Following
 pub mod Entering
