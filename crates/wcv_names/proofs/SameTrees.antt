@@ -49,18 +49,18 @@ text-refl t = (bytes_eq-Decides t t).1 refl
 
 primitive_at : ℕ → PrimitiveValType
 primitive_at n =
-    cond (eqb n 0) prim.Bool 
-    (cond (eqb n 1) prim.S8 
-    (cond (eqb n 2) prim.U8 
-    (cond (eqb n 3) prim.S16 
-    (cond (eqb n 4) prim.U16 
-    (cond (eqb n 5) prim.S32 
-    (cond (eqb n 6) prim.U32 
-    (cond (eqb n 7) prim.S64 
-    (cond (eqb n 8) prim.U64 
-    (cond (eqb n 9) prim.F32 
-    (cond (eqb n 10) prim.F64 
-    (cond (eqb n 11) prim.Char 
+    cond (eqb n 0) prim.Bool
+    (cond (eqb n 1) prim.S8
+    (cond (eqb n 2) prim.U8
+    (cond (eqb n 3) prim.S16
+    (cond (eqb n 4) prim.U16
+    (cond (eqb n 5) prim.S32
+    (cond (eqb n 6) prim.U32
+    (cond (eqb n 7) prim.S64
+    (cond (eqb n 8) prim.U64
+    (cond (eqb n 9) prim.F32
+    (cond (eqb n 10) prim.F64
+    (cond (eqb n 11) prim.Char
     (cond (eqb n 12) prim.String prim.ErrorContext))))))))))))
 
 primitive_back : (p : PrimitiveValType) → primitive_at (primitive_number p) ≡ p

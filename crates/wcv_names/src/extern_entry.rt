@@ -95,14 +95,7 @@ impl ComponentNameContext {
         self.check_member(&form, text, kind, ty, kind_names, items, types, offset)?;
         let added = kind_names.insert(text, &form, items.len())?;
         if !added {
-            return Err(conflict(
-                text,
-                &form,
-                kind,
-                items,
-                self.allocator(),
-                offset,
-            ));
+            return Err(conflict(text, &form, kind, items, self.allocator(), offset));
         }
         *info = measured(*info, ty, types, offset)?;
         Ok(())
