@@ -133,10 +133,6 @@ def is_number(value):
     return isinstance(value, int) and not isinstance(value, bool)
 
 
-def is_built_name(name):
-    return isinstance(name, str) and "[" not in name and ":" not in name
-
-
 def is_built(item):
     """Whether an item that has a form is of one that is read and built today."""
     match item:
@@ -144,10 +140,10 @@ def is_built(item):
             return True
         case {"type": {"resource": resource}}:
             return "dtor" not in resource
-        case {"import": {"name": name, "type": "sub-resource" | {"func": _} | {"eq": _}}}:
-            return is_built_name(name)
-        case {"export": {"name": name, "sort": "func" | "type", **others}}:
-            return is_built_name(name) and "type" not in others
+        case {"import": {"type": "sub-resource" | {"func": _} | {"eq": _}}}:
+            return True
+        case {"export": {"sort": "func" | "type", **others}}:
+            return "type" not in others
     return False
 
 

@@ -1,0 +1,92 @@
+// Names of imports and exports.
+ghost use Rattle.std.specs.Prelude.{◌≡◌, IfOk, option_map};
+ghost use Rattle.serde_json.specs.Find.{as_str, get};
+ghost use Rattle.wcv_listing.specs.Fields.{optional};
+ghost use Rattle.wcv_listing.specs.Forms.{plain, name_object_of, extern_name_of};
+ghost use Rattle.wcv_listing.specs.Seen.{view};
+
+use crate::value::{has_only_keys, member_at, text_at, text_of};
+use json::Value;
+use std::alloc::Global;
+use wcv_core::{OutOfMemory, Text};
+use wcv_syntax::ComponentExternName;
+
+// A text under a key that may be absent, or `None` where what is there is none.
+fn optional_text<'a>(value: &Value<'a>, key: &str) -> Option<Option<&'a str>>
+    ensures { option_map (option_map (λ text. text.now)) result ≡ optional as_str (get key.now (view value.now)) }
+{
+    match member_at(value, key) {
+        None => Some(None),
+        Some(text) => text_of(text).map(Some),
+    }
+}
+
+// The text of its own, where there is one.
+fn own_text(alloc: Global, text: Option<&str>) -> Result<Option<Text>, OutOfMemory>
+    ensures { IfOk result (λ own. own ≡ option_map (λ text. text.now) text.entry) }
+{
+    match text {
+        None => Ok(None),
+        Some(text) => Ok(Some(Text::new(alloc, text)?)),
+    }
+}
+
+// A name without anything beside it.
+fn plain_name(alloc: Global, name: &str) -> Result<ComponentExternName, OutOfMemory>
+    ensures { IfOk result (λ n. n ≡ plain name.now) }
+{
+    let name = Text::new(alloc, name)?;
+    Ok(ComponentExternName {
+        name,
+        implements: None,
+        version_suffix: None,
+        external_id: None,
+    })
+}
+
+// A name with what stands beside it.
+fn read_name_object(
+    alloc: Global,
+    value: &Value<'_>,
+) -> Result<Option<ComponentExternName>, OutOfMemory>
+    ensures { IfOk result (λ name. name ≡ name_object_of (view value.now)) }
+{
+    if !has_only_keys(value, &["name", "implements", "suffix", "id"]) {
+        return Ok(None);
+    }
+    let Some(name) = text_at(value, "name") else {
+        return Ok(None);
+    };
+    let Some(implements) = optional_text(value, "implements") else {
+        return Ok(None);
+    };
+    let Some(suffix) = optional_text(value, "suffix") else {
+        return Ok(None);
+    };
+    let Some(id) = optional_text(value, "id") else {
+        return Ok(None);
+    };
+    let name = Text::new(alloc, name)?;
+    let implements = own_text(alloc, implements)?;
+    let version_suffix = own_text(alloc, suffix)?;
+    let external_id = own_text(alloc, id)?;
+    Ok(Some(ComponentExternName {
+        name,
+        implements,
+        version_suffix,
+        external_id,
+    }))
+}
+
+/// The name of an import or an export.
+pub fn read_extern_name(
+    alloc: Global,
+    value: &Value<'_>,
+) -> Result<Option<ComponentExternName>, OutOfMemory>
+    ensures { IfOk result (λ name. name ≡ extern_name_of (view value.now)) }
+{
+    match text_of(value) {
+        Some(name) => Ok(Some(plain_name(alloc, name)?)),
+        None => read_name_object(alloc, value),
+    }
+}
