@@ -154,25 +154,25 @@ An upper-case letter.
 T
 {"at":1,"import":{"name":"Foo","type":{"func":0}}}
 => refused Name at 1
-item 1: import name `Foo` is not a label: the letters of a word must have one case; `foo` is a label
+item 1: `Foo` is not a name of an import or an export: it is not a label: the letters of a word must have one case; `foo` is a label
 
 Words that begin with a capital.
 T
 {"at":1,"import":{"name":"readLine","type":{"func":0}}}
 => refused Name at 1
-item 1: import name `readLine` is not a label: the letters of a word must have one case; `read-line` is a label
+item 1: `readLine` is not a name of an import or an export: it is not a label: the letters of a word must have one case; `read-line` is a label
 
 Capitals in a row, and a digit.
 TI
 {"at":2,"export":{"name":"HTTPServer2Name","sort":"func","index":0}}
 => refused Name at 2
-item 2: export name `HTTPServer2Name` is not a label: the letters of a word must have one case; `http-server2-name` is a label
+item 2: `HTTPServer2Name` is not a name of an import or an export: it is not a label: the letters of a word must have one case; `http-server2-name` is a label
 
 An underscore.
 T
 {"at":1,"import":{"name":"read_line","type":{"func":0}}}
 => refused Name at 1
-item 1: import name `read_line` is not a label: ASCII letters, digits and `-` alone may stand in it; `read-line` is a label
+item 1: `read_line` is not a name of an import or an export: it is not a label: ASCII letters, digits and `-` alone may stand in it; `read-line` is a label
 
 The same in a parameter.
 -
@@ -184,37 +184,37 @@ A digit first.
 T
 {"at":1,"import":{"name":"1a","type":{"func":0}}}
 => refused Name at 1
-item 1: import name `1a` is not a label: it must begin with a letter
+item 1: `1a` is not a name of an import or an export: it is not a label: it must begin with a letter
 
 An empty name.
 T
 {"at":1,"import":{"name":"","type":{"func":0}}}
 => refused Name at 1
-item 1: import name `` is not a label: it is empty
+item 1: `` is not a name of an import or an export: it is not a label: it is empty
 
 Two dashes.
 T
 {"at":1,"import":{"name":"a--b","type":{"func":0}}}
 => refused Name at 1
-item 1: import name `a--b` is not a label: a word must follow each `-`; `a-b` is a label
+item 1: `a--b` is not a name of an import or an export: it is not a label: a word must follow each `-`; `a-b` is a label
 
 A dash at the end.
 T
 {"at":1,"import":{"name":"a-","type":{"func":0}}}
 => refused Name at 1
-item 1: import name `a-` is not a label: a word must follow each `-`; `a` is a label
+item 1: `a-` is not a name of an import or an export: it is not a label: a word must follow each `-`; `a` is a label
 
 A letter that is not ASCII, and characters that hide or reorder text (U+202E, U+200B, U+FEFF).
 T
 {"at":1,"import":{"name":"na\u00efve\u202e\u200b\ufeff","type":{"func":0}}}
 => refused Name at 1
-item 1: import name `naïve���` is not a label: ASCII letters, digits and `-` alone may stand in it
+item 1: `naïve���` is not a name of an import or an export: it is not a label: ASCII letters, digits and `-` alone may stand in it
 
 A long name (cut).
 T
 {"at":1,"import":{"name":"A_A_A_A_A_A_A_A_A_A_A_A_A_A_A_A_A_A_A_A_A_A_A_A_A_A_A_A_A_A_A_A_A_","type":{"func":0}}}
 => refused Name at 1
-item 1: import name `A_A_A_A_A_A_A_A_A_A_A_A_A_A_A_A_A_A_A_A_A_A_A_A_A_A_A_A_A_A_A_A_..` is not a label: ASCII letters, digits and `-` alone may stand in it
+item 1: `A_A_A_A_A_A_A_A_A_A_A_A_A_A_A_A_A_A_A_A_A_A_A_A_A_A_A_A_A_A_A_A_..` is not a name of an import or an export: it is not a label: ASCII letters, digits and `-` alone may stand in it
 
 A name that stands already, in another case.
 T

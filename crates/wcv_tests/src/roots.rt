@@ -221,14 +221,14 @@ wcv validate
 => 1
 refused OutOfBounds at 5
 
-An exported name of another form is not built.
+An exported name of no form: a bracket is not closed.
 wcv validate
 {"version":1,"items":[
 {"at":0,"type":{"func":{"params":[]}}},
 {"at":1,"import":{"name":"f","type":{"func":0}}},
 {"at":2,"export":{"name":"[f","sort":"func","index":0}}],"end":99}
 => 1
-refused Unbuilt at 2
+refused Name at 2
 "#;
 
 // Imported names, each with the kind of its refusal.
