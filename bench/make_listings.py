@@ -189,3 +189,35 @@ def resources(limit):
         )[place]
 
     yield from bounded(limit, make)
+
+
+FRONT = "example-company-of-the-long-name:package-of-many-interfaces/interface-with-a-long-front-"
+
+
+def interfaces(limit):
+    """A function type, and imports of it under names of interfaces that share a front of 88 bytes."""
+    first = func_type([], None)
+
+    def make(k):
+        return import_of(f"{FRONT}n{k}@1.{k % 10}.0", 0) if k else first
+
+    yield from bounded(limit, make)
+
+
+def methods(limit, front="function-of-one-resource-with-a-very-long-common-front-"):
+    """A resource, a borrow of it, a function over that, and imports of it under names of methods of it."""
+    first = (
+        {"import": {"name": "r", "type": "sub-resource"}},
+        defined({"borrow": 0}),
+        func_type([["self", 1]], None),
+    )
+
+    def make(k):
+        return first[k] if k < 3 else import_of(f"[method]r.{front}n{k}", 2)
+
+    yield from bounded(limit, make)
+
+
+def long_methods(limit):
+    """The same, where a name has some 1,300 bytes."""
+    return methods(limit, "function-of-one-resource-with-a-very-long-common-front-" * 24)

@@ -132,7 +132,17 @@ def resources(runs):
     print_table("Listing of imported resources", ALL, by_size(make_listings.resources), runs)
 
 
-TABLES = {"small": small, "front": front, "long": long, "nested": nested, "types": types, "resources": resources}
+def names(runs):
+    makers = (
+        ("names of interfaces", make_listings.interfaces),
+        ("names of methods", make_listings.methods),
+        ("names of methods of 1,300 bytes", make_listings.long_methods),
+    )
+    rows = [(f"{name}, {size}", items, is_counted) for name, make in makers for size, items, is_counted in by_size(make, (1,))]
+    print_table("Listing of names", ALL, rows, runs)
+
+
+TABLES = {"small": small, "front": front, "long": long, "nested": nested, "types": types, "resources": resources, "names": names}
 
 
 def main(runs, names):
