@@ -1,0 +1,128 @@
+-- By place each resource is new where it is introduced, so that none is both imported and defined.
+use Rattle.std.proofs.Common.{◌≡◌, ℕ, suc, ◌<◌, List, [], ◌∷◌, ◌++◌, true, sym, subst, arith, ◌⊎◌, inl, inr}
+use Rattle.std.specs.Prelude.{Option}
+use Rattle.std.proofs.lemmas.List.Elements.{All-nil}
+use Rattle.wcv_core.specs.Names.{Name, Place, base, deeper, under}
+use Rattle.wcv_core.specs.declared.core_types.ValType.{ValType}
+use Rattle.wcv_core.proofs.Places.{under-refl, one-item}
+use Rattle.wcv_syntax.specs.Model.{Items, no_items, next_item}
+use Rattle.wcv_lower.specs.Context.{Context, Scope}
+use Rattle.wcv_lower.specs.Growth.{step}
+use Rattle.wcv_lower.specs.Names.{names_by_place}
+use Rattle.wcv_lower.specs.Step.{Step, apply}
+use Rattle.wcv_link.proofs.Growing.{IsKnown, Leads, Adds, adds_none, adds_import, adds_definition, Grows, step-grows}
+use Rattle.wcv_link.proofs.Having.{Has, has-last, Once, once-last}
+use Rattle.wcv_link.proofs.Known.{mapped-some}
+use Rattle.wcv_link.specs.Valid.{start, ValidFrom}
+
+module _ (w : Place) where
+  -- introduced by an item of the list that stands before position k
+  abbrev PlacedBefore : ℕ → Name → Type 0
+  PlacedBefore k r = (j : ℕ) × (j < k) × (r ≡ base (deeper w j))
+
+  later : (k : ℕ) (r : Name) → PlacedBefore k r → PlacedBefore (suc k) r
+  later k r h = let l = h.1 in (h.0, omega (arith, l), h.2)
+
+  same-place : (p q : Place) → base p ≡ base q → p ≡ q
+  same-place p q e = cc
+
+  not-yet : (k : ℕ) → PlacedBefore k (base (deeper w k)) → ⊥
+  not-yet k h =
+      let e : deeper w h.0 ≡ deeper w k = same-place (deeper w h.0) (deeper w k) (sym h.2) in
+      let j : h.0 ≡ k = one-item w h.0 k (deeper w k) (subst (λ (p : Place). under (deeper w h.0) p ≡ true) e (under-refl (deeper w h.0))) (under-refl (deeper w k)) in
+      let l = h.1 in
+      omega (arith, j, l)
+
+-- what holds of the context before the item at position k of the list
+pub record Settles (w : Place) (k : ℕ) (c : Context) : Type 0 where
+  pub known : IsKnown c
+  pub imported : (r : Name) → Has c.imported r → PlacedBefore w k r
+  pub defined : (r : Name) → Has c.defined r → PlacedBefore w k r
+  pub apart : (r : Name) → Has c.imported r → Has c.defined r → ⊥
+  pub imported_once : Once c.imported
+  pub defined_once : Once c.defined
+  pub leads : Leads c
+
+pub start-settles : (w : Place) → Settles w 0 start
+start-settles w = record {
+  known = record { space = λ k. All-nil _; types = All-nil _; side = λ s. All-nil _ };
+  imported = λ r h. absurd h;
+  defined = λ r h. absurd h;
+  apart = λ r h g. absurd h;
+  imported_once = tt;
+  defined_once = tt;
+  leads = All-nil _;
+}
+
+module _ (w : Place) (k : ℕ) (c d : Context) (h : Settles w k c) (known : IsKnown d) (leads : Leads d) where
+  abbrev q : Name
+  q = base (deeper w k)
+
+  was-imported : d.imported ≡ c.imported → (r : Name) → Has d.imported r → Has c.imported r
+  was-imported e r x = subst (λ (rs : List (Name × List ℕ)). Has rs r) e x
+
+  was-defined : d.defined ≡ c.defined → (r : Name) → Has d.defined r → Has c.defined r
+  was-defined e r x = subst (λ (rs : List (Name × Option ValType)). Has rs r) e x
+
+  here-or-before : (r : Name) → PlacedBefore w k r ⊎ (r ≡ q) → PlacedBefore w (suc k) r
+  here-or-before r (inl x) = later w k r x
+  here-or-before r (inr e) = (k, omega arith, e)
+
+  imported-cases : (p : List ℕ) → d.imported ≡ c.imported ++ (q, p) ∷ [] → (r : Name) → Has d.imported r → Has c.imported r ⊎ (r ≡ q)
+  imported-cases p e r x = has-last c.imported (q, p) r (subst (λ (rs : List (Name × List ℕ)). Has rs r) e x)
+
+  defined-cases : (v : Option ValType) → d.defined ≡ c.defined ++ (q, v) ∷ [] → (r : Name) → Has d.defined r → Has c.defined r ⊎ (r ≡ q)
+  defined-cases v e r x = has-last c.defined (q, v) r (subst (λ (rs : List (Name × Option ValType)). Has rs r) e x)
+
+  settles-more : Adds q c d → Settles w (suc k) d
+  settles-more (adds_none i j) = record {
+    known = known;
+    imported = λ r x. later w k r (h.imported r (was-imported i r x));
+    defined = λ r x. later w k r (h.defined r (was-defined j r x));
+    apart = λ r x y. h.apart r (was-imported i r x) (was-defined j r y);
+    imported_once = subst (λ (rs : List (Name × List ℕ)). Once rs) (sym i) h.imported_once;
+    defined_once = subst (λ (rs : List (Name × Option ValType)). Once rs) (sym j) h.defined_once;
+    leads = leads;
+  }
+  settles-more (adds_import p i j) = record {
+    known = known;
+    imported = λ r x. here-or-before r (placed r (imported-cases p i r x));
+    defined = λ r x. later w k r (h.defined r (was-defined j r x));
+    apart = λ r x y. apart r (imported-cases p i r x) (was-defined j r y);
+    imported_once = subst (λ (rs : List (Name × List ℕ)). Once rs) (sym i) (once-last c.imported (q, p) h.imported_once (λ x. not-yet w k (h.imported q x)));
+    defined_once = subst (λ (rs : List (Name × Option ValType)). Once rs) (sym j) h.defined_once;
+    leads = leads;
+  }
+    where
+      placed : (r : Name) → Has c.imported r ⊎ (r ≡ q) → PlacedBefore w k r ⊎ (r ≡ q)
+      placed r (inl x) = inl (h.imported r x)
+      placed r (inr e) = inr e
+
+      apart : (r : Name) → Has c.imported r ⊎ (r ≡ q) → Has c.defined r → ⊥
+      apart r (inl x) y = h.apart r x y
+      apart r (inr e) y = not-yet w k (subst (PlacedBefore w k) e (h.defined r y))
+  settles-more (adds_definition v i j) = record {
+    known = known;
+    imported = λ r x. later w k r (h.imported r (was-imported i r x));
+    defined = λ r x. here-or-before r (placed r (defined-cases v j r x));
+    apart = λ r x y. apart r (was-imported i r x) (defined-cases v j r y);
+    imported_once = subst (λ (rs : List (Name × List ℕ)). Once rs) (sym i) h.imported_once;
+    defined_once = subst (λ (rs : List (Name × Option ValType)). Once rs) (sym j) (once-last c.defined (q, v) h.defined_once (λ x. not-yet w k (h.defined q x)));
+    leads = leads;
+  }
+    where
+      placed : (r : Name) → Has c.defined r ⊎ (r ≡ q) → PlacedBefore w k r ⊎ (r ≡ q)
+      placed r (inl x) = inl (h.defined r x)
+      placed r (inr e) = inr e
+
+      apart : (r : Name) → Has c.imported r → Has c.defined r ⊎ (r ≡ q) → ⊥
+      apart r x (inl y) = h.apart r x y
+      apart r x (inr e) = not-yet w k (subst (PlacedBefore w k) e (h.imported r x))
+
+-- the items lead to such a context
+pub reading-settles : (w : Place) (sc : Scope) (k : ℕ) (c : Context) (is : Items) (d : Context) → ValidFrom names_by_place w sc k c is d → Settles w k c → (n : ℕ) × Settles w n d
+reading-settles w sc k c no_items d v h = (k, subst (Settles w k) v h)
+reading-settles w sc k c (next_item at f is) d v h =
+    let m = mapped-some (λ (s : Step). apply s c) (step names_by_place (deeper w k) sc c f) v.1.0 v.1.1 in
+    let g : Grows (base (deeper w k)) c v.1.0 = subst (Grows (base (deeper w k)) c) m.2 (step-grows names_by_place (deeper w k) sc c f m.0 m.1) in
+    reading-settles w sc (suc k) v.1.0 is d v.1.2 (settles-more w k c v.1.0 h (g.known h.known) (g.leads h.leads) g.adds)

@@ -1,0 +1,5 @@
+use Rattle.wcv_link.proofs.Ended.{valid_lists}
+use Rattle.wcv_link.proofs.laws.each_free_resource_is_listed.Goals as goal
+
+pub returns : goal.returns
+returns c = valid_lists
