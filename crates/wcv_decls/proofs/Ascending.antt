@@ -10,11 +10,12 @@ use Rattle.std.proofs.lemmas.Bool.{false≢true, eqb-true}
 use Rattle.std.proofs.lemmas.Slice.Eq.{bytes_eq-Decides}
 use Rattle.std.proofs.lemmas.List.Sorted.{sum_by-IsPermutation}
 use Rattle.wcv_core.specs.Label.{is_label, lower_case, is_among}
+use Rattle.wcv_core.specs.LabelSet.{mixed}
 use Rattle.wcv_types.specs.Tree.{Text}
 use Rattle.wcv_types.proofs.Each.{map-push}
 use Rattle.wcv_types.proofs.Knowing.{take-next}
 use Rattle.wcv_lower.specs.Checks.{has_repeat}
-use Rattle.wcv_decls.specs.Numbers.{mixed, number_of, Ascend}
+use Rattle.wcv_decls.specs.Numbers.{number_of, Ascend}
 
 -- ## How often a number stands in a list
 

@@ -13,3 +13,5 @@ pub mod Stacks
 pub mod Ascending
 pub mod Handles
 pub mod Defining
+pub mod LowerWords
+pub mod Eight

@@ -2,3 +2,4 @@ pub mod Resolved
 pub mod Items
 pub mod Stack
 pub mod Numbers
+pub mod LowerWords

@@ -1,13 +1,8 @@
 -- Numbers of labels, by which they are told apart.
 use Rattle.std.specs.Prelude.{ℕ, suc, List, slice_index_or, length, ◌<◌}
-use Rattle.std.specs.List.{fold}
 use Rattle.wcv_core.specs.Label.{lower_case}
-use Rattle.wcv_core.specs.LabelSet.{mix_step}
+use Rattle.wcv_core.specs.LabelSet.{mixed}
 use Rattle.wcv_types.specs.Tree.{Text}
-
--- the number that bytes give, one at a time
-abbrev pub mixed : List ℕ → ℕ
-mixed bs = fold mix_step 0 bs
 
 -- labels that differ at most in case have one number
 abbrev pub number_of : Text → ℕ

@@ -6,22 +6,11 @@ ghost use Rattle.wcv_lower.specs.Checks.{IsFree, label_checks};
 ghost use Rattle.wcv_state.specs.NameLists.{list_names};
 ghost use Rattle.wcv_decls.specs.Numbers.{number_of, Ascend};
 
+use crate::lower::is_any_label;
+use crate::number::number_of;
 use std::alloc::Global;
-use wcv_core::{OutOfMemory, is_label};
+use wcv_core::OutOfMemory;
 use wcv_state::NameList;
-
-/// A number of the label in lower case.
-fn number_of(label: &str) -> u64
-    ensures { result ≡ number_of label.now }
-{
-    let mut number = 0u64;
-    for b in label.as_bytes() {
-        number = number
-            .wrapping_mul(0x9e37_79b9_7f4a_7c15)
-            .wrapping_add(b.to_ascii_lowercase() as u64);
-    }
-    number
-}
 
 /// Whether each name is a label.
 #[tactic(auto, using(crate::proofs::Ascending::labels_next))]
@@ -29,7 +18,7 @@ fn are_labels(list: NameList<'_>) -> bool
     ensures { result ≡ true → list_all label.is_label (list_names list.entry) ≡ true }
 {
     for k in 0..list.len() {
-        if !is_label(list.text_at(k).as_str()) {
+        if !is_any_label(list.text_at(k).as_str()) {
             return false;
         }
     }
