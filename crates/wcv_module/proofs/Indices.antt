@@ -1,0 +1,58 @@
+-- Indices of the types of a module.
+use Rattle.std.proofs.Common.{◌≡◌, ℕ, zero, suc, ◌+◌, ◌-◌, ◌<◌, ◌≤◌, List, [], ◌∷◌, length, map, refl, sym, ◌∙◌, ap, arith, subst, Option, Some, None, slice_get, Bool, true, false, not, nat_lt, All, rules, inl, inr}
+use Rattle.std.specs.Option.{option_map}
+use Rattle.std.proofs.lemmas.Bool.{false≢true}
+use Rattle.std.proofs.lemmas.Option.{slice_get-map, slice_get_within, get_or_from_slice_get}
+use Rattle.std.proofs.lemmas.List.Elements.{All-get_or}
+use Rattle.wcv_core.specs.Checks.{Checks, IsFree, Cause, CausedBy, missing, is_none}
+use Rattle.wcv_core.specs.CoreWritten.{Core_entry, sub_entry, module_entry, is_module, IsKnown, entry_checks, heap_checks, closed_heap, closed_index}
+use Rattle.wcv_core.specs.declared.core_types.CoreTypeId.{CoreTypeId}
+use Rattle.wcv_core.specs.declared.core_types.HeapType.{HeapType}
+use Rattle.wcv_core.specs.declared.core_types.HeapType.TheVariants as heap
+use Rattle.wcv_core.specs.declared.error.Error.{Error}
+use Rattle.wcv_core.specs.declared.error.ErrorKind.TheVariants as kind
+use Rattle.wcv_syntax.specs.CoreItems.{type_entry, type_entries}
+
+pub entry_found : (ts : List CoreTypeId) (i : ℕ) (t : CoreTypeId) → slice_get ts i ≡ Some t → slice_get (type_entries ts) i ≡ Some (sub_entry t.index)
+entry_found ts i t e = slice_get-map type_entry ts i ∙ ap (option_map type_entry) e
+
+-- each type of the module is one of the table
+pub known_at : (n : ℕ) (ts : List CoreTypeId) (i : ℕ) (t : CoreTypeId) → slice_get ts i ≡ Some t → All (IsKnown n) (type_entries ts) → t.index < n
+known_at n ts i t e a =
+    let f : slice_get (type_entries ts) i ≡ Some (sub_entry t.index) = entry_found ts i t e in
+    let h : i < length (type_entries ts) = slice_get_within (type_entries ts) i (sub_entry t.index) f in
+    subst (IsKnown n) (get_or_from_slice_get (type_entries ts) i (sub_entry t.index) module_entry f) (All-get_or (IsKnown n) (type_entries ts) i module_entry h a)
+
+-- ## What is looked at in the types, so in their entries
+
+none_mapped : {A B : Type 0} (f : A → B) (o : Option A) → is_none (option_map f o) ≡ is_none o
+none_mapped f None = refl
+none_mapped f (Some x) = refl
+
+pub missing_entry : (ts : List CoreTypeId) (i : ℕ) → is_none (slice_get (type_entries ts) i) ≡ is_none (slice_get ts i)
+missing_entry ts i = ap is_none (slice_get-map type_entry ts i) ∙ none_mapped type_entry (slice_get ts i)
+
+-- ## Indices in references
+
+pub index_closed : (ts : List CoreTypeId) (i : ℕ) (t : CoreTypeId) → slice_get ts i ≡ Some t → closed_heap (type_entries ts) (heap.Index i) ≡ heap.Id t
+index_closed ts i t e = ap (λ o. closed_index o (i - length (type_entries ts))) (entry_found ts i t e)
+
+lt_inside : (i n : ℕ) → i < n → not (nat_lt i (n + 0)) ≡ false
+lt_inside i n h = grind arith
+
+lt_past : (i n : ℕ) → n ≤ i → not (nat_lt i (n + 0)) ≡ true
+lt_past i n h = grind arith
+
+pub index_free : (n : ℕ) (ts : List CoreTypeId) (i : ℕ) (t : CoreTypeId) → slice_get ts i ≡ Some t → IsFree (heap_checks n (type_entries ts) 0 (heap.Index i))
+index_free n ts i t e =
+    let f : slice_get (type_entries ts) i ≡ Some (sub_entry t.index) = entry_found ts i t e in
+    (lt_inside i (length (type_entries ts)) (slice_get_within (type_entries ts) i (sub_entry t.index) f), (ap is_module f, tt))
+
+none_past : {A : Type 0} (xs : List A) (i : ℕ) → is_none (slice_get xs i) ≡ true → length xs ≤ i
+none_past [] i e = omega arith
+none_past (x ∷ xs) zero e = Prim.absurd (false≢true e)
+none_past (x ∷ xs) (suc i) e = omega (arith, none_past xs i e)
+
+pub index_cause : (n : ℕ) (ts : List CoreTypeId) (i offset : ℕ) (e : Error) → CausedBy (missing (slice_get ts i)) offset e → CausedBy (heap_checks n (type_entries ts) 0 (heap.Index i)) offset e
+index_cause n ts i offset e (inl c, o) = (inl (c.0, lt_past i (length (type_entries ts)) (none_past (type_entries ts) i (missing_entry ts i ∙ c.1))), o)
+index_cause n ts i offset e (inr c, o) = absurd c

@@ -1,0 +1,7 @@
+pub mod Around
+pub mod Indices
+pub mod Joins
+pub mod Names
+pub mod Pairing
+pub mod Repeats
+pub mod Written

@@ -1,0 +1,81 @@
+// The features that core imports and exports need.
+ghost use Rattle.std.specs.Prelude.{◌≡◌, true, false, OnOk, OnErr, IfErr};
+ghost use Rattle.wcv_core.specs.Checks.{IsFree, CausedBy};
+ghost use Rattle.wcv_core.specs.CoreFeatures.{needs, exceptions, shared_everything};
+ghost use Rattle.wcv_core.specs.Refusal.{error_kind, error_offset};
+ghost use Rattle.wcv_syntax.specs.CoreItems.{threads, memory64, custom_page_sizes};
+
+use bitflags::Flags;
+use wcv_core::{Error, ErrorKind, WasmFeatures};
+
+/// Refuses what needs a feature that is missing, by the feature's name and by what needs it.
+fn check_feature(lacks: bool, name: &str, by: &str, offset: u64) -> Result<(), Error>
+    ensures ok { OnOk result (lacks ≡ false) }
+    ensures not { OnErr result (lacks ≡ true) }
+    ensures err { IfErr result (λ e. (error_kind e ≡ ErrorKind.Feature) × (error_offset e ≡ offset)) }
+{
+    if lacks {
+        return Err(Error::new(
+            ErrorKind::Feature,
+            offset,
+            format_args!("{by} needs the feature `{name}`, which the listing does not name"),
+        ));
+    }
+    Ok(())
+}
+
+/// Whether 64-bit indices may be used, if they are.
+pub fn check_memory64(
+    features: &WasmFeatures,
+    there: bool,
+    by: &str,
+    offset: u64,
+) -> Result<(), Error>
+    ensures ok { OnOk result (IsFree (needs features.now memory64 there)) }
+    ensures err { IfErr result (CausedBy (needs features.now memory64 there) offset) }
+{
+    let lacks = there && !features.contains(WasmFeatures::MEMORY64);
+    check_feature(lacks, "memory64", by, offset)
+}
+
+/// Whether memories may be shared, if one is.
+pub fn check_threads(features: &WasmFeatures, there: bool, offset: u64) -> Result<(), Error>
+    ensures ok { OnOk result (IsFree (needs features.now threads there)) }
+    ensures err { IfErr result (CausedBy (needs features.now threads there) offset) }
+{
+    let lacks = there && !features.contains(WasmFeatures::THREADS);
+    check_feature(lacks, "threads", "a shared memory", offset)
+}
+
+/// Whether pages may have an unusual size, if they have.
+pub fn check_page_sizes(features: &WasmFeatures, there: bool, offset: u64) -> Result<(), Error>
+    ensures ok { OnOk result (IsFree (needs features.now custom_page_sizes there)) }
+    ensures err { IfErr result (CausedBy (needs features.now custom_page_sizes there) offset) }
+{
+    let lacks = there && !features.contains(WasmFeatures::CUSTOM_PAGE_SIZES);
+    let by = "a memory whose page exponent is not 16";
+    check_feature(lacks, "custom-page-sizes", by, offset)
+}
+
+/// Whether tables and globals may be shared, if one is.
+pub fn check_shared(
+    features: &WasmFeatures,
+    there: bool,
+    by: &str,
+    offset: u64,
+) -> Result<(), Error>
+    ensures ok { OnOk result (IsFree (needs features.now shared_everything there)) }
+    ensures err { IfErr result (CausedBy (needs features.now shared_everything there) offset) }
+{
+    let lacks = there && !features.contains(WasmFeatures::SHARED_EVERYTHING_THREADS);
+    check_feature(lacks, "shared-everything-threads", by, offset)
+}
+
+/// Whether there may be tags.
+pub fn check_tags(features: &WasmFeatures, offset: u64) -> Result<(), Error>
+    ensures ok { OnOk result (IsFree (needs features.now exceptions true)) }
+    ensures err { IfErr result (CausedBy (needs features.now exceptions true) offset) }
+{
+    let lacks = !features.contains(WasmFeatures::EXCEPTIONS);
+    check_feature(lacks, "exceptions", "a tag", offset)
+}

@@ -1,0 +1,312 @@
+// The type of a core module, as its declarations make it.
+ghost use Rattle.std.specs.Prelude.{◌≡◌, ◌⊎◌, ℕ, ◌+◌, ◌<◌, ◌≤◌, ◌^◌, ◌++◌, ◌∷◌, List, [], length, map, slice_get, Some, All, IfOk, OnOk, OnErr, IfErr};
+ghost use Rattle.std.specs.Option.{option_map};
+ghost use Rattle.wcv_core.specs.Checks.{IsFree, CausedBy, MemoryOrCausedBy, too_many};
+ghost use Rattle.wcv_core.specs.CoreForm.{group_form};
+ghost use Rattle.wcv_core.specs.CoreGroups.{total};
+ghost use Rattle.wcv_core.specs.CoreJoining.{IsLeft};
+ghost use Rattle.wcv_core.specs.CoreMatching.{type_at};
+ghost use Rattle.wcv_core.specs.CoreWritten.{IsKnown, closed_group};
+ghost use Rattle.wcv_core.specs.Refusal.{error_kind, error_offset};
+ghost use Rattle.wcv_module.specs.Kept.{IsEntityKnown};
+ghost use Rattle.wcv_syntax.specs.CoreItems.{ref_checks, entity_of, entity_size, form_size};
+ghost use Rattle.wcv_syntax.specs.ModuleTypes.{Module_type, empty_module, module_entries, with_type, with_import, with_export, max_module_entries, max_module_size, types_checks, size_checks, import_checks, export_checks, import_joins, group_joins, with_group_of, whole_checks};
+
+use crate::maps::{ExportMap, ImportMap};
+use crate::pairs::check_pairs;
+use crate::types::{type_id_at, written};
+use std::alloc::Global;
+use std::marker::Model;
+use wcv_core::{
+    CompositeInnerType, CoreTypeId, CoreTypes, EntityType, Error, ErrorKind, Excerpt,
+    InternRecGroup, LabelSet, OutOfMemory, RecGroup, Text, WasmFeatures,
+    canonicalize_and_intern_rec_group,
+};
+use wcv_syntax::{Import, TypeRef};
+
+/// How many types a module may have, and so of imports and of exports.
+const MAX_ENTRIES: usize = 1_000_000;
+
+/// The greatest size of the type of a module.
+const MAX_SIZE: u64 = 1_000_000;
+
+/// The types of a core module or of a module type, its imports and its exports. Declarations join it in order,
+/// each by a call that checks it first. Contracts see it as the type so far, over a table of core types.
+///
+/// After a refusal nothing has changed. Where memory ended in `add_types`, some types of the group may have joined.
+#[derive(Drop)]
+pub struct Module {
+    features: WasmFeatures,
+    types: Vec<CoreTypeId>,
+    imports: ImportMap,
+    exports: ExportMap,
+    export_names: LabelSet,
+    size: u64,
+    alloc: Global,
+}
+
+impl Model for Module {
+    ghost use Rattle.wcv_syntax.specs.ModuleTypes.{Module_type};
+    ghost use Rattle.wcv_module.specs.Kept.{IsKept};
+
+    ghost Value = { Module_type };
+
+    ghost view = { λ m. record { features = m.features; types = m.types.items; imports = m.imports; exports = m.exports; size = m.size } };
+
+    ghost invariant = { λ m. IsKept m.types.items m.exports m.export_names m.size };
+}
+
+impl InternRecGroup for Module {
+    ghost use Rattle.wcv_syntax.specs.ModuleTypes.{module_entries, with_type};
+
+    ghost entries = { module_entries };
+
+    ghost allowed = { λ m. m.features };
+
+    ghost with_type = { with_type };
+
+    ghost failed = { λ m. m };
+
+    fn features(&self) -> &WasmFeatures {
+        &self.features
+    }
+
+    fn add_type_id(&mut self, id: CoreTypeId) -> Result<(), OutOfMemory> {
+        self.types.push(id)?;
+        Ok(())
+    }
+
+    fn type_id_at(&self, idx: u32, offset: u64) -> Result<CoreTypeId, Error> {
+        type_id_at(self.types.as_slice(), idx, offset)
+    }
+
+    fn types_len(&self) -> u32 {
+        self.types.len() as u32
+    }
+}
+
+/// Whether so many more keep a limit. What they are is for the message.
+fn check_room(len: usize, more: usize, what: &str, offset: u64) -> Result<(), Error>
+    ensures ok { OnOk result (IsFree (too_many max_module_entries (len + more))) }
+    ensures err { IfErr result (CausedBy (too_many max_module_entries (len + more)) offset) }
+{
+    if len > MAX_ENTRIES || more > MAX_ENTRIES - len {
+        return Err(Error::new(
+            ErrorKind::Limit,
+            offset,
+            format_args!("the module would have more than {MAX_ENTRIES} {what}"),
+        ));
+    }
+    Ok(())
+}
+
+/// How large a type is as a part of the type of a module.
+fn size_of_type(core: &CoreTypes, id: CoreTypeId) -> u64
+    requires { id.index < total core.now }
+    ensures { result ≡ form_size (type_at core.now id.index).inner }
+{
+    match &core.get(id).inner {
+        CompositeInnerType::Func(func) => {
+            1 + func.params.len() as u64 + func.results.len() as u64
+        }
+        _ => 1,
+    }
+}
+
+/// How large the type of an import or export is as a part of the type of a module.
+fn size_of(core: &CoreTypes, ty: EntityType) -> u64
+    requires known { IsEntityKnown (total core.now) ty }
+    ensures { result ≡ entity_size core.now ty }
+{
+    match ty {
+        EntityType::Func(id) | EntityType::Tag(id) => size_of_type(core, id),
+        _ => 1,
+    }
+}
+
+fn repeated(name: &str, offset: u64) -> Error
+    ensures kind { error_kind result ≡ ErrorKind.Conflict }
+    ensures offset { error_offset result ≡ offset }
+{
+    let name = Excerpt(name);
+    Error::new(
+        ErrorKind::Conflict,
+        offset,
+        format_args!("the module exports `{name}` twice"),
+    )
+}
+
+impl Module {
+    /// A module with no declaration. It takes no memory.
+    pub fn new(alloc: Global, features: WasmFeatures) -> Module
+        ensures { result ≡ empty_module features }
+    {
+        Module {
+            features,
+            types: Vec::new(alloc),
+            imports: ImportMap::new(alloc),
+            exports: ExportMap::new(alloc),
+            export_names: LabelSet::new(alloc),
+            size: 1,
+            alloc,
+        }
+    }
+
+    /// The types, in order.
+    pub fn types(&self) -> &[CoreTypeId]
+        ensures { result.now ≡ self.now.types }
+    {
+        self.types.as_slice()
+    }
+
+    /// The imports, in order.
+    pub fn imports(&self) -> &ImportMap
+        ensures { result.now ≡ self.now.imports }
+    {
+        &self.imports
+    }
+
+    /// The exports, in order.
+    pub fn exports(&self) -> &ExportMap
+        ensures { result.now ≡ self.now.exports }
+    {
+        &self.exports
+    }
+
+    /// The size of the type so far.
+    pub fn size(&self) -> u64
+        ensures { result ≡ self.now.size }
+    {
+        self.size
+    }
+
+    /// What a written type comes to: in closed form, over the types so far.
+    pub fn check_type_ref(
+        &self,
+        ty: &TypeRef,
+        core: &CoreTypes,
+        offset: u64,
+    ) -> Result<EntityType, Error>
+        requires known { All (IsKnown (total core.now)) (module_entries self.now) }
+        ensures ok { IfOk result (λ e. entity_of self.now.types ty.now ≡ Some e) }
+        ensures known { IfOk result (IsEntityKnown (total core.now)) }
+        ensures free { OnOk result (IsFree (ref_checks self.now.features core.now self.now.types ty.now)) }
+        ensures err { IfErr result (CausedBy (ref_checks self.now.features core.now self.now.types ty.now) offset) }
+    {
+        written(&self.features, self.types.as_slice(), core, ty, offset)
+    }
+
+    /// The imports, where no two of them have one pair of names, as the type of a module asks.
+    pub fn imports_for_module_type(&self, offset: u64) -> Result<ImportMap, Error>
+        ensures ok { IfOk result (λ imports. imports ≡ self.now.imports) }
+        ensures free { OnOk result (IsFree (whole_checks self.now)) }
+        ensures cause { IfErr result (MemoryOrCausedBy (whole_checks self.now) offset) }
+    {
+        check_pairs(self.alloc, self.imports.as_slice(), offset)?;
+        Ok(self.imports.copy(self.alloc)?)
+    }
+
+    /// Adds a group of types behind the others: puts it into closed form and interns it.
+    pub fn add_types(
+        &mut self,
+        rec: RecGroup,
+        core: &mut CoreTypes,
+        offset: u64,
+    ) -> Result<(), Error>
+        requires known { All (IsKnown (total core.old)) (module_entries self.old) }
+        ensures ok { OnOk result ((core.new, self.new) ≡ with_group_of core.old self.old (group_form rec)) }
+        ensures free { OnOk result (IsFree (group_joins core.old self.old (group_form rec))) }
+        ensures known { All (IsKnown (total core.new)) (module_entries self.new) }
+        ensures cause { IfErr result (MemoryOrCausedBy (group_joins core.old self.old (group_form rec)) offset) }
+        ensures err { IfErr result (IsLeft with_type (λ m. m) self.old self.new core.old core.new (closed_group (module_entries self.old) (group_form rec))) }
+    {
+        check_room(self.types.len(), rec.types.len(), "types", offset)?;
+        match canonicalize_and_intern_rec_group(self, core, rec, offset) {
+            Ok(()) => Ok(()),
+            Err(err) => Err(err),
+        }
+    }
+
+    /// Adds a type that stands in the table already, as an outer alias does.
+    pub fn add_alias_type(&mut self, id: CoreTypeId, offset: u64) -> Result<(), Error>
+        ensures ok { OnOk result (self.new ≡ with_type self.old id.index) }
+        ensures free { OnOk result (IsFree (types_checks self.old 1)) }
+        ensures cause { IfErr result (MemoryOrCausedBy (types_checks self.old 1) offset) }
+        ensures err { OnErr result (self.new ≡ self.old) }
+    {
+        check_room(self.types.len(), 1, "types", offset)?;
+        self.types.push(id)?;
+        Ok(())
+    }
+
+    /// The size of the type with one more import or export.
+    fn size_with(&self, core: &CoreTypes, ty: EntityType, offset: u64) -> Result<u64, Error>
+        requires known { IsEntityKnown (total core.now) ty }
+        ensures ok { IfOk result (λ size. size ≡ self.now.size + entity_size core.now ty) }
+        ensures small { IfOk result (λ size. size ≤ max_module_size) }
+        ensures free { OnOk result (IsFree (size_checks core.now self.now ty)) }
+        ensures err { IfErr result (CausedBy (size_checks core.now self.now ty) offset) }
+    {
+        let size = size_of(core, ty);
+        if size > MAX_SIZE - self.size {
+            return Err(Error::new(
+                ErrorKind::Limit,
+                offset,
+                format_args!("the type of the module would have a size above {MAX_SIZE}"),
+            ));
+        }
+        Ok(self.size + size)
+    }
+
+    /// Adds an import. Whether another one has its names is looked at by `imports_for_module_type`.
+    pub fn add_import(&mut self, import: Import, core: &CoreTypes, offset: u64) -> Result<(), Error>
+        requires known { All (IsKnown (total core.now)) (module_entries self.old) }
+        ensures ok { OnOk result (option_map (with_import core.now self.old (import.module, import.name)) (entity_of self.old.types import.ty) ≡ Some self.new) }
+        ensures free { OnOk result (IsFree (import_joins core.now self.old import.ty)) }
+        ensures cause { IfErr result (MemoryOrCausedBy (import_joins core.now self.old import.ty) offset) }
+        ensures err { OnErr result (self.new ≡ self.old) }
+    {
+        let ty = self.check_type_ref(&import.ty, core, offset)?;
+        check_room(self.imports.len(), 1, "imports", offset)?;
+        let size = self.size_with(core, ty, offset)?;
+        self.imports.push(((import.module, import.name), ty))?;
+        self.size = size;
+        Ok(())
+    }
+
+    /// Adds an export of a type that `check_type_ref` gave.
+    pub fn add_export(
+        &mut self,
+        name: &str,
+        ty: EntityType,
+        offset: u64,
+        core: &CoreTypes,
+    ) -> Result<(), Error>
+        requires known { IsEntityKnown (total core.now) ty }
+        ensures ok { OnOk result (self.new ≡ with_export core.now self.old name.now ty) }
+        ensures free { OnOk result (IsFree (export_checks core.now self.old name.now ty)) }
+        ensures cause { IfErr result (MemoryOrCausedBy (export_checks core.now self.old name.now ty) offset) }
+        ensures err { OnErr result (self.new ≡ self.old) }
+    {
+        let len = self.exports.len();
+        check_room(len, 1, "exports", offset)?;
+        let size = self.size_with(core, ty, offset)?;
+        let text = Text::new(self.alloc, name)?;
+        let key = String::from_str(self.alloc, name)?;
+        self.exports.push((text, ty))?;
+        match self.export_names.insert_text(key) {
+            Ok(true) => {
+                self.size = size;
+                Ok(())
+            }
+            Ok(false) => {
+                self.exports.truncate(len);
+                Err(repeated(name, offset))
+            }
+            Err(err) => {
+                self.exports.truncate(len);
+                Err(Error::from(err))
+            }
+        }
+    }
+}
