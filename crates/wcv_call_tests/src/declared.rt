@@ -4,7 +4,7 @@ ghost use Rattle.wcv_state.specs.Contents.{StateStands};
 ghost use Rattle.wcv_types.specs.Entities.{SlotStands};
 ghost use Rattle.wcv_types.specs.Unfold.{value_slot};
 
-use crate::written::written;
+use crate::written::written_type;
 use bitflags::Flags;
 use std::alloc::Global;
 use std::test::Fail;
@@ -60,7 +60,7 @@ fn add_all(
         return Ok(());
     }
     for words in text.split("; ") {
-        add(ComponentType::Defined(written(alloc, words)?), state, types)?;
+        add(written_type(alloc, words)?, state, types)?;
     }
     Ok(())
 }
@@ -93,6 +93,17 @@ fn type_asked(
         Ok(id) => Ok(ComponentValType::Ty(id)),
         Err(_) => Err("there is no such type".into()),
     }
+}
+
+/// An arena and a state with these types alone, parted by `; `.
+pub fn with_types(alloc: Global, text: &str) -> Result<(TypeAlloc, ComponentState), Fail>
+    ensures { IfOk result (λ r. StateStands r.0 r.1) }
+{
+    let features = WasmFeatures::all();
+    let mut types = TypeAlloc::new(alloc, features);
+    let mut state = ComponentState::new(alloc, ComponentKind::Component, features);
+    add_all(alloc, text, &mut state, &mut types)?;
+    Ok((types, state))
 }
 
 /// An arena in which these types were declared behind the handles, and the last of them. The types are parted

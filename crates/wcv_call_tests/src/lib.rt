@@ -6,9 +6,27 @@ mod base;
 #[cfg(test)]
 mod declared;
 #[cfg(test)]
+mod extern_rows;
+#[cfg(test)]
+mod externs;
+#[cfg(test)]
+mod free;
+#[cfg(test)]
+mod group_rows;
+#[cfg(test)]
+mod group_space;
+#[cfg(test)]
+mod group_words;
+#[cfg(test)]
+mod groups;
+#[cfg(test)]
 mod layouts;
 #[cfg(test)]
 mod lines;
+#[cfg(test)]
+mod name_rows;
+#[cfg(test)]
+mod names;
 #[cfg(test)]
 mod state;
 #[cfg(test)]

@@ -1,5 +1,5 @@
-// States: what is pushed joins its space, and written types give entities.
-ghost use Rattle.std.specs.Prelude.{◌≡◌, false, IfOk};
+// States: what is pushed joins its space, what stands at an index, and written types give entities.
+ghost use Rattle.std.specs.Prelude.{◌≡◌, false, IfOk, OnOk};
 ghost use Rattle.wcv_core.specs.Features.{default_features};
 ghost use Rattle.wcv_state.specs.Contents.{empty_state, StateStands};
 ghost use Rattle.wcv_state.specs.declared.kind.ComponentKind.TheVariants as kind;
@@ -14,12 +14,14 @@ use wcv_core::{
 use wcv_state::{ComponentKind, ComponentState, Space};
 use wcv_syntax::ComponentTypeRef;
 use wcv_types::{
-    ComponentAnyTypeId, ComponentCoreInstanceTypeId, ComponentCoreModuleTypeId,
-    ComponentCoreTypeId, ComponentEntityType, ComponentFuncTypeId, ComponentInstanceTypeId,
-    TypeAlloc,
+    AliasableResourceId, ComponentAnyTypeId, ComponentCoreInstanceTypeId,
+    ComponentCoreModuleTypeId, ComponentCoreTypeId, ComponentEntityType, ComponentFuncTypeId,
+    ComponentInstanceTypeId, ResourceId, TypeAlloc,
 };
 
 const CORE: CoreTypeId = CoreTypeId { index: 0 };
+
+const FUNC: ComponentFuncTypeId = ComponentFuncTypeId { index: 0 };
 
 const MEMORY: MemoryType = MemoryType {
     initial: 1,
@@ -47,6 +49,86 @@ const GLOBAL: GlobalType = GlobalType {
     shared: false,
 };
 
+// The spaces, in order, and how often there is a push into each. There is none for values and for components.
+const PUSHES: [(Space, usize); 13] = [
+    (Space::CoreTypes, 1),
+    (Space::CoreFuncs, 2),
+    (Space::CoreTags, 3),
+    (Space::CoreModules, 4),
+    (Space::CoreInstances, 5),
+    (Space::CoreMemories, 6),
+    (Space::CoreTables, 7),
+    (Space::CoreGlobals, 8),
+    (Space::Types, 9),
+    (Space::Funcs, 10),
+    (Space::Values, 0),
+    (Space::Instances, 11),
+    (Space::Components, 0),
+];
+
+/// One push into a space of what is no core item.
+fn push(state: &mut ComponentState, space: Space) -> Result<(), OutOfMemory>
+    requires { state.old.spent ≡ false }
+    ensures { OnOk result (state.new.spent ≡ false) }
+{
+    match space {
+        Space::Types => state.push_type(ComponentAnyTypeId::Func(FUNC)),
+        Space::Funcs => state.push_func(FUNC),
+        Space::Instances => state.push_instance(ComponentInstanceTypeId { index: 0 }),
+        _ => Ok(()),
+    }
+}
+
+/// One push into a space of what has a core type.
+fn push_typed(state: &mut ComponentState, space: Space) -> Result<(), OutOfMemory>
+    requires { state.old.spent ≡ false }
+    ensures { OnOk result (state.new.spent ≡ false) }
+{
+    match space {
+        Space::CoreTypes => state.push_core_type(ComponentCoreTypeId::Sub(CORE)),
+        Space::CoreFuncs => state.push_core_func(CORE),
+        Space::CoreTags => state.push_core_tag(CORE),
+        Space::CoreMemories => state.push_core_memory(MEMORY),
+        _ => push(state, space),
+    }
+}
+
+/// One push into a space.
+fn push_any(state: &mut ComponentState, space: Space) -> Result<(), OutOfMemory>
+    requires { state.old.spent ≡ false }
+    ensures { OnOk result (state.new.spent ≡ false) }
+{
+    match space {
+        Space::CoreModules => state.push_core_module(ComponentCoreModuleTypeId { index: 0 }),
+        Space::CoreInstances => state.push_core_instance(ComponentCoreInstanceTypeId { index: 0 }),
+        Space::CoreTables => state.push_core_table(TABLE),
+        Space::CoreGlobals => state.push_core_global(GLOBAL),
+        _ => push_typed(state, space),
+    }
+}
+
+/// So many pushes into a space.
+fn push_some(state: &mut ComponentState, space: Space, count: usize) -> Result<(), OutOfMemory>
+    requires { state.old.spent ≡ false }
+    ensures { OnOk result (state.new.spent ≡ false) }
+{
+    for _ in 0..count {
+        push_any(state, space)?;
+    }
+    Ok(())
+}
+
+/// The pushes into all spaces.
+fn push_all(state: &mut ComponentState) -> Result<(), OutOfMemory>
+    requires { state.old.spent ≡ false }
+    ensures { OnOk result (state.new.spent ≡ false) }
+{
+    for (space, count) in PUSHES {
+        push_some(state, space, count)?;
+    }
+    Ok(())
+}
+
 /// The state of a component with nothing in it.
 fn empty(alloc: Global) -> ComponentState
     ensures { result ≡ empty_state kind.Component default_features }
@@ -54,122 +136,68 @@ fn empty(alloc: Global) -> ComponentState
     ComponentState::new(alloc, ComponentKind::Component, WasmFeatures::default())
 }
 
-// How many core types there are once a core type was pushed.
-fn core_type_count(alloc: Global) -> usize {
-    let mut state = empty(alloc);
-    match state.push_core_type(ComponentCoreTypeId::Sub(CORE)) {
-        Ok(()) => state.space_len(Space::CoreTypes),
-        Err(OutOfMemory) => 0,
+#[test]
+fn a_push_adds_one_to_its_space(rt: HostRuntime) -> Result<(), Fail> {
+    let mut state = empty(rt.alloc());
+    push_all(&mut state)?;
+    for (space, count) in PUSHES {
+        assert_eq!(rt; state.space_len(space), count);
     }
+    assert_eq!(rt;
+        (state.type_count(), state.function_count(), state.instance_count()),
+        (10, 12, 16)
+    );
+    Ok(())
 }
 
-// How many core functions there are once a core function was pushed.
-fn core_func_count(alloc: Global) -> usize {
-    let mut state = empty(alloc);
-    match state.push_core_func(CORE) {
-        Ok(()) => state.space_len(Space::CoreFuncs),
-        Err(OutOfMemory) => 0,
-    }
+const FIRST: ResourceId = ResourceId { index: 3 };
+
+const SECOND: ResourceId = ResourceId { index: 5 };
+
+const REFERENCE: AliasableResourceId = AliasableResourceId {
+    resource: FIRST,
+    stamp: 7,
+};
+
+/// A resource with a representation and one without are defined.
+fn define(state: &mut ComponentState) -> Result<(), OutOfMemory>
+    requires { state.old ≡ empty_state kind.Component default_features }
+    ensures { OnOk result (state.new.spent ≡ false) }
+{
+    state.define_resource(FIRST, Some(ValType::I64))?;
+    state.define_resource(SECOND, None)
 }
 
-// How many core tags there are once a core tag was pushed.
-fn core_tag_count(alloc: Global) -> usize {
-    let mut state = empty(alloc);
-    match state.push_core_tag(CORE) {
-        Ok(()) => state.space_len(Space::CoreTags),
-        Err(OutOfMemory) => 0,
-    }
-}
-
-// How many core modules there are once a core module was pushed.
-fn core_module_count(alloc: Global) -> usize {
-    let mut state = empty(alloc);
-    match state.push_core_module(ComponentCoreModuleTypeId { index: 0 }) {
-        Ok(()) => state.space_len(Space::CoreModules),
-        Err(OutOfMemory) => 0,
-    }
-}
-
-// How many core instances there are once a core instance was pushed.
-fn core_instance_count(alloc: Global) -> usize {
-    let mut state = empty(alloc);
-    match state.push_core_instance(ComponentCoreInstanceTypeId { index: 0 }) {
-        Ok(()) => state.space_len(Space::CoreInstances),
-        Err(OutOfMemory) => 0,
-    }
-}
-
-// How many core memories there are once a core memory was pushed.
-fn core_memory_count(alloc: Global) -> usize {
-    let mut state = empty(alloc);
-    match state.push_core_memory(MEMORY) {
-        Ok(()) => state.space_len(Space::CoreMemories),
-        Err(OutOfMemory) => 0,
-    }
-}
-
-// How many core tables there are once a core table was pushed.
-fn core_table_count(alloc: Global) -> usize {
-    let mut state = empty(alloc);
-    match state.push_core_table(TABLE) {
-        Ok(()) => state.space_len(Space::CoreTables),
-        Err(OutOfMemory) => 0,
-    }
-}
-
-// How many core globals there are once a core global was pushed.
-fn core_global_count(alloc: Global) -> usize {
-    let mut state = empty(alloc);
-    match state.push_core_global(GLOBAL) {
-        Ok(()) => state.space_len(Space::CoreGlobals),
-        Err(OutOfMemory) => 0,
-    }
-}
-
-// How many types there are once a type was pushed.
-fn type_count(alloc: Global) -> usize {
-    let mut state = empty(alloc);
-    match state.push_type(ComponentAnyTypeId::Func(ComponentFuncTypeId { index: 0 })) {
-        Ok(()) => state.space_len(Space::Types),
-        Err(OutOfMemory) => 0,
-    }
-}
-
-// How many functions there are once a function was pushed.
-fn func_count(alloc: Global) -> usize {
-    let mut state = empty(alloc);
-    match state.push_func(ComponentFuncTypeId { index: 0 }) {
-        Ok(()) => state.space_len(Space::Funcs),
-        Err(OutOfMemory) => 0,
-    }
-}
-
-// How many instances there are once an instance was pushed.
-fn instance_count(alloc: Global) -> usize {
-    let mut state = empty(alloc);
-    match state.push_instance(ComponentInstanceTypeId { index: 0 }) {
-        Ok(()) => state.space_len(Space::Instances),
-        Err(OutOfMemory) => 0,
-    }
+/// The types of the table below.
+fn push_types(state: &mut ComponentState) -> Result<(), OutOfMemory>
+    requires { state.old.spent ≡ false }
+{
+    state.push_type(ComponentAnyTypeId::Resource(REFERENCE))?;
+    state.push_type(ComponentAnyTypeId::Resource(AliasableResourceId {
+        resource: SECOND,
+        stamp: 8,
+    }))?;
+    state.push_type(ComponentAnyTypeId::Func(FUNC))
 }
 
 #[test]
-fn a_push_adds_one_to_its_space(rt: HostRuntime) {
-    let alloc = rt.alloc();
-    let counts = [
-        core_type_count(alloc),
-        core_func_count(alloc),
-        core_tag_count(alloc),
-        core_module_count(alloc),
-        core_instance_count(alloc),
-        core_memory_count(alloc),
-        core_table_count(alloc),
-        core_global_count(alloc),
-        type_count(alloc),
-        func_count(alloc),
-        instance_count(alloc),
-    ];
-    assert_eq!(rt; counts, [1; 11]);
+fn resources_have_representations(rt: HostRuntime) -> Result<(), Fail> {
+    let mut state = empty(rt.alloc());
+    define(&mut state)?;
+    push_types(&mut state)?;
+    assert_eq!(rt; state.resource_at(0, 4).ok(), Some(REFERENCE));
+    assert_eq!(rt; state.local_rep(0, 4).ok(), Some((FIRST, ValType::I64)));
+    assert_eq!(rt; state.resource_at(1, 4).ok().ok_or("no resource")?.stamp, 8);
+    for (index, read, local) in [
+        (1, None, ErrorKind::ResourceScope),
+        (2, Some(ErrorKind::WrongSort), ErrorKind::WrongSort),
+        (3, Some(ErrorKind::OutOfBounds), ErrorKind::OutOfBounds),
+    ] {
+        assert_eq!(rt; state.resource_at(index, 4).err().map(|e| e.kind()), read, "{index}");
+        let error = state.local_rep(index, 4).err().ok_or("no refusal")?;
+        assert_eq!(rt; (error.kind(), error.offset()), (local, 4), "{index}");
+    }
+    Ok(())
 }
 
 /// An arena with one function type, and a state with that type alone.
@@ -184,32 +212,6 @@ fn with_one_type(alloc: Global) -> Result<(TypeAlloc, ComponentState), OutOfMemo
     Ok((types, state))
 }
 
-// The lengths of the thirteen spaces.
-fn lengths(state: &ComponentState) -> [usize; 13] {
-    [
-        state.space_len(Space::CoreTypes),
-        state.space_len(Space::CoreFuncs),
-        state.space_len(Space::CoreTags),
-        state.space_len(Space::CoreModules),
-        state.space_len(Space::CoreInstances),
-        state.space_len(Space::CoreMemories),
-        state.space_len(Space::CoreTables),
-        state.space_len(Space::CoreGlobals),
-        state.space_len(Space::Types),
-        state.space_len(Space::Funcs),
-        state.space_len(Space::Values),
-        state.space_len(Space::Instances),
-        state.space_len(Space::Components),
-    ]
-}
-
-#[test]
-fn each_space_has_its_length(rt: HostRuntime) -> Result<(), Fail> {
-    let (_, state) = with_one_type(rt.alloc())?;
-    assert_eq!(rt; lengths(&state), [0, 0, 0, 0, 0, 0, 0, 0, 1, 0, 0, 0, 0]);
-    Ok(())
-}
-
 // What a function of the type at that index is, in a state with one type.
 fn func_at(alloc: Global, index: u32) -> Result<ComponentEntityType, Error> {
     let (mut types, mut state) = with_one_type(alloc)?;
@@ -219,7 +221,7 @@ fn func_at(alloc: Global, index: u32) -> Result<ComponentEntityType, Error> {
 #[test]
 fn a_written_function_type_gives_its_entity(rt: HostRuntime) -> Result<(), Fail> {
     let alloc = rt.alloc();
-    let first = ComponentEntityType::Func(ComponentFuncTypeId { index: 0 });
+    let first = ComponentEntityType::Func(FUNC);
     assert_eq!(rt; func_at(alloc, 0).ok(), Some(first));
     for index in [1, 7] {
         let error = func_at(alloc, index).err().ok_or("no refusal")?;

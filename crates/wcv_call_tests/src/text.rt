@@ -94,17 +94,17 @@ fn push(
 
 /// Two references to one resource, one to each of two others, and two functions.
 #[derive(Clone, Copy)]
-struct Parts {
+pub struct Parts {
     first: AliasableResourceId,
     alias: AliasableResourceId,
     second: AliasableResourceId,
-    third: AliasableResourceId,
+    pub third: AliasableResourceId,
     plain: ComponentFuncTypeId,
     other: ComponentFuncTypeId,
 }
 
 /// The imports.
-fn imports(alloc: Global, parts: &Parts) -> Result<ItemMap, OutOfMemory>
+pub fn imports(alloc: Global, parts: &Parts) -> Result<ItemMap, OutOfMemory>
     ensures { IfOk result (λ m. (a : Arena) → Stands a (part.Resource parts.now.first) → Stands a (part.Resource parts.now.alias) → Stands a (part.Func parts.now.plain) → All (EntryStands a) m) }
 {
     let first = ComponentAnyTypeId::Resource(parts.first);
@@ -125,7 +125,7 @@ fn imports(alloc: Global, parts: &Parts) -> Result<ItemMap, OutOfMemory>
 }
 
 /// The exports.
-fn exports(alloc: Global, parts: &Parts) -> Result<ItemMap, OutOfMemory>
+pub fn exports(alloc: Global, parts: &Parts) -> Result<ItemMap, OutOfMemory>
     ensures { IfOk result (λ m. (a : Arena) → Stands a (part.Resource parts.now.second) → Stands a (part.Func parts.now.plain) → Stands a (part.Func parts.now.other) → All (EntryStands a) m) }
 {
     let second = ComponentAnyTypeId::Resource(parts.second);
@@ -177,7 +177,7 @@ fn component(
 }
 
 /// An arena with three resources and two functions, and what a component takes of them.
-fn arena(alloc: Global) -> Result<(TypeAlloc, Parts), OutOfMemory>
+pub fn arena(alloc: Global) -> Result<(TypeAlloc, Parts), OutOfMemory>
     ensures first { IfOk result (λ r. Stands r.0 (part.Resource r.1.first)) }
     ensures alias { IfOk result (λ r. Stands r.0 (part.Resource r.1.alias)) }
     ensures second { IfOk result (λ r. Stands r.0 (part.Resource r.1.second)) }

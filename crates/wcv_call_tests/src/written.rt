@@ -1,8 +1,10 @@
 // Defined types by words. A value type is a primitive or an index, and `-` is one that is left out.
 use std::alloc::Global;
 use std::test::Fail;
-use wcv_core::{PrimitiveValType, Text};
-use wcv_syntax::{ComponentDefinedType, ComponentValType, VariantCase};
+use wcv_core::{PrimitiveValType, Text, ValType};
+use wcv_syntax::{
+    ComponentDefinedType, ComponentFuncType, ComponentType, ComponentValType, VariantCase,
+};
 
 const PRIMITIVES: [(&str, PrimitiveValType); 14] = [
     ("bool", PrimitiveValType::Bool),
@@ -30,7 +32,8 @@ fn primitive(word: &str) -> Option<PrimitiveValType> {
     None
 }
 
-fn value(word: &str) -> Result<ComponentValType, Fail> {
+/// The value type of a word.
+pub fn value_word(word: &str) -> Result<ComponentValType, Fail> {
     match primitive(word) {
         Some(primitive) => Ok(ComponentValType::Primitive(primitive)),
         None => Ok(ComponentValType::Ty(word.parse()?)),
@@ -41,7 +44,7 @@ fn optional(word: &str) -> Result<Option<ComponentValType>, Fail> {
     if word == "-" {
         return Ok(None);
     }
-    Ok(Some(value(word)?))
+    Ok(Some(value_word(word)?))
 }
 
 // The k-th name of a list.
@@ -61,7 +64,7 @@ fn names(alloc: Global, count: usize) -> Result<Vec<Text>, Fail> {
 fn fields(alloc: Global, words: &str) -> Result<Vec<(Text, ComponentValType)>, Fail> {
     let mut fields = Vec::new(alloc);
     for (k, word) in words.split(' ').enumerate() {
-        fields.push((name(alloc, k)?, value(word)?))?;
+        fields.push((name(alloc, k)?, value_word(word)?))?;
     }
     Ok(fields)
 }
@@ -90,7 +93,7 @@ fn cases_of(alloc: Global, count: usize, word: &str) -> Result<Vec<VariantCase>,
 fn values(alloc: Global, words: &str) -> Result<Vec<ComponentValType>, Fail> {
     let mut values = Vec::new(alloc);
     for word in words.split(' ') {
-        values.push(value(word)?)?;
+        values.push(value_word(word)?)?;
     }
     Ok(values)
 }
@@ -99,8 +102,8 @@ fn values(alloc: Global, words: &str) -> Result<Vec<ComponentValType>, Fail> {
 fn of_two(alloc: Global, form: &str, rest: &str) -> Result<ComponentDefinedType, Fail> {
     let (first, second) = rest.split_once(' ').ok_or("a type has no second word")?;
     match form {
-        "map" => Ok(ComponentDefinedType::Map(value(first)?, value(second)?)),
-        "fixed-list" => Ok(ComponentDefinedType::FixedLengthList(value(first)?, second.parse()?)),
+        "map" => Ok(ComponentDefinedType::Map(value_word(first)?, value_word(second)?)),
+        "fixed-list" => Ok(ComponentDefinedType::FixedLengthList(value_word(first)?, second.parse()?)),
         "result" => Ok(ComponentDefinedType::Result {
             ok: optional(first)?,
             err: optional(second)?,
@@ -122,10 +125,48 @@ pub fn written(alloc: Global, words: &str) -> Result<ComponentDefinedType, Fail>
         "tuple" => Ok(ComponentDefinedType::Tuple(values(alloc, rest)?)),
         "flags" => Ok(ComponentDefinedType::Flags(names(alloc, rest.parse()?)?)),
         "enum" => Ok(ComponentDefinedType::Enum(names(alloc, rest.parse()?)?)),
-        "list" => Ok(ComponentDefinedType::List(value(rest)?)),
-        "option" => Ok(ComponentDefinedType::Option(value(rest)?)),
+        "list" => Ok(ComponentDefinedType::List(value_word(rest)?)),
+        "option" => Ok(ComponentDefinedType::Option(value_word(rest)?)),
         "future" => Ok(ComponentDefinedType::Future(optional(rest)?)),
         "stream" => Ok(ComponentDefinedType::Stream(optional(rest)?)),
+        "own" => Ok(ComponentDefinedType::Own(rest.parse()?)),
+        "borrow" => Ok(ComponentDefinedType::Borrow(rest.parse()?)),
         _ => of_two(alloc, form, rest),
     }
+}
+
+// Parameters: a name and a type, and so on.
+fn params(alloc: Global, words: &str) -> Result<Vec<(Text, ComponentValType)>, Fail> {
+    let mut params = Vec::new(alloc);
+    let mut name = "";
+    for word in words.split(' ') {
+        if name.is_empty() {
+            name = word;
+        } else {
+            params.push((Text::new(alloc, name)?, value_word(word)?))?;
+            name = "";
+        }
+    }
+    Ok(params)
+}
+
+fn func(alloc: Global, async_: bool, words: &str) -> Result<ComponentFuncType, Fail> {
+    let (before, result) = words.split_once("-> ").ok_or("a function has no arrow")?;
+    Ok(ComponentFuncType {
+        async_,
+        params: params(alloc, before)?,
+        result: optional(result)?,
+    })
+}
+
+/// So of a type of any sort: a defined type; `resource`; `fn NAME TYPE .. -> RESULT`, maybe behind `async`.
+pub fn written_type(alloc: Global, words: &str) -> Result<ComponentType, Fail> {
+    if words == "resource" {
+        return Ok(ComponentType::Resource { rep: ValType::I32, dtor: None });
+    }
+    let plain = words.strip_prefix("async ").unwrap_or(words);
+    if let Some(rest) = plain.strip_prefix("fn ") {
+        return Ok(ComponentType::Func(func(alloc, plain.len() < words.len(), rest)?));
+    }
+    Ok(ComponentType::Defined(written(alloc, words)?))
 }

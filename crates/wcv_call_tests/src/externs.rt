@@ -1,0 +1,242 @@
+// Which entries may join a list of exports, by their names.
+ghost use Rattle.std.specs.Prelude.{All, IfOk, OnOk};
+ghost use Rattle.wcv_names.specs.FuncTrees.{names_in};
+ghost use Rattle.wcv_names.specs.KeySet.{HasKeys};
+ghost use Rattle.wcv_state.specs.Contents.{StateStands};
+ghost use Rattle.wcv_types.specs.Entities.{EntityStands, EntryStands};
+
+use crate::declared::with_types;
+use crate::extern_rows::{COUNT, PLAIN, ROWS, TYPES, UPPER};
+use crate::table::case;
+use crate::written::value_word;
+use bitflags::Flags;
+use std::alloc::Global;
+use std::fmt::Write;
+use std::test::Fail;
+use wcv_core::{Error, ExternKind, Text, WasmFeatures};
+use wcv_names::{ComponentNameContext, NameSet};
+use wcv_state::ComponentState;
+use wcv_syntax::{ComponentExternName, ComponentValType as WrittenType};
+use wcv_types::{ComponentEntityType, ComponentValType, ItemMap, TypeAlloc, TypeInfo};
+
+// The whole name: a name, and maybe one text beside it.
+fn whole_name(alloc: Global, words: &str) -> Result<ComponentExternName, Fail> {
+    let (name, beside) = words.split_once(' ').unwrap_or((words, ""));
+    let (key, text) = beside.split_once('=').unwrap_or(("", ""));
+    let mut whole = ComponentExternName {
+        name: Text::new(alloc, name)?,
+        implements: None,
+        version_suffix: None,
+        external_id: None,
+    };
+    let text = Text::new(alloc, text)?;
+    match key {
+        "id" => whole.external_id = Some(text),
+        "suffix" => whole.version_suffix = Some(text),
+        "implements" => whole.implements = Some(text),
+        _ => {}
+    }
+    Ok(whole)
+}
+
+// Whether an entry brings a function type.
+fn is_func(words: &str) -> bool {
+    !words.starts_with("type ") && !words.starts_with("value ")
+}
+
+// The types of a row: those that stand before, and the function types of the entries.
+fn types_of(alloc: Global, row: &str) -> Result<String, Fail> {
+    let mut text = String::from_str(alloc, TYPES)?;
+    for entry in row.split(" | ") {
+        let (_, words) = entry.split_once(" = ").ok_or("an entry has no type")?;
+        if is_func(words) {
+            write!(text, "; {words}")?;
+        }
+    }
+    Ok(text)
+}
+
+/// A value of the written type.
+fn value_of(
+    ty: WrittenType,
+    state: &ComponentState,
+    types: &TypeAlloc,
+) -> Result<ComponentEntityType, Fail>
+    requires { StateStands types.now state.now }
+    ensures { IfOk result (λ x. EntityStands types.now x) }
+{
+    let _ = types;
+    match ty {
+        WrittenType::Primitive(primitive) => Ok(ComponentEntityType::Value(
+            ComponentValType::Primitive(primitive),
+        )),
+        WrittenType::Ty(index) => match state.defined_type_at(index, 0) {
+            Ok(id) => Ok(ComponentEntityType::Value(ComponentValType::Ty(id))),
+            Err(_) => Err("there is no such defined type".into()),
+        },
+    }
+}
+
+/// The type at an index.
+fn type_of(
+    index: u32,
+    state: &ComponentState,
+    types: &TypeAlloc,
+) -> Result<ComponentEntityType, Fail>
+    requires { StateStands types.now state.now }
+    ensures { IfOk result (λ x. EntityStands types.now x) }
+{
+    let _ = types;
+    match state.component_type_at(index, 0) {
+        Ok(id) => Ok(ComponentEntityType::Ty { created: id, referenced: id }),
+        Err(_) => Err("there is no such type".into()),
+    }
+}
+
+/// A function of the type at an index.
+fn func_of(
+    index: u32,
+    state: &ComponentState,
+    types: &TypeAlloc,
+) -> Result<ComponentEntityType, Fail>
+    requires { StateStands types.now state.now }
+    ensures { IfOk result (λ x. EntityStands types.now x) }
+{
+    let _ = types;
+    match state.function_type_at(index, 0) {
+        Ok(id) => Ok(ComponentEntityType::Func(id)),
+        Err(_) => Err("there is no such function type".into()),
+    }
+}
+
+/// The entity that the words of an entry give; a function has the type at the index.
+fn entity(
+    words: &str,
+    index: u32,
+    state: &ComponentState,
+    types: &TypeAlloc,
+) -> Result<ComponentEntityType, Fail>
+    requires { StateStands types.now state.now }
+    ensures { IfOk result (λ x. EntityStands types.now x) }
+{
+    if let Some(word) = words.strip_prefix("value ") {
+        return value_of(value_word(word)?, state, types);
+    }
+    if let Some(word) = words.strip_prefix("type ") {
+        return type_of(word.parse()?, state, types);
+    }
+    func_of(index, state, types)
+}
+
+/// An entity joins the exports under a whole name.
+fn enter(
+    context: &ComponentNameContext,
+    name: &ComponentExternName,
+    ty: &ComponentEntityType,
+    types: &TypeAlloc,
+    offset: u64,
+    keys: &mut NameSet,
+    items: &mut ItemMap,
+    features: &WasmFeatures,
+) -> Result<(), Error>
+    requires entity { EntityStands types.now ty.now }
+    requires items { All (EntryStands types.now) items.old }
+    requires keys { HasKeys keys.old (names_in items.old) }
+    ensures items { OnOk result (All (EntryStands types.now) items.new) }
+    ensures keys { OnOk result (HasKeys keys.new (names_in items.new)) }
+{
+    let mut info = TypeInfo { size: 1, depth: 1 };
+    context.validate_extern(
+        name,
+        ExternKind::Export,
+        ty,
+        types,
+        offset,
+        keys,
+        items,
+        &mut info,
+        features,
+    )
+}
+
+/// What becomes of the entries of a row.
+fn joined(
+    alloc: Global,
+    context: &ComponentNameContext,
+    row: &str,
+    state: &ComponentState,
+    types: &TypeAlloc,
+    features: &WasmFeatures,
+) -> Result<Result<(), Error>, Fail>
+    requires { StateStands types.now state.now }
+{
+    let mut keys = NameSet::new(alloc);
+    let mut items = ItemMap::new(alloc);
+    let mut index = COUNT;
+    let mut offset = 0;
+    for entry in row.split(" | ") {
+        let (name, words) = entry.split_once(" = ").ok_or("an entry has no type")?;
+        let name = whole_name(alloc, name)?;
+        let ty = entity(words, index, state, types)?;
+        if let Err(error) = enter(
+            context, &name, &ty, types, offset, &mut keys, &mut items, features,
+        ) {
+            return Ok(Err(error));
+        }
+        if is_func(words) {
+            index = index.saturating_add(1);
+        }
+        offset = offset.saturating_add(1);
+    }
+    Ok(Ok(()))
+}
+
+// The names of resources: the first resource has that name.
+fn names(alloc: Global, name: &str, state: &ComponentState) -> Result<ComponentNameContext, Fail> {
+    let mut context = ComponentNameContext::new(alloc);
+    match state.resource_at(0, 0) {
+        Ok(id) => context.register(name, id)?,
+        Err(_) => return Err("there is no resource".into()),
+    }
+    Ok(context)
+}
+
+// The answer of a row.
+fn answer(alloc: Global, name: &str, row: &str, features: &WasmFeatures) -> Result<String, Fail> {
+    let types = types_of(alloc, row)?;
+    let (types, state) = with_types(alloc, types.as_str())?;
+    let context = names(alloc, name, &state)?;
+    match joined(alloc, &context, row, &state, &types, features)? {
+        Ok(()) => Ok(String::from_str(alloc, "ok")?),
+        Err(error) => Ok(format!(in alloc; "{} at {}", error.kind(), error.offset())?),
+    }
+}
+
+#[test]
+fn entries_look_as_their_names_say(rt: HostRuntime) -> Result<(), Fail> {
+    let alloc = rt.alloc();
+    for (name, rows, features) in [
+        ("r", ROWS, WasmFeatures::all()),
+        ("FOO", UPPER, WasmFeatures::all()),
+        ("r", PLAIN, WasmFeatures::default()),
+    ] {
+        for line in rows.split('\n') {
+            let (asked, due) = case(line)?;
+            assert_eq!(rt; answer(alloc, name, asked, &features)?.as_str(), due, "{asked}");
+        }
+    }
+    Ok(())
+}
+
+#[test]
+fn resources_have_names(rt: HostRuntime) -> Result<(), Fail> {
+    let alloc = rt.alloc();
+    let (_, state) = with_types(alloc, "resource; resource")?;
+    let context = names(alloc, "r-S", &state)?;
+    let first = state.resource_at(0, 0).ok().ok_or("no resource")?;
+    let second = state.resource_at(1, 0).ok().ok_or("no resource")?;
+    assert!(rt; context.is_named(&first, "r-S") && context.has_name("r-S")?);
+    assert!(rt; !context.is_named(&first, "r-s") && !context.has_name("r-s")?);
+    assert!(rt; !context.is_named(&second, "r-S"));
+    Ok(())
+}

@@ -1,0 +1,165 @@
+// New identities, and the resources that are free in types.
+ghost use Rattle.std.specs.Prelude.{IfOk};
+ghost use Rattle.wcv_types.specs.Entities.{any_part, SlotStands};
+ghost use Rattle.wcv_types.specs.Standing.{Stands};
+ghost use Rattle.wcv_types.specs.Unfold.{value_slot};
+
+use crate::declared::declared;
+use crate::table::case;
+use crate::text::{arena, exports, imports, plain};
+use bitflags::Flags;
+use std::alloc::Global;
+use std::fmt::Write;
+use std::test::Fail;
+use wcv_core::{OutOfMemory, WasmFeatures};
+use wcv_types::{
+    AliasableResourceId, ComponentAnyTypeId, ComponentDefinedType, ComponentDefinedTypeId,
+    ComponentEntityType, ComponentFuncTypeId, ComponentValType, ResourceId, ResourceSet, TypeAlloc,
+};
+
+/// The same type under a new identity.
+fn again(types: &mut TypeAlloc, id: ComponentAnyTypeId) -> Result<ComponentAnyTypeId, OutOfMemory>
+    requires { Stands types.old (any_part id) }
+    ensures { IfOk result (λ made. Stands types.new (any_part made)) }
+{
+    types.with_unique(id)
+}
+
+// What becomes of a resource, and the resource that is made after it.
+fn resource_again(
+    alloc: Global,
+) -> Result<(ComponentAnyTypeId, AliasableResourceId), OutOfMemory> {
+    let mut types = TypeAlloc::new(alloc, WasmFeatures::all());
+    let first = types.alloc_resource_id()?;
+    let made = again(&mut types, ComponentAnyTypeId::Resource(first))?;
+    let next = types.alloc_resource_id()?;
+    Ok((made, next))
+}
+
+// What becomes of a handle over a resource, and that resource.
+fn handle_again(alloc: Global) -> Result<(ComponentAnyTypeId, u64), Fail> {
+    let mut types = TypeAlloc::new(alloc, WasmFeatures::all());
+    let first = types.alloc_resource_id()?;
+    let own: ComponentDefinedTypeId = types.push_ty(ComponentDefinedType::Own(first))?;
+    let made = again(&mut types, ComponentAnyTypeId::Defined(own))?;
+    match made {
+        ComponentAnyTypeId::Defined(id) => match types.get(id) {
+            ComponentDefinedType::Own(resource) => Ok((made, resource.stamp)),
+            _ => Err("a handle is none".into()),
+        },
+        _ => Err("a defined type is none".into()),
+    }
+}
+
+// What becomes of the second of two functions, and whether it is async.
+fn func_again(alloc: Global) -> Result<(ComponentAnyTypeId, bool), Fail> {
+    let mut types = TypeAlloc::new(alloc, WasmFeatures::all());
+    let _first: ComponentFuncTypeId = types.push_ty(plain(alloc))?;
+    let second: ComponentFuncTypeId = types.push_ty(plain(alloc))?;
+    let made = again(&mut types, ComponentAnyTypeId::Func(second))?;
+    match made {
+        ComponentAnyTypeId::Func(id) => Ok((made, types.get(id).async_)),
+        _ => Err("a function is none".into()),
+    }
+}
+
+#[test]
+fn types_get_new_identities(rt: HostRuntime) -> Result<(), Fail> {
+    let alloc = rt.alloc();
+    let (made, next) = resource_again(alloc)?;
+    let resource = ResourceId { index: 0 };
+    let of = AliasableResourceId { resource, stamp: 1 };
+    assert_eq!(rt; made, ComponentAnyTypeId::Resource(of));
+    assert_eq!(rt; (next.resource.index, next.stamp), (1, 2));
+    let id = ComponentDefinedTypeId { index: 1 };
+    assert_eq!(rt; handle_again(alloc)?, (ComponentAnyTypeId::Defined(id), 0));
+    let id = ComponentFuncTypeId { index: 2 };
+    assert_eq!(rt; func_again(alloc)?, (ComponentAnyTypeId::Func(id), false));
+    Ok(())
+}
+
+// Types behind an owning and a borrowing handle, which have the indices 0 and 1, and the resources that are free
+// in the last one.
+const ROWS: &str = "\
+0 => 0
+1 => 0
+prim u32 => -
+prim string => -
+enum 2 => -
+tuple u8 string => -
+tuple 1 0 1 => 0
+list u8; option 2 => -
+list 0; option 2; record u8 3 => 0
+tuple 0 1; tuple 2 2; tuple 3 3 => 0
+variant - 1 - => 0
+result - 0 => 0
+map string u8; result 2 2 => -
+future - => -
+future 0 => 0
+stream 0; tuple u8 2 => 0
+fixed-list 0 3 => 0";
+
+// The numbers of resources, or a dash.
+fn numbers(alloc: Global, set: &ResourceSet) -> Result<String, Fail> {
+    let mut line = String::new(alloc);
+    for k in 0..set.len() {
+        if let Some(id) = set.get_index(k) {
+            let gap = if k == 0 { "" } else { " " };
+            write!(line, "{gap}{}", id.index)?;
+        }
+    }
+    if line.is_empty() {
+        line.push('-')?;
+    }
+    Ok(line)
+}
+
+/// What is free in a value of the type.
+fn free_in_value(types: &TypeAlloc, ty: ComponentValType) -> Result<ResourceSet, OutOfMemory>
+    requires { SlotStands types.now (value_slot ty) }
+{
+    let mut free = ResourceSet::new(types.allocator());
+    types.free_variables_component_entity(&ComponentEntityType::Value(ty), &mut free)?;
+    Ok(free)
+}
+
+/// What is free in the type.
+fn free_in_type(types: &TypeAlloc, ty: ComponentValType) -> Result<ResourceSet, OutOfMemory>
+    requires { SlotStands types.now (value_slot ty) }
+{
+    let mut free = ResourceSet::new(types.allocator());
+    if let ComponentValType::Ty(id) = ty {
+        types.free_variables_any_type_id(ComponentAnyTypeId::Defined(id), &mut free)?;
+    }
+    Ok(free)
+}
+
+#[test]
+fn resources_are_free_in_types(rt: HostRuntime) -> Result<(), Fail> {
+    let alloc = rt.alloc();
+    for line in ROWS.split('\n') {
+        let (asked, due) = case(line)?;
+        let (types, ty) = declared(alloc, asked)?;
+        let in_value = numbers(alloc, &free_in_value(&types, ty)?)?;
+        let in_type = numbers(alloc, &free_in_type(&types, ty)?)?;
+        assert_eq!(rt; (in_value.as_str(), in_type.as_str()), (due, due), "{asked}");
+    }
+    Ok(())
+}
+
+#[test]
+fn resources_are_free_in_items(rt: HostRuntime) -> Result<(), Fail> {
+    let alloc = rt.alloc();
+    let (types, parts) = arena(alloc)?;
+    let ins = imports(alloc, &parts)?;
+    let outs = exports(alloc, &parts)?;
+    let mut free = ResourceSet::new(alloc);
+    types.free_variables_items(&outs, &mut free)?;
+    assert_eq!(rt; numbers(alloc, &free)?.as_str(), "1");
+    types.free_variables_items(&ins, &mut free)?;
+    assert_eq!(rt; numbers(alloc, &free)?.as_str(), "1 0");
+    types.free_variables_items(&outs, &mut free)?;
+    types.free_variables_any_type_id(ComponentAnyTypeId::Resource(parts.third), &mut free)?;
+    assert_eq!(rt; numbers(alloc, &free)?.as_str(), "1 0 2");
+    Ok(())
+}

@@ -1,0 +1,146 @@
+// Names of imports and exports: their forms, their keys and their versions.
+use crate::name_rows::{PLAIN, ROWS, SETTERS, VERSIONS};
+use crate::table::case;
+use bitflags::Flags;
+use std::alloc::Global;
+use std::test::Fail;
+use wcv_core::{Text, WasmFeatures};
+use wcv_syntax::{ComponentName, ComponentNameKind, InterfaceName, NameKey};
+
+// A word for the form of a name that speaks of no interface, and its labels.
+fn labels<'a>(kind: &ComponentNameKind<'a>) -> (&'static str, &'a str, &'a str) {
+    match *kind {
+        ComponentNameKind::Label(l) => ("label", l, ""),
+        ComponentNameKind::Getter(l) => ("getter", l, ""),
+        ComponentNameKind::Setter(l) => ("setter", l, ""),
+        ComponentNameKind::Constructor(r) => ("constructor", r, ""),
+        ComponentNameKind::Method(r, f) => ("method", r, f),
+        ComponentNameKind::MethodGetter(r, f) => ("method-getter", r, f),
+        ComponentNameKind::MethodSetter(r, f) => ("method-setter", r, f),
+        ComponentNameKind::Static(r, f) => ("static", r, f),
+        ComponentNameKind::StaticGetter(r, f) => ("static-getter", r, f),
+        ComponentNameKind::StaticSetter(r, f) => ("static-setter", r, f),
+        ComponentNameKind::Interface(_) => ("", "", ""),
+    }
+}
+
+// A word and texts behind it, as far as they are there.
+fn words(alloc: Global, texts: [&str; 5]) -> Result<String, Fail> {
+    let mut line = String::new(alloc);
+    for text in texts {
+        if !text.is_empty() {
+            if !line.is_empty() {
+                line.push(' ')?;
+            }
+            line.push_str(text)?;
+        }
+    }
+    Ok(line)
+}
+
+// The form, in words.
+fn form(alloc: Global, kind: &ComponentNameKind<'_>) -> Result<String, Fail> {
+    if let ComponentNameKind::Interface(of) = kind {
+        let version = of.version.unwrap_or("");
+        return words(
+            alloc,
+            ["interface", of.namespace, of.package, of.interface, version],
+        );
+    }
+    let (word, first, second) = labels(kind);
+    words(alloc, [word, first, second, "", ""])
+}
+
+// The key, in words.
+fn key(alloc: Global, key: &NameKey) -> Result<String, Fail> {
+    let (word, first, second) = match key {
+        NameKey::Item(l) => ("item", l.as_str(), ""),
+        NameKey::Constructor(r) => ("constructor", r.as_str(), ""),
+        NameKey::Member(r, f) => ("member", r.as_str(), f.as_str()),
+        NameKey::Setter(None, l) => ("setter", l.as_str(), ""),
+        NameKey::Setter(Some(r), f) => ("setter", r.as_str(), f.as_str()),
+        NameKey::Interface(text) => ("interface", text.as_str(), ""),
+    };
+    words(alloc, [word, first, second, "", ""])
+}
+
+// The form and the key of a name.
+fn both(alloc: Global, name: &ComponentName) -> Result<String, Fail> {
+    let form = form(alloc, &name.kind())?;
+    let key = key(alloc, &name.uniqueness_key(alloc)?)?;
+    Ok(format!(in alloc; "{form}; {key}")?)
+}
+
+// What a text is as a name.
+fn read(alloc: Global, text: &str, features: WasmFeatures) -> Result<String, Fail> {
+    match ComponentName::new_with_features(alloc, text, 5, features) {
+        Ok(name) => both(alloc, &name),
+        Err(error) => Ok(format!(in alloc; "{}", error.kind())?),
+    }
+}
+
+#[test]
+fn names_have_forms_and_keys(rt: HostRuntime) -> Result<(), Fail> {
+    let alloc = rt.alloc();
+    for line in ROWS.split('\n') {
+        let (text, due) = case(line)?;
+        let found = read(alloc, text, WasmFeatures::CM_ACCESSORS)?;
+        assert_eq!(rt; found.as_str(), due, "{text}");
+    }
+    for line in PLAIN.split('\n') {
+        let (text, due) = case(line)?;
+        let found = read(alloc, text, WasmFeatures::default())?;
+        assert_eq!(rt; found.as_str(), due, "{text}");
+    }
+    Ok(())
+}
+
+// The name of the getter of a setter.
+fn getter(alloc: Global, kind: &ComponentNameKind<'_>) -> Result<Text, Fail> {
+    match kind {
+        ComponentNameKind::Setter(_)
+        | ComponentNameKind::MethodSetter(_, _)
+        | ComponentNameKind::StaticSetter(_, _) => Ok(kind.getter_for_setter(alloc)?),
+        _ => Err("a name is of no setter".into()),
+    }
+}
+
+#[test]
+fn setters_have_getters(rt: HostRuntime) -> Result<(), Fail> {
+    let alloc = rt.alloc();
+    for line in SETTERS.split('\n') {
+        let (text, due) = case(line)?;
+        let kind = ComponentNameKind::read(text).ok_or("no name")?;
+        assert_eq!(rt; getter(alloc, &kind)?.as_str(), due, "{text}");
+    }
+    Ok(())
+}
+
+// The interface that a text names.
+fn interface(text: &str) -> Result<InterfaceName<'_>, Fail> {
+    match ComponentNameKind::read(text) {
+        Some(ComponentNameKind::Interface(of)) => Ok(of),
+        _ => Err("a name is of no interface".into()),
+    }
+}
+
+// The version of an interface, with the rest that stands beside it.
+fn version(alloc: Global, text: &str) -> Result<String, Fail> {
+    let (name, rest) = text.split_once(' ').ok_or("a name has nothing beside it")?;
+    let suffix = if rest == "-" { None } else { Some(rest) };
+    match interface(name)?.version(alloc, suffix, 5) {
+        Ok(None) => Ok(String::from_str(alloc, "-")?),
+        Ok(Some(version)) => Ok(format!(in alloc; "{version}")?),
+        Err(error) => Ok(format!(in alloc; "{}", error.kind())?),
+    }
+}
+
+#[test]
+fn interfaces_have_versions(rt: HostRuntime) -> Result<(), Fail> {
+    let alloc = rt.alloc();
+    for line in VERSIONS.split('\n') {
+        let (text, due) = case(line)?;
+        assert_eq!(rt; version(alloc, text)?.as_str(), due, "{text}");
+    }
+    Ok(())
+}
