@@ -1,3 +1,2 @@
-pub mod Handles
 pub mod Standing
 pub mod States

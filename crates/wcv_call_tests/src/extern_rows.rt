@@ -1,7 +1,8 @@
 // Entries of one list of exports, and whether they may stand in it.
 
 /// The types before those that entries bring: two resources with their handles, results over them, and others.
-pub const TYPES: &str = "resource; own 0; borrow 0; resource; own 3; borrow 3; result 1 -; result - 1; result 4 -; \
+pub const TYPES: &str =
+    "resource; own 0; borrow 0; resource; own 3; borrow 3; result 1 -; result - 1; result 4 -; \
 result u32 -; result - u32; result - -; prim u32; list u32; list u32; option 1";
 
 /// How many they are.

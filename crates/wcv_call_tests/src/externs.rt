@@ -88,7 +88,10 @@ fn type_of(
 {
     let _ = types;
     match state.component_type_at(index, 0) {
-        Ok(id) => Ok(ComponentEntityType::Ty { created: id, referenced: id }),
+        Ok(id) => Ok(ComponentEntityType::Ty {
+            created: id,
+            referenced: id,
+        }),
         Err(_) => Err("there is no such type".into()),
     }
 }
@@ -222,7 +225,11 @@ fn entries_look_as_their_names_say(rt: HostRuntime) -> Result<(), Fail> {
     ] {
         for line in rows.split('\n') {
             let (asked, due) = case(line)?;
-            assert_eq!(rt; answer(alloc, name, asked, &features)?.as_str(), due, "{asked}");
+            assert_eq!(rt;
+                answer(alloc, name, asked, &features)?.as_str(),
+                due,
+                "{asked}"
+            );
         }
     }
     Ok(())

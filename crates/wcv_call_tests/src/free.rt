@@ -26,9 +26,7 @@ fn again(types: &mut TypeAlloc, id: ComponentAnyTypeId) -> Result<ComponentAnyTy
 }
 
 // What becomes of a resource, and the resource that is made after it.
-fn resource_again(
-    alloc: Global,
-) -> Result<(ComponentAnyTypeId, AliasableResourceId), OutOfMemory> {
+fn resource_again(alloc: Global) -> Result<(ComponentAnyTypeId, AliasableResourceId), OutOfMemory> {
     let mut types = TypeAlloc::new(alloc, WasmFeatures::all());
     let first = types.alloc_resource_id()?;
     let made = again(&mut types, ComponentAnyTypeId::Resource(first))?;
@@ -78,26 +76,26 @@ fn types_get_new_identities(rt: HostRuntime) -> Result<(), Fail> {
     Ok(())
 }
 
-// Types behind an owning and a borrowing handle, which have the indices 0 and 1, and the resources that are free
-// in the last one.
+// Types behind a resource, its owning and its borrowing handle, which have the indices 0 to 2, and the resources
+// that are free in the last one.
 const ROWS: &str = "\
-0 => 0
-1 => 0
+own 0 => 0
+borrow 0 => 0
 prim u32 => -
 prim string => -
 enum 2 => -
 tuple u8 string => -
-tuple 1 0 1 => 0
-list u8; option 2 => -
-list 0; option 2; record u8 3 => 0
-tuple 0 1; tuple 2 2; tuple 3 3 => 0
-variant - 1 - => 0
-result - 0 => 0
-map string u8; result 2 2 => -
+tuple 2 1 2 => 0
+list u8; option 3 => -
+list 1; option 3; record u8 4 => 0
+tuple 1 2; tuple 3 3; tuple 4 4 => 0
+variant - 2 - => 0
+result - 1 => 0
+map string u8; result 3 3 => -
 future - => -
-future 0 => 0
-stream 0; tuple u8 2 => 0
-fixed-list 0 3 => 0";
+future 1 => 0
+stream 1; tuple u8 3 => 0
+fixed-list 1 3 => 0";
 
 // The numbers of resources, or a dash.
 fn numbers(alloc: Global, set: &ResourceSet) -> Result<String, Fail> {
@@ -142,7 +140,11 @@ fn resources_are_free_in_types(rt: HostRuntime) -> Result<(), Fail> {
         let (types, ty) = declared(alloc, asked)?;
         let in_value = numbers(alloc, &free_in_value(&types, ty)?)?;
         let in_type = numbers(alloc, &free_in_type(&types, ty)?)?;
-        assert_eq!(rt; (in_value.as_str(), in_type.as_str()), (due, due), "{asked}");
+        assert_eq!(rt;
+            (in_value.as_str(), in_type.as_str()),
+            (due, due),
+            "{asked}"
+        );
     }
     Ok(())
 }

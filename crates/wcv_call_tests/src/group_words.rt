@@ -108,7 +108,9 @@ fn form(alloc: Global, words: &str) -> Result<CompositeInnerType, Fail> {
         "struct" => Ok(CompositeInnerType::Struct(StructType {
             fields: fields(alloc, rest)?,
         })),
-        "array" => Ok(CompositeInnerType::Array(ArrayType { field: field(rest)? })),
+        "array" => Ok(CompositeInnerType::Array(ArrayType {
+            field: field(rest)?,
+        })),
         _ => Err("a core type has no form".into()),
     }
 }

@@ -27,7 +27,11 @@ fn add(
     ensures { All (IsKnown (total core.new)) space.new.0 }
 {
     if space.types_len() > 1000 || group.types.len() > 1000 {
-        return Err(Error::new(ErrorKind::Limit, offset, format_args!("a test is too large")));
+        return Err(Error::new(
+            ErrorKind::Limit,
+            offset,
+            format_args!("a test is too large"),
+        ));
     }
     canonicalize_and_intern_rec_group(space, core, group, offset)
 }
@@ -227,7 +231,13 @@ fn types_stand_in_their_groups(rt: HostRuntime) -> Result<(), Fail> {
     ] {
         assert_eq!(rt; place(&core, index), due, "{index}");
     }
-    for (a, b, due) in [(3, 1, true), (3, 3, true), (1, 3, false), (5, 4, true), (5, 1, false)] {
+    for (a, b, due) in [
+        (3, 1, true),
+        (3, 3, true),
+        (1, 3, false),
+        (5, 4, true),
+        (5, 1, false),
+    ] {
         assert_eq!(rt; is_below(&core, a, b), Some(due), "{a} {b}");
     }
     Ok(())

@@ -4,8 +4,8 @@ use crate::table::case;
 use std::alloc::Global;
 use std::test::Fail;
 
-// Types behind an owning and a borrowing handle, which have the indices 0 and 1, and of the last one the size
-// and the alignment with 32-bit and with 64-bit pointers, and what stands in it.
+// Types behind a resource, its owning and its borrowing handle, which have the indices 0 to 2, and of the last
+// one the size and the alignment with 32-bit and with 64-bit pointers, and what stands in it.
 const ROWS: &str = "\
 prim bool => 1 1 1 1
 prim u8 => 1 1 1 1
@@ -17,8 +17,8 @@ prim s64 => 8 8 8 8
 prim f64 => 8 8 8 8
 prim string => 8 4 16 8 pointer
 prim error-context => 4 4 4 4 handle
-0 => 4 4 4 4 handle
-1 => 4 4 4 4 handle borrow
+own 0 => 4 4 4 4 handle
+borrow 0 => 4 4 4 4 handle borrow
 record u8 u32 u8 => 12 4 12 4
 record u8 string => 12 4 24 8 pointer
 record u8 u16 u8 => 6 2 6 2
@@ -27,37 +27,37 @@ record u64 u8 => 16 8 16 8
 record error-context s8 => 8 4 8 4 handle
 tuple u8 u8 u8 => 3 1 3 1
 tuple bool f64 u8 f32 => 24 8 24 8
-tuple 0 u8 => 8 4 8 4 handle
-tuple 1 string => 12 4 24 8 pointer handle borrow
-tuple u8 u16; tuple u8 2 u8 => 8 2 8 2
-flags 1; record u32 2 => 8 4 8 4
+tuple 1 u8 => 8 4 8 4 handle
+tuple 2 string => 12 4 24 8 pointer handle borrow
+tuple u8 u16; tuple u8 3 u8 => 8 2 8 2
+flags 1; record u32 3 => 8 4 8 4
 list u8 => 8 4 16 8 pointer
-list 1 => 8 4 16 8 pointer handle borrow
-list u64; list 2 => 8 4 16 8 pointer
+list 2 => 8 4 16 8 pointer handle borrow
+list u64; list 3 => 8 4 16 8 pointer
 map string u8 => 8 4 16 8 pointer
 map u8 u64 => 8 4 16 8 pointer
 fixed-list u8 1 => 1 1 1 1
 fixed-list u16 3 => 6 2 6 2
 fixed-list string 3 => 24 4 48 8 pointer
-fixed-list 0 2 => 8 4 8 4 handle
-tuple u8 u32; fixed-list 2 5 => 40 4 40 4
+fixed-list 1 2 => 8 4 8 4 handle
+tuple u8 u32; fixed-list 3 5 => 40 4 40 4
 option u8 => 2 1 2 1
 option u32 => 8 4 8 4
 option u64 => 16 8 16 8
 option string => 12 4 24 8 pointer
-option 1 => 8 4 8 4 handle borrow
-option u8; option 2 => 3 1 3 1
+option 2 => 8 4 8 4 handle borrow
+option u8; option 3 => 3 1 3 1
 result - - => 1 1 1 1
 result u8 - => 2 1 2 1
 result - u64 => 16 8 16 8
 result u8 string => 12 4 24 8 pointer
-result 0 u16 => 8 4 8 4 handle
+result 1 u16 => 8 4 8 4 handle
 variant - => 1 1 1 1
 variant - u8 => 2 1 2 1
-tuple u32 u32 u32; variant f64 2 => 24 8 24 8
-tuple u8 u8 u8 u8 u8; variant u16 2 => 8 2 8 2
+tuple u32 u32 u32; variant f64 3 => 24 8 24 8
+tuple u8 u8 u8 u8 u8; variant u16 3 => 8 2 8 2
 variant u64 string => 16 8 24 8 pointer
-variant 1 0 - => 8 4 8 4 handle borrow
+variant 2 1 - => 8 4 8 4 handle borrow
 cases 256 - => 1 1 1 1
 cases 257 - => 2 2 2 2
 cases 256 u8 => 2 1 2 1
@@ -79,9 +79,9 @@ flags 32 => 4 4 4 4
 future - => 4 4 4 4 handle
 future string => 4 4 4 4 handle
 stream u8 => 4 4 4 4 handle
-list u8; stream 2 => 4 4 4 4 handle
-future -; list 2 => 8 4 16 8 pointer handle
-stream string; tuple 2 string => 12 4 24 8 pointer handle";
+list u8; stream 3 => 4 4 4 4 handle
+future -; list 3 => 8 4 16 8 pointer handle
+stream string; tuple 3 string => 12 4 24 8 pointer handle";
 
 // The numbers of the layout of the last of these types, and a word for each mark.
 fn layout(alloc: Global, text: &str) -> Result<String, Fail> {

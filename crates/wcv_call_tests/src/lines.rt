@@ -4,20 +4,20 @@ use crate::text::text_of;
 use std::alloc::Global;
 use std::test::Fail;
 
-// Types behind an owning and a borrowing handle, which have the indices 0 and 1, and the lines of a value of
-// the last one.
+// Types behind a resource, its owning and its borrowing handle, which have the indices 0 to 2, and the lines of
+// a value of the last one.
 const ROWS: &str = r#"
-0
+own 0
 => 0: resource r0
 1: own 0
 import "v" value 1
 
-1
+borrow 0
 => 0: resource r0
 1: borrow 0
 import "v" value 1
 
-tuple 1 0 1
+tuple 2 1 2
 => 0: resource r0
 1: borrow 0
 2: own 0
@@ -92,7 +92,7 @@ stream u8
 => 0: stream u8
 import "v" value 0
 
-enum 1; flags 2; record 3 2 3; variant 4 - 0; list 5
+enum 1; flags 2; record 4 3 4; variant 5 - 1; list 6
 => 0: flags {"n0", "n1"}
 1: enum {"n0"}
 2: record {"n0" 0, "n1" 1, "n2" 0}

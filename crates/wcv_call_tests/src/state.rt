@@ -1,10 +1,10 @@
 // States: what is pushed joins its space, what stands at an index, and written types give entities.
-ghost use Rattle.std.specs.Prelude.{◌≡◌, false, IfOk, OnOk};
+ghost use Rattle.std.specs.Prelude.{◌≡◌, false, OnOk};
 ghost use Rattle.wcv_core.specs.Features.{default_features};
 ghost use Rattle.wcv_state.specs.Contents.{empty_state, StateStands};
 ghost use Rattle.wcv_state.specs.declared.kind.ComponentKind.TheVariants as kind;
 
-use crate::text::plain;
+use crate::declared::with_types;
 use std::alloc::Global;
 use std::test::Fail;
 use wcv_core::{
@@ -49,21 +49,19 @@ const GLOBAL: GlobalType = GlobalType {
     shared: false,
 };
 
-// The spaces, in order, and how often there is a push into each. There is none for values and for components.
-const PUSHES: [(Space, usize); 13] = [
-    (Space::CoreTypes, 1),
-    (Space::CoreFuncs, 2),
-    (Space::CoreTags, 3),
-    (Space::CoreModules, 4),
-    (Space::CoreInstances, 5),
-    (Space::CoreMemories, 6),
-    (Space::CoreTables, 7),
-    (Space::CoreGlobals, 8),
-    (Space::Types, 9),
-    (Space::Funcs, 10),
-    (Space::Values, 0),
-    (Space::Instances, 11),
-    (Space::Components, 0),
+// The spaces into which there are pushes: one into the first, two into the second, and so on.
+const SPACES: [Space; 11] = [
+    Space::CoreTypes,
+    Space::CoreFuncs,
+    Space::CoreTags,
+    Space::CoreModules,
+    Space::CoreInstances,
+    Space::CoreMemories,
+    Space::CoreTables,
+    Space::CoreGlobals,
+    Space::Types,
+    Space::Funcs,
+    Space::Instances,
 ];
 
 /// One push into a space of what is no core item.
@@ -112,7 +110,8 @@ fn push_some(state: &mut ComponentState, space: Space, count: usize) -> Result<(
     requires { state.old.spent ≡ false }
     ensures { OnOk result (state.new.spent ≡ false) }
 {
-    for _ in 0..count {
+    for k in 0..count {
+        let _ = k;
         push_any(state, space)?;
     }
     Ok(())
@@ -123,7 +122,9 @@ fn push_all(state: &mut ComponentState) -> Result<(), OutOfMemory>
     requires { state.old.spent ≡ false }
     ensures { OnOk result (state.new.spent ≡ false) }
 {
-    for (space, count) in PUSHES {
+    let mut count: usize = 0;
+    for space in SPACES {
+        count = count.saturating_add(1);
         push_some(state, space, count)?;
     }
     Ok(())
@@ -136,15 +137,36 @@ fn empty(alloc: Global) -> ComponentState
     ComponentState::new(alloc, ComponentKind::Component, WasmFeatures::default())
 }
 
+// The lengths of the thirteen spaces.
+fn lengths(state: &ComponentState) -> [usize; 13] {
+    [
+        state.space_len(Space::CoreTypes),
+        state.space_len(Space::CoreFuncs),
+        state.space_len(Space::CoreTags),
+        state.space_len(Space::CoreModules),
+        state.space_len(Space::CoreInstances),
+        state.space_len(Space::CoreMemories),
+        state.space_len(Space::CoreTables),
+        state.space_len(Space::CoreGlobals),
+        state.space_len(Space::Types),
+        state.space_len(Space::Funcs),
+        state.space_len(Space::Values),
+        state.space_len(Space::Instances),
+        state.space_len(Space::Components),
+    ]
+}
+
 #[test]
 fn a_push_adds_one_to_its_space(rt: HostRuntime) -> Result<(), Fail> {
     let mut state = empty(rt.alloc());
     push_all(&mut state)?;
-    for (space, count) in PUSHES {
-        assert_eq!(rt; state.space_len(space), count);
-    }
+    assert_eq!(rt; lengths(&state), [1, 2, 3, 4, 5, 6, 7, 8, 9, 10, 0, 11, 0]);
     assert_eq!(rt;
-        (state.type_count(), state.function_count(), state.instance_count()),
+        (
+            state.type_count(),
+            state.function_count(),
+            state.instance_count()
+        ),
         (10, 12, 16)
     );
     Ok(())
@@ -193,43 +215,40 @@ fn resources_have_representations(rt: HostRuntime) -> Result<(), Fail> {
         (2, Some(ErrorKind::WrongSort), ErrorKind::WrongSort),
         (3, Some(ErrorKind::OutOfBounds), ErrorKind::OutOfBounds),
     ] {
-        assert_eq!(rt; state.resource_at(index, 4).err().map(|e| e.kind()), read, "{index}");
+        assert_eq!(rt;
+            state.resource_at(index, 4).err().map(|e| e.kind()),
+            read,
+            "{index}"
+        );
         let error = state.local_rep(index, 4).err().ok_or("no refusal")?;
         assert_eq!(rt; (error.kind(), error.offset()), (local, 4), "{index}");
     }
     Ok(())
 }
 
-/// An arena with one function type, and a state with that type alone.
-fn with_one_type(alloc: Global) -> Result<(TypeAlloc, ComponentState), OutOfMemory>
-    ensures live { IfOk result (λ r. r.1.spent ≡ false) }
-    ensures stands { IfOk result (λ r. StateStands r.0 r.1) }
+/// What a function of the type at that index is.
+fn func_at(
+    index: u32,
+    state: &mut ComponentState,
+    types: &mut TypeAlloc,
+) -> Result<ComponentEntityType, Error>
+    requires live { state.old.spent ≡ false }
+    requires stands { StateStands types.old state.old }
 {
-    let mut types = TypeAlloc::new(alloc, WasmFeatures::default());
-    let id: ComponentFuncTypeId = types.push_ty(plain(alloc))?;
-    let mut state = empty(alloc);
-    state.push_type(ComponentAnyTypeId::Func(id))?;
-    Ok((types, state))
-}
-
-// What a function of the type at that index is, in a state with one type.
-fn func_at(alloc: Global, index: u32) -> Result<ComponentEntityType, Error> {
-    let (mut types, mut state) = with_one_type(alloc)?;
-    state.check_type_ref(&ComponentTypeRef::Func(index), &mut types, 5)
+    state.check_type_ref(&ComponentTypeRef::Func(index), types, 5)
 }
 
 #[test]
 fn a_written_function_type_gives_its_entity(rt: HostRuntime) -> Result<(), Fail> {
-    let alloc = rt.alloc();
-    let first = ComponentEntityType::Func(FUNC);
-    assert_eq!(rt; func_at(alloc, 0).ok(), Some(first));
-    for index in [1, 7] {
-        let error = func_at(alloc, index).err().ok_or("no refusal")?;
-        assert_eq!(rt;
-            (error.kind(), error.offset()),
-            (ErrorKind::OutOfBounds, 5),
-            "{index}"
-        );
+    for (index, due) in [
+        (0, Err(ErrorKind::WrongSort)),
+        (1, Ok(ComponentEntityType::Func(FUNC))),
+        (2, Err(ErrorKind::OutOfBounds)),
+        (7, Err(ErrorKind::OutOfBounds)),
+    ] {
+        let (mut types, mut state) = with_types(rt.alloc(), "resource; fn -> -")?;
+        let found = func_at(index, &mut state, &mut types);
+        assert_eq!(rt; found.map_err(|e| e.kind()), due, "{index}");
     }
     Ok(())
 }

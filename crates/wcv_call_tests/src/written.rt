@@ -103,7 +103,10 @@ fn of_two(alloc: Global, form: &str, rest: &str) -> Result<ComponentDefinedType,
     let (first, second) = rest.split_once(' ').ok_or("a type has no second word")?;
     match form {
         "map" => Ok(ComponentDefinedType::Map(value_word(first)?, value_word(second)?)),
-        "fixed-list" => Ok(ComponentDefinedType::FixedLengthList(value_word(first)?, second.parse()?)),
+        "fixed-list" => Ok(ComponentDefinedType::FixedLengthList(
+            value_word(first)?,
+            second.parse()?,
+        )),
         "result" => Ok(ComponentDefinedType::Result {
             ok: optional(first)?,
             err: optional(second)?,
@@ -162,7 +165,10 @@ fn func(alloc: Global, async_: bool, words: &str) -> Result<ComponentFuncType, F
 /// So of a type of any sort: a defined type; `resource`; `fn NAME TYPE .. -> RESULT`, maybe behind `async`.
 pub fn written_type(alloc: Global, words: &str) -> Result<ComponentType, Fail> {
     if words == "resource" {
-        return Ok(ComponentType::Resource { rep: ValType::I32, dtor: None });
+        return Ok(ComponentType::Resource {
+            rep: ValType::I32,
+            dtor: None,
+        });
     }
     let plain = words.strip_prefix("async ").unwrap_or(words);
     if let Some(rest) = plain.strip_prefix("fn ") {
