@@ -40,8 +40,8 @@ fn whole_name(alloc: Global, words: &str) -> Result<ComponentExternName, Fail> {
 }
 
 // Whether an entry brings a function type.
-fn is_func(words: &str) -> bool {
-    !words.starts_with("type ") && !words.starts_with("value ")
+fn is_func(entry: &str) -> bool {
+    entry.find(" = type ").is_none() && entry.find(" = value ").is_none()
 }
 
 // The types of a row: those that stand before, and the function types of the entries.
@@ -49,7 +49,7 @@ fn types_of(alloc: Global, row: &str) -> Result<String, Fail> {
     let mut text = String::from_str(alloc, TYPES)?;
     for entry in row.split(" | ") {
         let (_, words) = entry.split_once(" = ").ok_or("an entry has no type")?;
-        if is_func(words) {
+        if is_func(entry) {
             write!(text, "; {words}")?;
         }
     }
@@ -162,6 +162,31 @@ fn enter(
     )
 }
 
+/// An entry of a row joins; a function has the type at the index.
+fn join(
+    alloc: Global,
+    context: &ComponentNameContext,
+    entry: &str,
+    index: u32,
+    state: &ComponentState,
+    types: &TypeAlloc,
+    offset: u64,
+    keys: &mut NameSet,
+    items: &mut ItemMap,
+    features: &WasmFeatures,
+) -> Result<Result<(), Error>, Fail>
+    requires stands { StateStands types.now state.now }
+    requires items { All (EntryStands types.now) items.old }
+    requires keys { HasKeys keys.old (names_in items.old) }
+    ensures items { IfOk result (λ r. OnOk r (All (EntryStands types.now) items.new)) }
+    ensures keys { IfOk result (λ r. OnOk r (HasKeys keys.new (names_in items.new))) }
+{
+    let (name, words) = entry.split_once(" = ").ok_or("an entry has no type")?;
+    let name = whole_name(alloc, name)?;
+    let ty = entity(words, index, state, types)?;
+    Ok(enter(context, &name, &ty, types, offset, keys, items, features))
+}
+
 /// What becomes of the entries of a row.
 fn joined(
     alloc: Global,
@@ -169,24 +194,23 @@ fn joined(
     row: &str,
     state: &ComponentState,
     types: &TypeAlloc,
+    keys: &mut NameSet,
+    items: &mut ItemMap,
     features: &WasmFeatures,
 ) -> Result<Result<(), Error>, Fail>
-    requires { StateStands types.now state.now }
+    requires stands { StateStands types.now state.now }
+    requires items { All (EntryStands types.now) items.old }
+    requires keys { HasKeys keys.old (names_in items.old) }
 {
-    let mut keys = NameSet::new(alloc);
-    let mut items = ItemMap::new(alloc);
     let mut index = COUNT;
-    let mut offset = 0;
+    let mut offset: u64 = 0;
     for entry in row.split(" | ") {
-        let (name, words) = entry.split_once(" = ").ok_or("an entry has no type")?;
-        let name = whole_name(alloc, name)?;
-        let ty = entity(words, index, state, types)?;
-        if let Err(error) = enter(
-            context, &name, &ty, types, offset, &mut keys, &mut items, features,
-        ) {
+        if let Err(error) = join(
+            alloc, context, entry, index, state, types, offset, keys, items, features,
+        )? {
             return Ok(Err(error));
         }
-        if is_func(words) {
+        if is_func(entry) {
             index = index.saturating_add(1);
         }
         offset = offset.saturating_add(1);
@@ -204,15 +228,47 @@ fn names(alloc: Global, name: &str, state: &ComponentState) -> Result<ComponentN
     Ok(context)
 }
 
-// The answer of a row.
-fn answer(alloc: Global, name: &str, row: &str, features: &WasmFeatures) -> Result<String, Fail> {
-    let types = types_of(alloc, row)?;
-    let (types, state) = with_types(alloc, types.as_str())?;
-    let context = names(alloc, name, &state)?;
-    match joined(alloc, &context, row, &state, &types, features)? {
+/// So in a list with no entry.
+fn joined_alone(
+    alloc: Global,
+    context: &ComponentNameContext,
+    row: &str,
+    state: &ComponentState,
+    types: &TypeAlloc,
+    features: &WasmFeatures,
+) -> Result<Result<(), Error>, Fail>
+    requires { StateStands types.now state.now }
+{
+    let mut keys = NameSet::new(alloc);
+    let mut items = ItemMap::new(alloc);
+    joined(
+        alloc, context, row, state, types, &mut keys, &mut items, features,
+    )
+}
+
+/// The answer of a row, over its types.
+fn answer_over(
+    alloc: Global,
+    name: &str,
+    row: &str,
+    state: &ComponentState,
+    types: &TypeAlloc,
+    features: &WasmFeatures,
+) -> Result<String, Fail>
+    requires { StateStands types.now state.now }
+{
+    let context = names(alloc, name, state)?;
+    match joined_alone(alloc, &context, row, state, types, features)? {
         Ok(()) => Ok(String::from_str(alloc, "ok")?),
         Err(error) => Ok(format!(in alloc; "{} at {}", error.kind(), error.offset())?),
     }
+}
+
+// The answer of a row.
+fn answer(alloc: Global, name: &str, row: &str, features: &WasmFeatures) -> Result<String, Fail> {
+    let text = types_of(alloc, row)?;
+    let (types, state) = with_types(alloc, text.as_str())?;
+    answer_over(alloc, name, row, &state, &types, features)
 }
 
 #[test]
@@ -235,15 +291,48 @@ fn entries_look_as_their_names_say(rt: HostRuntime) -> Result<(), Fail> {
     Ok(())
 }
 
+// Whether the reference to a resource has the name, and whether some reference has it.
+fn named(
+    context: &ComponentNameContext,
+    name: &str,
+    index: u32,
+    state: &ComponentState,
+) -> Result<(bool, bool), Fail> {
+    match state.resource_at(index, 0) {
+        Ok(id) => Ok((context.is_named(&id, name), context.has_name(name)?)),
+        Err(_) => Err("there is no resource".into()),
+    }
+}
+
+// So where the first of two resources is named.
+fn named_so(
+    alloc: Global,
+    state: &ComponentState,
+    name: &str,
+    index: u32,
+) -> Result<(bool, bool), Fail> {
+    let context = names(alloc, "r-S", state)?;
+    named(&context, name, index, state)
+}
+
+fn named_alone(alloc: Global, name: &str, index: u32) -> Result<(bool, bool), Fail> {
+    let (_types, state) = with_types(alloc, "resource; resource")?;
+    named_so(alloc, &state, name, index)
+}
+
 #[test]
 fn resources_have_names(rt: HostRuntime) -> Result<(), Fail> {
-    let alloc = rt.alloc();
-    let (_, state) = with_types(alloc, "resource; resource")?;
-    let context = names(alloc, "r-S", &state)?;
-    let first = state.resource_at(0, 0).ok().ok_or("no resource")?;
-    let second = state.resource_at(1, 0).ok().ok_or("no resource")?;
-    assert!(rt; context.is_named(&first, "r-S") && context.has_name("r-S")?);
-    assert!(rt; !context.is_named(&first, "r-s") && !context.has_name("r-s")?);
-    assert!(rt; !context.is_named(&second, "r-S"));
+    for (name, index, due) in [
+        ("r-S", 0, (true, true)),
+        ("r-s", 0, (false, false)),
+        ("r-S", 1, (false, true)),
+        ("", 0, (false, false)),
+    ] {
+        assert_eq!(rt;
+            named_alone(rt.alloc(), name, index)?,
+            due,
+            "{name} {index}"
+        );
+    }
     Ok(())
 }

@@ -92,14 +92,26 @@ fn ids(alloc: Global, space: &CoreSpace, from: u32) -> Result<String, Fail> {
     Ok(line)
 }
 
-// What becomes of the last of these groups.
+/// What becomes of the last of these groups.
+fn added(
+    alloc: Global,
+    text: &str,
+    space: &mut CoreSpace,
+    core: &mut CoreTypes,
+) -> Result<String, Fail>
+    requires { All (IsKnown (total core.old)) space.old.0 }
+{
+    match add_all(alloc, text, space, core)? {
+        Ok(before) => ids(alloc, space, before),
+        Err(error) => Ok(format!(in alloc; "{} at {}", error.kind(), error.offset())?),
+    }
+}
+
+// So in a space with no type.
 fn interned(alloc: Global, text: &str, features: WasmFeatures) -> Result<String, Fail> {
     let mut core = CoreTypes::new(alloc);
     let mut space = CoreSpace::new(alloc, features);
-    match add_all(alloc, text, &mut space, &mut core)? {
-        Ok(before) => ids(alloc, &space, before),
-        Err(error) => Ok(format!(in alloc; "{} at {}", error.kind(), error.offset())?),
-    }
+    added(alloc, text, &mut space, &mut core)
 }
 
 #[test]
@@ -213,12 +225,46 @@ fn is_below(core: &CoreTypes, a: u64, b: u64) -> Option<bool> {
     Some(core.is_declared_subtype(CoreTypeId { index: a }, CoreTypeId { index: b }))
 }
 
-#[test]
-fn types_stand_in_their_groups(rt: HostRuntime) -> Result<(), Fail> {
-    let alloc = rt.alloc();
+/// So in the table of these types.
+fn place_added(
+    alloc: Global,
+    index: u64,
+    space: &mut CoreSpace,
+    core: &mut CoreTypes,
+) -> Result<Option<(u64, u64, bool)>, Fail>
+    requires { All (IsKnown (total core.old)) space.old.0 }
+{
+    let _ = add_all(alloc, TYPES, space, core)?;
+    Ok(place(core, index))
+}
+
+fn place_of(alloc: Global, index: u64) -> Result<Option<(u64, u64, bool)>, Fail> {
     let mut core = CoreTypes::new(alloc);
     let mut space = CoreSpace::new(alloc, WasmFeatures::all());
-    assert!(rt; add_all(alloc, TYPES, &mut space, &mut core)?.is_ok());
+    place_added(alloc, index, &mut space, &mut core)
+}
+
+fn below_added(
+    alloc: Global,
+    a: u64,
+    b: u64,
+    space: &mut CoreSpace,
+    core: &mut CoreTypes,
+) -> Result<Option<bool>, Fail>
+    requires { All (IsKnown (total core.old)) space.old.0 }
+{
+    let _ = add_all(alloc, TYPES, space, core)?;
+    Ok(is_below(core, a, b))
+}
+
+fn is_below_of(alloc: Global, a: u64, b: u64) -> Result<Option<bool>, Fail> {
+    let mut core = CoreTypes::new(alloc);
+    let mut space = CoreSpace::new(alloc, WasmFeatures::all());
+    below_added(alloc, a, b, &mut space, &mut core)
+}
+
+#[test]
+fn types_stand_in_their_groups(rt: HostRuntime) -> Result<(), Fail> {
     for (index, due) in [
         (0, Some((0, 1, true))),
         (1, Some((1, 1, false))),
@@ -229,7 +275,7 @@ fn types_stand_in_their_groups(rt: HostRuntime) -> Result<(), Fail> {
         (11, Some((11, 1, true))),
         (12, None),
     ] {
-        assert_eq!(rt; place(&core, index), due, "{index}");
+        assert_eq!(rt; place_of(rt.alloc(), index)?, due, "{index}");
     }
     for (a, b, due) in [
         (3, 1, true),
@@ -238,20 +284,35 @@ fn types_stand_in_their_groups(rt: HostRuntime) -> Result<(), Fail> {
         (5, 4, true),
         (5, 1, false),
     ] {
-        assert_eq!(rt; is_below(&core, a, b), Some(due), "{a} {b}");
+        assert_eq!(rt; is_below_of(rt.alloc(), a, b)?, Some(due), "{a} {b}");
     }
     Ok(())
 }
 
-#[test]
-fn value_types_match(rt: HostRuntime) -> Result<(), Fail> {
-    let alloc = rt.alloc();
+/// So over the table of these types.
+fn matches_added(
+    alloc: Global,
+    asked: &str,
+    space: &mut CoreSpace,
+    core: &mut CoreTypes,
+) -> Result<&'static str, Fail>
+    requires { All (IsKnown (total core.old)) space.old.0 }
+{
+    let _ = add_all(alloc, TYPES, space, core)?;
+    matches(asked, space, core)
+}
+
+fn matches_of(alloc: Global, asked: &str) -> Result<&'static str, Fail> {
     let mut core = CoreTypes::new(alloc);
     let mut space = CoreSpace::new(alloc, WasmFeatures::all());
-    assert!(rt; add_all(alloc, TYPES, &mut space, &mut core)?.is_ok());
+    matches_added(alloc, asked, &mut space, &mut core)
+}
+
+#[test]
+fn value_types_match(rt: HostRuntime) -> Result<(), Fail> {
     for line in MATCHES.split('\n') {
         let (asked, due) = case(line)?;
-        assert_eq!(rt; matches(asked, &space, &core)?, due, "{asked}");
+        assert_eq!(rt; matches_of(rt.alloc(), asked)?, due, "{asked}");
     }
     Ok(())
 }

@@ -156,19 +156,30 @@ fn lengths(state: &ComponentState) -> [usize; 13] {
     ]
 }
 
+/// The lengths after the pushes, and how many types, functions and instances there are of both sorts.
+fn counts(state: &mut ComponentState) -> Result<([usize; 13], [usize; 3]), OutOfMemory>
+    requires { state.old.spent ≡ false }
+{
+    push_all(state)?;
+    let both = [
+        state.type_count(),
+        state.function_count(),
+        state.instance_count(),
+    ];
+    Ok((lengths(state), both))
+}
+
+// So in a state that was empty.
+fn pushed(alloc: Global) -> Result<([usize; 13], [usize; 3]), OutOfMemory> {
+    let mut state = empty(alloc);
+    counts(&mut state)
+}
+
 #[test]
 fn a_push_adds_one_to_its_space(rt: HostRuntime) -> Result<(), Fail> {
-    let mut state = empty(rt.alloc());
-    push_all(&mut state)?;
-    assert_eq!(rt; lengths(&state), [1, 2, 3, 4, 5, 6, 7, 8, 9, 10, 0, 11, 0]);
-    assert_eq!(rt;
-        (
-            state.type_count(),
-            state.function_count(),
-            state.instance_count()
-        ),
-        (10, 12, 16)
-    );
+    let (lengths, both) = pushed(rt.alloc())?;
+    assert_eq!(rt; lengths, [1, 2, 3, 4, 5, 6, 7, 8, 9, 10, 0, 11, 0]);
+    assert_eq!(rt; both, [10, 12, 16]);
     Ok(())
 }
 
@@ -181,6 +192,11 @@ const REFERENCE: AliasableResourceId = AliasableResourceId {
     stamp: 7,
 };
 
+const OTHER: AliasableResourceId = AliasableResourceId {
+    resource: SECOND,
+    stamp: 8,
+};
+
 /// A resource with a representation and one without are defined.
 fn define(state: &mut ComponentState) -> Result<(), OutOfMemory>
     requires { state.old ≡ empty_state kind.Component default_features }
@@ -190,38 +206,50 @@ fn define(state: &mut ComponentState) -> Result<(), OutOfMemory>
     state.define_resource(SECOND, None)
 }
 
-/// The types of the table below.
+/// A reference to each of them, and a function type.
 fn push_types(state: &mut ComponentState) -> Result<(), OutOfMemory>
     requires { state.old.spent ≡ false }
 {
     state.push_type(ComponentAnyTypeId::Resource(REFERENCE))?;
-    state.push_type(ComponentAnyTypeId::Resource(AliasableResourceId {
-        resource: SECOND,
-        stamp: 8,
-    }))?;
+    state.push_type(ComponentAnyTypeId::Resource(OTHER))?;
     state.push_type(ComponentAnyTypeId::Func(FUNC))
+}
+
+// The reference to a resource, and the resource with its representation, or why there is none.
+type Found = (
+    Result<AliasableResourceId, ErrorKind>,
+    Result<(ResourceId, ValType), ErrorKind>,
+);
+
+/// What stands at an index of these types.
+fn look(state: &mut ComponentState, index: u32) -> Result<Found, OutOfMemory>
+    requires { state.old ≡ empty_state kind.Component default_features }
+{
+    define(state)?;
+    push_types(state)?;
+    let resource = state.resource_at(index, 4);
+    let local = state.local_rep(index, 4);
+    Ok((resource.map_err(|e| e.kind()), local.map_err(|e| e.kind())))
+}
+
+// So in a state that was empty.
+fn resource_at(alloc: Global, index: u32) -> Result<Found, OutOfMemory> {
+    let mut state = empty(alloc);
+    look(&mut state, index)
 }
 
 #[test]
 fn resources_have_representations(rt: HostRuntime) -> Result<(), Fail> {
-    let mut state = empty(rt.alloc());
-    define(&mut state)?;
-    push_types(&mut state)?;
-    assert_eq!(rt; state.resource_at(0, 4).ok(), Some(REFERENCE));
-    assert_eq!(rt; state.local_rep(0, 4).ok(), Some((FIRST, ValType::I64)));
-    assert_eq!(rt; state.resource_at(1, 4).ok().ok_or("no resource")?.stamp, 8);
-    for (index, read, local) in [
-        (1, None, ErrorKind::ResourceScope),
-        (2, Some(ErrorKind::WrongSort), ErrorKind::WrongSort),
-        (3, Some(ErrorKind::OutOfBounds), ErrorKind::OutOfBounds),
+    for (index, due) in [
+        (0, (Ok(REFERENCE), Ok((FIRST, ValType::I64)))),
+        (1, (Ok(OTHER), Err(ErrorKind::ResourceScope))),
+        (2, (Err(ErrorKind::WrongSort), Err(ErrorKind::WrongSort))),
+        (
+            3,
+            (Err(ErrorKind::OutOfBounds), Err(ErrorKind::OutOfBounds)),
+        ),
     ] {
-        assert_eq!(rt;
-            state.resource_at(index, 4).err().map(|e| e.kind()),
-            read,
-            "{index}"
-        );
-        let error = state.local_rep(index, 4).err().ok_or("no refusal")?;
-        assert_eq!(rt; (error.kind(), error.offset()), (local, 4), "{index}");
+        assert_eq!(rt; resource_at(rt.alloc(), index)?, due, "{index}");
     }
     Ok(())
 }
@@ -238,6 +266,12 @@ fn func_at(
     state.check_type_ref(&ComponentTypeRef::Func(index), types, 5)
 }
 
+// So behind a resource and a function type.
+fn func_found(alloc: Global, index: u32) -> Result<Result<ComponentEntityType, Error>, Fail> {
+    let (mut types, mut state) = with_types(alloc, "resource; fn -> -")?;
+    Ok(func_at(index, &mut state, &mut types))
+}
+
 #[test]
 fn a_written_function_type_gives_its_entity(rt: HostRuntime) -> Result<(), Fail> {
     for (index, due) in [
@@ -246,8 +280,7 @@ fn a_written_function_type_gives_its_entity(rt: HostRuntime) -> Result<(), Fail>
         (2, Err(ErrorKind::OutOfBounds)),
         (7, Err(ErrorKind::OutOfBounds)),
     ] {
-        let (mut types, mut state) = with_types(rt.alloc(), "resource; fn -> -")?;
-        let found = func_at(index, &mut state, &mut types);
+        let found = func_found(rt.alloc(), index)?;
         assert_eq!(rt; found.map_err(|e| e.kind()), due, "{index}");
     }
     Ok(())
