@@ -24,31 +24,39 @@ fn labels<'a>(kind: &ComponentNameKind<'a>) -> (&'static str, &'a str, &'a str) 
     }
 }
 
-// A word and texts behind it, as far as they are there.
-fn words(alloc: Global, texts: [&str; 5]) -> Result<String, Fail> {
-    let mut line = String::new(alloc);
-    for text in texts {
-        if !text.is_empty() {
-            if !line.is_empty() {
-                line.push(' ')?;
-            }
-            line.push_str(text)?;
-        }
+// One more word of a line, if it is there.
+fn push_word(line: &mut String, word: &str) -> Result<(), Fail> {
+    if word.is_empty() {
+        return Ok(());
     }
+    line.push(' ')?;
+    line.push_str(word)?;
+    Ok(())
+}
+
+// A word and two texts behind it, as far as they are there.
+fn words(alloc: Global, word: &str, first: &str, second: &str) -> Result<String, Fail> {
+    let mut line = String::from_str(alloc, word)?;
+    push_word(&mut line, first)?;
+    push_word(&mut line, second)?;
+    Ok(line)
+}
+
+// An interface, in words.
+fn interface_words(alloc: Global, of: &InterfaceName<'_>) -> Result<String, Fail> {
+    let mut line = words(alloc, "interface", of.namespace, of.package)?;
+    push_word(&mut line, of.interface)?;
+    push_word(&mut line, of.version.unwrap_or(""))?;
     Ok(line)
 }
 
 // The form, in words.
 fn form(alloc: Global, kind: &ComponentNameKind<'_>) -> Result<String, Fail> {
     if let ComponentNameKind::Interface(of) = kind {
-        let version = of.version.unwrap_or("");
-        return words(
-            alloc,
-            ["interface", of.namespace, of.package, of.interface, version],
-        );
+        return interface_words(alloc, of);
     }
     let (word, first, second) = labels(kind);
-    words(alloc, [word, first, second, "", ""])
+    words(alloc, word, first, second)
 }
 
 // The key, in words.
@@ -61,7 +69,7 @@ fn key(alloc: Global, key: &NameKey) -> Result<String, Fail> {
         NameKey::Setter(Some(r), f) => ("setter", r.as_str(), f.as_str()),
         NameKey::Interface(text) => ("interface", text.as_str(), ""),
     };
-    words(alloc, [word, first, second, "", ""])
+    words(alloc, word, first, second)
 }
 
 // The form and the key of a name.
