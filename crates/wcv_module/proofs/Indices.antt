@@ -1,16 +1,14 @@
 -- Indices of the types of a module.
-use Rattle.std.proofs.Common.{◌≡◌, ℕ, zero, suc, ◌+◌, ◌-◌, ◌<◌, ◌≤◌, List, [], ◌∷◌, length, map, refl, sym, ◌∙◌, ap, arith, subst, Option, Some, None, slice_get, Bool, true, false, not, nat_lt, All, rules, inl, inr}
+use Rattle.std.proofs.Common.{◌≡◌, ℕ, zero, suc, ◌+◌, ◌-◌, ◌<◌, ◌≤◌, List, [], ◌∷◌, length, refl, ◌∙◌, ap, arith, subst, Option, Some, None, slice_get, true, false, not, nat_lt, All, inl, inr}
 use Rattle.std.specs.Option.{option_map}
 use Rattle.std.proofs.lemmas.Bool.{false≢true}
 use Rattle.std.proofs.lemmas.Option.{slice_get-map, slice_get_within, get_or_from_slice_get}
 use Rattle.std.proofs.lemmas.List.Elements.{All-get_or}
-use Rattle.wcv_core.specs.Checks.{Checks, IsFree, Cause, CausedBy, missing, is_none}
-use Rattle.wcv_core.specs.CoreWritten.{Core_entry, sub_entry, module_entry, is_module, IsKnown, entry_checks, heap_checks, closed_heap, closed_index}
+use Rattle.wcv_core.specs.Checks.{IsFree, CausedBy, missing, is_none}
+use Rattle.wcv_core.specs.CoreWritten.{sub_entry, module_entry, is_module, IsKnown, heap_checks, closed_heap, closed_index}
 use Rattle.wcv_core.specs.declared.core_types.CoreTypeId.{CoreTypeId}
-use Rattle.wcv_core.specs.declared.core_types.HeapType.{HeapType}
 use Rattle.wcv_core.specs.declared.core_types.HeapType.TheVariants as heap
 use Rattle.wcv_core.specs.declared.error.Error.{Error}
-use Rattle.wcv_core.specs.declared.error.ErrorKind.TheVariants as kind
 use Rattle.wcv_syntax.specs.CoreItems.{type_entry, type_entries}
 
 pub entry_found : (ts : List CoreTypeId) (i : ℕ) (t : CoreTypeId) → slice_get ts i ≡ Some t → slice_get (type_entries ts) i ≡ Some (sub_entry t.index)

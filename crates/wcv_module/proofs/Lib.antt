@@ -4,4 +4,3 @@ pub mod Joins
 pub mod Names
 pub mod Pairing
 pub mod Repeats
-pub mod Written

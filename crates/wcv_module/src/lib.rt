@@ -1,9 +1,8 @@
 //! The types of core modules.
 #![tactic(auto)]
 
-mod declare;
+mod exports;
 mod features;
-mod limits;
 mod maps;
 mod module;
 mod outer;
@@ -11,6 +10,5 @@ mod pairs;
 mod sizes;
 mod types;
 
-pub use limits::check_declaration_limits;
 pub use maps::{ExportMap, ImportMap};
 pub use module::Module;

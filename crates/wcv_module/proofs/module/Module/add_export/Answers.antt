@@ -1,7 +1,6 @@
 use Rattle.std.proofs.Common.{◌≡◌, rules, arith, string_bytes, not, false}
 use Rattle.std.proofs.lemmas.Grind.{common_steps}
 use Rattle.wcv_core.specs.Label.{is_among}
-use Rattle.wcv_syntax.specs.Model.{Text}
 use Rattle.wcv_module.proofs.Names.{kept_push, kept_again}
 use Rattle.wcv_module.proofs.module.Module.add_export.Goals as goal
 
