@@ -1,10 +1,14 @@
 -- Entities that stand.
-use Rattle.std.proofs.Common.{◌≡◌, sym, subst, []}
-use Rattle.std.specs.Prelude.{All}
-use Rattle.std.proofs.lemmas.List.Elements.{All-nil}
+use Rattle.std.proofs.Common.{◌≡◌, sym, subst}
+use Rattle.std.specs.Prelude.{List, [], ◌∷◌, ◌++◌, All}
+use Rattle.std.proofs.lemmas.List.Elements.{All-nil, All-push}
 use Rattle.wcv_types.specs.Arena.{Arena}
 use Rattle.wcv_types.specs.Entities.{EntityStands, EntryStands}
+use Rattle.wcv_types.specs.Tree.{Text}
+use Rattle.wcv_types.specs.declared.item_map.ComponentItem.{ComponentItem}
 use Rattle.wcv_types.specs.declared.shapes.ComponentEntityType.{ComponentEntityType}
+use Rattle.wcv_syntax.specs.declared.name.ComponentExternName.{ComponentExternName}
+use Rattle.wcv_names.specs.Externs.{entry_of}
 
 -- the same entity stands
 pub same_stands : (a : Arena) (x y : ComponentEntityType) → x ≡ y → EntityStands a y → EntityStands a x
@@ -12,3 +16,7 @@ same_stands a x y e = subst (EntityStands a) (sym e)
 
 pub none_stand : (a : Arena) → All (EntryStands a) []
 none_stand a = All-nil (EntryStands a)
+
+-- entries of a list, and one more behind them
+pub one_more_stands : (a : Arena) (es later : List (Text × ComponentItem)) (n : ComponentExternName) (x : ComponentEntityType) → later ≡ es ++ entry_of n x ∷ [] → EntityStands a x → All (EntryStands a) es → All (EntryStands a) later
+one_more_stands a es later n x e h k = subst (All (EntryStands a)) (sym e) (All-push (EntryStands a) es (entry_of n x) k h)

@@ -19,7 +19,6 @@ use wcv_types::{ComponentValType, TypeAlloc};
 const HANDLES: &str = "resource; own 0; borrow 0";
 
 /// A component with nothing in it, where each feature holds.
-#[tactic(auto, using(crate::proofs::States::empty_one_stands))]
 fn empty(alloc: Global) -> ComponentState
     ensures live { result.spent ≡ false }
     ensures stands { (a : Arena) → StateStands a result }
@@ -58,15 +57,52 @@ fn add_all(
     Ok(())
 }
 
-/// An arena and a state with these types alone, parted by `; `.
-pub fn with_types(alloc: Global, text: &str) -> Result<(TypeAlloc, ComponentState), Fail>
-    ensures live { IfOk result (λ r. r.1.spent ≡ false) }
-    ensures stands { IfOk result (λ r. StateStands r.0 r.1) }
+/// What is asked over types that are declared, and answered by a text.
+pub trait Question {
+    ghost use Rattle.std.specs.Prelude.{◌≡◌, false};
+    ghost use Rattle.wcv_state.specs.Contents.{StateStands};
+
+    /// The answer over these types.
+    fn answer(
+        &self,
+        alloc: Global,
+        state: &mut ComponentState,
+        types: &mut TypeAlloc,
+    ) -> Result<String, Fail>
+        requires live { state.old.spent ≡ false }
+        requires stands { StateStands types.old state.old };
+}
+
+/// The answer once the types have joined.
+fn answer_behind<Q: Question>(
+    alloc: Global,
+    text: &str,
+    question: &Q,
+    state: &mut ComponentState,
+    types: &mut TypeAlloc,
+) -> Result<String, Fail>
+    requires live { state.old.spent ≡ false }
+    requires stands { StateStands types.old state.old }
 {
+    add_all(alloc, text, state, types)?;
+    question.answer(alloc, state, types)
+}
+
+/// The answer over these types alone, parted by `; `.
+pub fn answer_over<Q: Question>(alloc: Global, text: &str, question: &Q) -> Result<String, Fail> {
     let mut types = TypeAlloc::new(alloc, WasmFeatures::all());
     let mut state = empty(alloc);
-    add_all(alloc, text, &mut state, &mut types)?;
-    Ok((types, state))
+    answer_behind(alloc, text, question, &mut state, &mut types)
+}
+
+/// The answer over types that are declared behind the handles.
+pub fn answer_over_handles<Q: Question>(
+    alloc: Global,
+    text: &str,
+    question: &Q,
+) -> Result<String, Fail> {
+    let text = format!(in alloc; "{HANDLES}; {text}")?;
+    answer_over(alloc, text.as_str(), question)
 }
 
 // The index of the last type.
@@ -76,7 +112,7 @@ fn last_index(state: &ComponentState) -> Result<u32, Fail> {
 }
 
 /// The last type.
-fn last_type(state: &ComponentState, types: &TypeAlloc) -> Result<ComponentValType, Fail>
+pub fn last_type(state: &ComponentState, types: &TypeAlloc) -> Result<ComponentValType, Fail>
     requires { StateStands types.now state.now }
     ensures { IfOk result (λ v. SlotStands types.now (value_slot v)) }
 {
@@ -86,14 +122,4 @@ fn last_type(state: &ComponentState, types: &TypeAlloc) -> Result<ComponentValTy
         Ok(id) => Ok(ComponentValType::Ty(id)),
         Err(_) => Err("there is no such type".into()),
     }
-}
-
-/// An arena in which these types were declared behind the handles, and the last of them.
-pub fn declared(alloc: Global, text: &str) -> Result<(TypeAlloc, ComponentValType), Fail>
-    ensures { IfOk result (λ r. SlotStands r.0 (value_slot r.1)) }
-{
-    let text = format!(in alloc; "{HANDLES}; {text}")?;
-    let (types, state) = with_types(alloc, text.as_str())?;
-    let ty = last_type(&state, &types)?;
-    Ok((types, ty))
 }

@@ -5,7 +5,7 @@ ghost use Rattle.wcv_names.specs.KeySet.{HasKeys};
 ghost use Rattle.wcv_state.specs.Contents.{StateStands};
 ghost use Rattle.wcv_types.specs.Entities.{EntityStands, EntryStands};
 
-use crate::declared::with_types;
+use crate::declared::{Question, answer_over};
 use crate::extern_rows::{COUNT, PLAIN, ROWS, TYPES, UPPER};
 use crate::table::case;
 use crate::written::value_word;
@@ -56,6 +56,22 @@ fn types_of(alloc: Global, row: &str) -> Result<String, Fail> {
     Ok(text)
 }
 
+/// A value of the defined type at an index.
+fn defined_of(
+    index: u32,
+    state: &ComponentState,
+    types: &TypeAlloc,
+) -> Result<ComponentEntityType, Fail>
+    requires { StateStands types.now state.now }
+    ensures { IfOk result (λ x. EntityStands types.now x) }
+{
+    let _ = types;
+    match state.defined_type_at(index, 0) {
+        Ok(id) => Ok(ComponentEntityType::Value(ComponentValType::Ty(id))),
+        Err(_) => Err("there is no such defined type".into()),
+    }
+}
+
 /// A value of the written type.
 fn value_of(
     ty: WrittenType,
@@ -65,15 +81,11 @@ fn value_of(
     requires { StateStands types.now state.now }
     ensures { IfOk result (λ x. EntityStands types.now x) }
 {
-    let _ = types;
     match ty {
         WrittenType::Primitive(primitive) => Ok(ComponentEntityType::Value(
             ComponentValType::Primitive(primitive),
         )),
-        WrittenType::Ty(index) => match state.defined_type_at(index, 0) {
-            Ok(id) => Ok(ComponentEntityType::Value(ComponentValType::Ty(id))),
-            Err(_) => Err("there is no such defined type".into()),
-        },
+        WrittenType::Ty(index) => defined_of(index, state, types),
     }
 }
 
@@ -132,6 +144,7 @@ fn entity(
 }
 
 /// An entity joins the exports under a whole name.
+#[tactic(auto, using(crate::proofs::Standing::one_more_stands))]
 fn enter(
     context: &ComponentNameContext,
     name: &ComponentExternName,
@@ -247,28 +260,44 @@ fn joined_alone(
 }
 
 /// The answer of a row, over its types.
-fn answer_over(
+fn row_answer(
     alloc: Global,
-    name: &str,
-    row: &str,
+    row: &Row<'_>,
     state: &ComponentState,
     types: &TypeAlloc,
-    features: &WasmFeatures,
 ) -> Result<String, Fail>
     requires { StateStands types.now state.now }
 {
-    let context = names(alloc, name, state)?;
-    match joined_alone(alloc, &context, row, state, types, features)? {
+    let context = names(alloc, row.name, state)?;
+    match joined_alone(alloc, &context, row.entries, state, types, row.features)? {
         Ok(()) => Ok(String::from_str(alloc, "ok")?),
         Err(error) => Ok(format!(in alloc; "{} at {}", error.kind(), error.offset())?),
     }
 }
 
-// The answer of a row.
-fn answer(alloc: Global, name: &str, row: &str, features: &WasmFeatures) -> Result<String, Fail> {
-    let text = types_of(alloc, row)?;
-    let (types, state) = with_types(alloc, text.as_str())?;
-    answer_over(alloc, name, row, &state, &types, features)
+// The name of the first resource, the entries, and the features that hold.
+#[derive(Drop)]
+struct Row<'a> {
+    name: &'a str,
+    entries: &'a str,
+    features: &'a WasmFeatures,
+}
+
+impl Question for Row<'_> {
+    fn answer(
+        &self,
+        alloc: Global,
+        state: &mut ComponentState,
+        types: &mut TypeAlloc,
+    ) -> Result<String, Fail> {
+        row_answer(alloc, self, state, types)
+    }
+}
+
+// What becomes of a row.
+fn found(alloc: Global, row: &Row<'_>) -> Result<String, Fail> {
+    let text = types_of(alloc, row.entries)?;
+    answer_over(alloc, text.as_str(), row)
 }
 
 #[test]
@@ -281,58 +310,66 @@ fn entries_look_as_their_names_say(rt: HostRuntime) -> Result<(), Fail> {
     ] {
         for line in rows.split('\n') {
             let (asked, due) = case(line)?;
-            assert_eq!(rt;
-                answer(alloc, name, asked, &features)?.as_str(),
-                due,
-                "{asked}"
-            );
+            let row = Row {
+                name,
+                entries: asked,
+                features: &features,
+            };
+            assert_eq!(rt; found(alloc, &row)?.as_str(), due, "{asked}");
         }
     }
     Ok(())
 }
 
-// Whether the reference to a resource has the name, and whether some reference has it.
-fn named(
-    context: &ComponentNameContext,
-    name: &str,
+// A name, and the index of a resource.
+#[derive(Drop)]
+struct Asked<'a> {
+    name: &'a str,
     index: u32,
+}
+
+// Whether the reference to that resource has the name, and whether some reference has it.
+fn named(
+    alloc: Global,
+    context: &ComponentNameContext,
+    asked: &Asked<'_>,
     state: &ComponentState,
-) -> Result<(bool, bool), Fail> {
-    match state.resource_at(index, 0) {
-        Ok(id) => Ok((context.is_named(&id, name), context.has_name(name)?)),
+) -> Result<String, Fail> {
+    match state.resource_at(asked.index, 0) {
+        Ok(id) => {
+            let named = context.is_named(&id, asked.name);
+            let some = context.has_name(asked.name)?;
+            Ok(format!(in alloc; "{named} {some}")?)
+        }
         Err(_) => Err("there is no resource".into()),
     }
 }
 
-// So where the first of two resources is named.
-fn named_so(
-    alloc: Global,
-    state: &ComponentState,
-    name: &str,
-    index: u32,
-) -> Result<(bool, bool), Fail> {
-    let context = names(alloc, "r-S", state)?;
-    named(&context, name, index, state)
-}
-
-fn named_alone(alloc: Global, name: &str, index: u32) -> Result<(bool, bool), Fail> {
-    let (_types, state) = with_types(alloc, "resource; resource")?;
-    named_so(alloc, &state, name, index)
+impl Question for Asked<'_> {
+    fn answer(
+        &self,
+        alloc: Global,
+        state: &mut ComponentState,
+        types: &mut TypeAlloc,
+    ) -> Result<String, Fail> {
+        let _ = types;
+        let context = names(alloc, "r-S", state)?;
+        named(alloc, &context, self, state)
+    }
 }
 
 #[test]
 fn resources_have_names(rt: HostRuntime) -> Result<(), Fail> {
+    let alloc = rt.alloc();
     for (name, index, due) in [
-        ("r-S", 0, (true, true)),
-        ("r-s", 0, (false, false)),
-        ("r-S", 1, (false, true)),
-        ("", 0, (false, false)),
+        ("r-S", 0, "true true"),
+        ("r-s", 0, "false false"),
+        ("r-S", 1, "false true"),
+        ("", 0, "false false"),
     ] {
-        assert_eq!(rt;
-            named_alone(rt.alloc(), name, index)?,
-            due,
-            "{name} {index}"
-        );
+        let asked = Asked { name, index };
+        let found = answer_over(alloc, "resource; resource", &asked)?;
+        assert_eq!(rt; found.as_str(), due, "{name} {index}");
     }
     Ok(())
 }

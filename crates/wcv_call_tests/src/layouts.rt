@@ -1,8 +1,13 @@
 // How value types lie in memory, and what stands in them.
-use crate::declared::declared;
+ghost use Rattle.wcv_types.specs.Entities.{SlotStands};
+ghost use Rattle.wcv_types.specs.Unfold.{value_slot};
+
+use crate::declared::{Question, answer_over_handles, last_type};
 use crate::table::case;
 use std::alloc::Global;
 use std::test::Fail;
+use wcv_state::ComponentState;
+use wcv_types::{ComponentValType, TypeAlloc};
 
 // Types behind a resource, its owning and its borrowing handle, which have the indices 0 to 2, and of the last
 // one the size and the alignment with 32-bit and with 64-bit pointers, and what stands in it.
@@ -83,9 +88,10 @@ list u8; stream 3 => 4 4 4 4 handle
 future -; list 3 => 8 4 16 8 pointer handle
 stream string; tuple 3 string => 12 4 24 8 pointer handle";
 
-// The numbers of the layout of the last of these types, and a word for each mark.
-fn layout(alloc: Global, text: &str) -> Result<String, Fail> {
-    let (types, ty) = declared(alloc, text)?;
+/// The numbers of the layout of the type, and a word for each mark.
+fn layout_words(alloc: Global, types: &TypeAlloc, ty: ComponentValType) -> Result<String, Fail>
+    requires { SlotStands types.now (value_slot ty) }
+{
     let abi = types.abi_info(&ty);
     let mut layout = format!(in alloc;
         "{} {} {} {}",
@@ -103,11 +109,27 @@ fn layout(alloc: Global, text: &str) -> Result<String, Fail> {
     Ok(layout)
 }
 
+// So of the last type.
+struct Layout;
+
+impl Question for Layout {
+    fn answer(
+        &self,
+        alloc: Global,
+        state: &mut ComponentState,
+        types: &mut TypeAlloc,
+    ) -> Result<String, Fail> {
+        let ty = last_type(state, types)?;
+        layout_words(alloc, types, ty)
+    }
+}
+
 #[test]
 fn value_types_have_their_layout(rt: HostRuntime) -> Result<(), Fail> {
     for line in ROWS.split('\n') {
         let (asked, due) = case(line)?;
-        assert_eq!(rt; layout(rt.alloc(), asked)?.as_str(), due, "{asked}");
+        let found = answer_over_handles(rt.alloc(), asked, &Layout)?;
+        assert_eq!(rt; found.as_str(), due, "{asked}");
     }
     Ok(())
 }

@@ -1,8 +1,10 @@
 // The lines of defined types.
-use crate::declared::declared;
+use crate::declared::{Question, answer_over_handles, last_type};
 use crate::text::text_of;
 use std::alloc::Global;
 use std::test::Fail;
+use wcv_state::ComponentState;
+use wcv_types::TypeAlloc;
 
 // Types behind a resource, its owning and its borrowing handle, which have the indices 0 to 2, and the lines of
 // a value of the last one.
@@ -103,10 +105,19 @@ enum 1; flags 2; record 4 3 4; variant 5 - 1; list 6
 import "v" value 6
 "#;
 
-// The lines of a value of the last of these types.
-fn lines(alloc: Global, text: &str) -> Result<String, Fail> {
-    let (types, ty) = declared(alloc, text)?;
-    Ok(text_of(alloc, &types, "v", ty)?)
+// The lines of a value of the last type.
+struct Lines;
+
+impl Question for Lines {
+    fn answer(
+        &self,
+        alloc: Global,
+        state: &mut ComponentState,
+        types: &mut TypeAlloc,
+    ) -> Result<String, Fail> {
+        let ty = last_type(state, types)?;
+        Ok(text_of(alloc, types, "v", ty)?)
+    }
 }
 
 #[test]
@@ -114,7 +125,7 @@ fn defined_types_have_their_lines(rt: HostRuntime) -> Result<(), Fail> {
     let alloc = rt.alloc();
     for row in ROWS.trim().split("\n\n") {
         let (asked, due) = row.split_once("\n=> ").ok_or("a row has no lines")?;
-        let text = lines(alloc, asked)?;
+        let text = answer_over_handles(alloc, asked, &Lines)?;
         assert_eq!(rt; text.as_str().trim_end(), due, "{asked}");
     }
     Ok(())

@@ -1,10 +1,10 @@
 // States: what is pushed joins its space, what stands at an index, and written types give entities.
 ghost use Rattle.std.specs.Prelude.{◌≡◌, false, OnOk};
 ghost use Rattle.wcv_core.specs.Features.{default_features};
-ghost use Rattle.wcv_state.specs.Contents.{empty_state, StateStands};
+ghost use Rattle.wcv_state.specs.Contents.{empty_state};
 ghost use Rattle.wcv_state.specs.declared.kind.ComponentKind.TheVariants as kind;
 
-use crate::declared::with_types;
+use crate::declared::{Question, answer_over};
 use std::alloc::Global;
 use std::test::Fail;
 use wcv_core::{
@@ -254,34 +254,44 @@ fn resources_have_representations(rt: HostRuntime) -> Result<(), Fail> {
     Ok(())
 }
 
-/// What a function of the type at that index is.
-fn func_at(
+// The entity of a function of the type at an index, or why there is none.
+#[derive(Drop)]
+struct FuncAt {
     index: u32,
-    state: &mut ComponentState,
-    types: &mut TypeAlloc,
-) -> Result<ComponentEntityType, Error>
-    requires live { state.old.spent ≡ false }
-    requires stands { StateStands types.old state.old }
-{
-    state.check_type_ref(&ComponentTypeRef::Func(index), types, 5)
 }
 
-// So behind a resource and a function type.
-fn func_found(alloc: Global, index: u32) -> Result<Result<ComponentEntityType, Error>, Fail> {
-    let (mut types, mut state) = with_types(alloc, "resource; fn -> -")?;
-    Ok(func_at(index, &mut state, &mut types))
+// Its words.
+fn entity_words(alloc: Global, found: Result<ComponentEntityType, Error>) -> Result<String, Fail> {
+    match found {
+        Ok(ComponentEntityType::Func(id)) => Ok(format!(in alloc; "func {}", id.index)?),
+        Ok(_) => Err("an entity is no function".into()),
+        Err(error) => Ok(format!(in alloc; "{} at {}", error.kind(), error.offset())?),
+    }
+}
+
+impl Question for FuncAt {
+    fn answer(
+        &self,
+        alloc: Global,
+        state: &mut ComponentState,
+        types: &mut TypeAlloc,
+    ) -> Result<String, Fail> {
+        let found = state.check_type_ref(&ComponentTypeRef::Func(self.index), types, 5);
+        entity_words(alloc, found)
+    }
 }
 
 #[test]
 fn a_written_function_type_gives_its_entity(rt: HostRuntime) -> Result<(), Fail> {
     for (index, due) in [
-        (0, Err(ErrorKind::WrongSort)),
-        (1, Ok(ComponentEntityType::Func(FUNC))),
-        (2, Err(ErrorKind::OutOfBounds)),
-        (7, Err(ErrorKind::OutOfBounds)),
+        (0, "WrongSort at 5"),
+        (1, "func 0"),
+        (2, "OutOfBounds at 5"),
+        (7, "OutOfBounds at 5"),
     ] {
-        let found = func_found(rt.alloc(), index)?;
-        assert_eq!(rt; found.map_err(|e| e.kind()), due, "{index}");
+        let asked = FuncAt { index };
+        let found = answer_over(rt.alloc(), "resource; fn -> -", &asked)?;
+        assert_eq!(rt; found.as_str(), due, "{index}");
     }
     Ok(())
 }

@@ -95,12 +95,12 @@ fn push(
 /// Two references to one resource, one to each of two others, and two functions.
 #[derive(Clone, Copy)]
 pub struct Parts {
-    first: AliasableResourceId,
-    alias: AliasableResourceId,
-    second: AliasableResourceId,
+    pub first: AliasableResourceId,
+    pub alias: AliasableResourceId,
+    pub second: AliasableResourceId,
     pub third: AliasableResourceId,
-    plain: ComponentFuncTypeId,
-    other: ComponentFuncTypeId,
+    pub plain: ComponentFuncTypeId,
+    pub other: ComponentFuncTypeId,
 }
 
 /// The imports.
