@@ -10,6 +10,8 @@ mod extern_rows;
 #[cfg(test)]
 mod externs;
 #[cfg(test)]
+mod free;
+#[cfg(test)]
 mod layouts;
 #[cfg(test)]
 mod lines;
