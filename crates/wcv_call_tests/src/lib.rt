@@ -12,6 +12,14 @@ mod externs;
 #[cfg(test)]
 mod free;
 #[cfg(test)]
+mod group_rows;
+#[cfg(test)]
+mod group_space;
+#[cfg(test)]
+mod group_words;
+#[cfg(test)]
+mod groups;
+#[cfg(test)]
 mod layouts;
 #[cfg(test)]
 mod lines;
