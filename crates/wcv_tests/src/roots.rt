@@ -242,8 +242,8 @@ a- Name
 a-bC Name
 a/b Name
 é Name
-[static]r.f Unbuilt
-a:b/c@1.0 Unbuilt";
+[static]r.f MethodName
+a:b/c@1.0 Name";
 
 #[test]
 fn valid_roots_have_their_report(rt: HostRuntime) -> Result<(), Fail> {
