@@ -14,6 +14,7 @@ pub mod CoreRows
 pub mod CoreTable
 pub mod CoreAbove
 pub mod CoreMatching
+pub mod CoreSizes
 pub mod CoreWritten
 pub mod CoreFeatures
 pub mod CoreRules

@@ -4,7 +4,7 @@ ghost use Rattle.wcv_core.specs.Checks.{IsFree, CausedBy, MemoryOrCausedBy, too_
 ghost use Rattle.wcv_core.specs.CoreAbove.{is_declared};
 ghost use Rattle.wcv_core.specs.CoreCode.{code_of};
 ghost use Rattle.wcv_core.specs.CoreForm.{Group, SubForm, sub_form, group_form};
-ghost use Rattle.wcv_core.specs.CoreGroups.{IsClosed, IsValWithin, total, types_of, place_from, id_from, id_of};
+ghost use Rattle.wcv_core.specs.CoreGroups.{AreClosed, IsClosed, IsValWithin, total, types_of, place_from, id_from, id_of};
 ghost use Rattle.wcv_core.specs.CoreJoining.{first_id, rule_checks};
 ghost use Rattle.wcv_core.specs.CoreMatching.{val_matches};
 ghost use Rattle.wcv_core.specs.CoreTable.{max_core_types, with_group, limit_checks, AreDistinct};
@@ -57,11 +57,13 @@ impl CoreTypes {
         }
     }
 
-    /// How many types there are. In each table groups with one id are one group, and no group stands twice.
+    /// How many types there are. In each table groups with one id are one group, no group stands twice, and a
+    /// group names its own types and older ones alone.
     pub fn len(&self) -> usize
         ensures value { result ≡ total self.now }
         ensures apart { (g h : Group) (i : ℕ) → id_of self.now g ≡ Some i → id_of self.now h ≡ Some i → g ≡ h }
         ensures distinct { AreDistinct self.now }
+        ensures closed { AreClosed 0 self.now }
     {
         self.rows.len()
     }

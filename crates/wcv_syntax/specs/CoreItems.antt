@@ -7,6 +7,8 @@ use Rattle.wcv_core.specs.CoreForm.{CompositeForm, func_form, struct_form, array
 use Rattle.wcv_core.specs.CoreGroups.{total}
 use Rattle.wcv_core.specs.CoreJoining.{then_checks}
 use Rattle.wcv_core.specs.CoreMatching.{type_at, ref_shared}
+-- what they count in the type of a module
+pub use Rattle.wcv_core.specs.CoreSizes.{form_size, entity_size}
 use Rattle.wcv_core.specs.CoreWritten.{Core_entry, sub_entry, heap_checks, val_checks, closed_mark, closed_heap, closed_val}
 use Rattle.wcv_core.specs.declared.core_types.CoreTypeId.{CoreTypeId}
 use Rattle.wcv_core.specs.declared.core_types.EntityType.{EntityType}
@@ -156,18 +158,3 @@ entity_of ts (ref.Tag i) = option_map entity.Tag (slice_get ts i)
 entity_of ts (ref.Table t) = Some (entity.Table (closed_table (type_entries ts) t))
 entity_of ts (ref.Memory m) = Some (entity.Memory m)
 entity_of ts (ref.Global g) = Some (entity.Global (closed_global (type_entries ts) g))
-
--- ## Size
-
-abbrev pub form_size : CompositeForm → ℕ
-form_size (func_form ps rs) = 1 + length ps + length rs
-form_size (struct_form fs) = 1
-form_size (array_form f) = 1
-
--- a function or a tag counts its parameters and results
-abbrev pub entity_size : List Group → EntityType → ℕ
-entity_size gs (entity.Func t) = form_size (type_at gs t.index).inner
-entity_size gs (entity.Tag t) = form_size (type_at gs t.index).inner
-entity_size gs (entity.Table t) = 1
-entity_size gs (entity.Memory m) = 1
-entity_size gs (entity.Global g) = 1
