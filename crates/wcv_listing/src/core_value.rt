@@ -72,8 +72,8 @@ fn read_heap(value: &Value<'_>) -> Option<HeapType>
     }
 }
 
-// A reference type.
-fn read_ref_type(value: &Value<'_>) -> Option<RefType>
+/// A reference type.
+pub fn read_ref_type(value: &Value<'_>) -> Option<RefType>
     ensures { result ≡ ref_type_of (view value.now) }
 {
     if has_only_keys(value, &["ref", "null"]) {

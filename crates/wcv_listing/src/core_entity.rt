@@ -1,0 +1,120 @@
+// What core modules import and export.
+ghost use Rattle.std.specs.Prelude.{◌≡◌, codes, map, option_map};
+ghost use Rattle.serde_json.specs.Find.{get};
+ghost use Rattle.wcv_listing.specs.CoreForms.{table_of, page_of, memory_of, global_of, entity_forms, entity_under, entity_of};
+ghost use Rattle.wcv_listing.specs.Fields.{natural, only_key, optional};
+ghost use Rattle.wcv_listing.specs.Seen.{view};
+
+use crate::core_value::{mark_at, read_core_value, read_ref_type};
+use crate::value::{has_only_keys, index_of, member_at, natural_at, natural_of, only_key_of};
+use json::Value;
+use wcv_core::{GlobalType, MemoryType, TableType};
+use wcv_syntax::TypeRef;
+
+// The greatest number, where there is one, or `None` where what is there is no such number.
+fn read_maximum(value: &Value<'_>) -> Option<Option<u64>>
+    ensures { result ≡ optional natural (get (codes "max") (view value.now)) }
+{
+    match member_at(value, "max") {
+        None => Some(None),
+        Some(number) => natural_of(number).map(Some),
+    }
+}
+
+// A table type.
+fn read_table(value: &Value<'_>) -> Option<TableType>
+    ensures { result ≡ table_of (view value.now) }
+{
+    if !has_only_keys(value, &["elem", "min", "max", "64", "shared"]) {
+        return None;
+    }
+    let element_type = read_ref_type(member_at(value, "elem")?)?;
+    let initial = natural_at(value, "min")?;
+    let maximum = read_maximum(value)?;
+    let table64 = mark_at(value, "64")?;
+    let shared = mark_at(value, "shared")?;
+    Some(TableType {
+        element_type,
+        initial,
+        maximum,
+        table64,
+        shared,
+    })
+}
+
+// The exponent of the size of a page, which is 16 where nothing is said.
+fn read_page(value: &Value<'_>) -> Option<u32>
+    ensures { result ≡ page_of (get (codes "page") (view value.now)) }
+{
+    match member_at(value, "page") {
+        None => Some(16),
+        Some(number) => index_of(number),
+    }
+}
+
+// A memory type.
+fn read_memory(value: &Value<'_>) -> Option<MemoryType>
+    ensures { result ≡ memory_of (view value.now) }
+{
+    if !has_only_keys(value, &["min", "max", "64", "shared", "page"]) {
+        return None;
+    }
+    let initial = natural_at(value, "min")?;
+    let maximum = read_maximum(value)?;
+    let memory64 = mark_at(value, "64")?;
+    let shared = mark_at(value, "shared")?;
+    let page_size_log2 = read_page(value)?;
+    Some(MemoryType {
+        initial,
+        maximum,
+        memory64,
+        shared,
+        page_size_log2,
+    })
+}
+
+// A global type.
+fn read_global(value: &Value<'_>) -> Option<GlobalType>
+    ensures { result ≡ global_of (view value.now) }
+{
+    if !has_only_keys(value, &["type", "mut", "shared"]) {
+        return None;
+    }
+    let content_type = read_core_value(member_at(value, "type")?)?;
+    let mutable = mark_at(value, "mut")?;
+    let shared = mark_at(value, "shared")?;
+    Some(GlobalType {
+        content_type,
+        mutable,
+        shared,
+    })
+}
+
+// The sort that is the only key of the object.
+fn sort_name(value: &Value<'_>) -> Option<&'static str>
+    ensures { option_map (λ name. name.now) result ≡ only_key (map (λ row. row.0) entity_forms) (view value.now) }
+{
+    only_key_of(value, &["func", "tag", "table", "memory", "global"])
+}
+
+// What stands under the name of a sort.
+fn read_under(name: &str, body: &Value<'_>) -> Option<TypeRef>
+    ensures { result ≡ entity_under name.now (view body.now) }
+{
+    match name {
+        "func" => index_of(body).map(TypeRef::Func),
+        "tag" => index_of(body).map(TypeRef::Tag),
+        "table" => read_table(body).map(TypeRef::Table),
+        "memory" => read_memory(body).map(TypeRef::Memory),
+        "global" => read_global(body).map(TypeRef::Global),
+        _ => None,
+    }
+}
+
+/// What an import or an export of a core module is.
+pub fn read_entity(value: &Value<'_>) -> Option<TypeRef>
+    ensures { result ≡ entity_of (view value.now) }
+{
+    let name = sort_name(value)?;
+    read_under(name, member_at(value, name)?)
+}

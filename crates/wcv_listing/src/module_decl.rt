@@ -1,0 +1,119 @@
+// Declarations of core modules, and of their types.
+ghost use Rattle.std.specs.Prelude.{◌≡◌, IfOk, option_map};
+ghost use Rattle.wcv_listing.specs.CoreForms.{core_import_of, core_export_of, module_decl_of, core_outer_of, type_decl_of};
+ghost use Rattle.wcv_listing.specs.Seen.{view};
+ghost use Rattle.wcv_syntax.specs.View.{module_decl_view, code_decl_view};
+
+use crate::core_entity::read_entity;
+use crate::sub_type::read_rec;
+use crate::value::{has_only_keys, index_of, list_of, member_at, text_of};
+use json::Value;
+use std::alloc::Global;
+use wcv_core::{OutOfMemory, Text};
+use wcv_syntax::{Import, ModuleDecl, ModuleTypeDeclaration};
+
+// An import.
+fn read_core_import(alloc: Global, value: &Value<'_>) -> Result<Option<Import>, OutOfMemory>
+    ensures { IfOk result (λ import. import ≡ core_import_of (view value.now)) }
+{
+    let Some(list) = list_of(value) else {
+        return Ok(None);
+    };
+    if list.len() != 3 {
+        return Ok(None);
+    }
+    let Some(module) = text_of(&list[0]) else {
+        return Ok(None);
+    };
+    let Some(name) = text_of(&list[1]) else {
+        return Ok(None);
+    };
+    let Some(ty) = read_entity(&list[2]) else {
+        return Ok(None);
+    };
+    let module = Text::new(alloc, module)?;
+    let name = Text::new(alloc, name)?;
+    Ok(Some(Import { module, name, ty }))
+}
+
+// An export.
+fn read_core_export(alloc: Global, value: &Value<'_>) -> Result<Option<ModuleDecl>, OutOfMemory>
+    ensures { IfOk result (λ decl. option_map code_decl_view decl ≡ core_export_of (view value.now)) }
+{
+    let Some(list) = list_of(value) else {
+        return Ok(None);
+    };
+    if list.len() != 2 {
+        return Ok(None);
+    }
+    let Some(name) = text_of(&list[0]) else {
+        return Ok(None);
+    };
+    let Some(ty) = read_entity(&list[1]) else {
+        return Ok(None);
+    };
+    let name = Text::new(alloc, name)?;
+    Ok(Some(ModuleDecl::Export { name, ty }))
+}
+
+/// A declaration of a core module.
+pub fn read_module_decl(alloc: Global, value: &Value<'_>) -> Result<Option<ModuleDecl>, OutOfMemory>
+    ensures { IfOk result (λ decl. option_map code_decl_view decl ≡ module_decl_of (view value.now)) }
+{
+    if has_only_keys(value, &["type"]) {
+        let Some(body) = member_at(value, "type") else {
+            return Ok(None);
+        };
+        Ok(read_rec(alloc, body)?.map(ModuleDecl::Ty))
+    } else if has_only_keys(value, &["import"]) {
+        let Some(body) = member_at(value, "import") else {
+            return Ok(None);
+        };
+        Ok(read_core_import(alloc, body)?.map(ModuleDecl::Import))
+    } else if has_only_keys(value, &["export"]) {
+        let Some(body) = member_at(value, "export") else {
+            return Ok(None);
+        };
+        read_core_export(alloc, body)
+    } else {
+        Ok(None)
+    }
+}
+
+// An outer alias of a core type.
+fn read_core_outer(value: &Value<'_>) -> Option<ModuleTypeDeclaration>
+    ensures { option_map module_decl_view result ≡ core_outer_of (view value.now) }
+{
+    let list = list_of(value)?;
+    if list.len() != 2 {
+        return None;
+    }
+    let count = index_of(&list[0])?;
+    let index = index_of(&list[1])?;
+    Some(ModuleTypeDeclaration::OuterAlias { count, index })
+}
+
+// The declaration as one of a type.
+fn in_type(decl: ModuleDecl) -> ModuleTypeDeclaration
+    ensures { module_decl_view result ≡ code_decl_view decl }
+{
+    match decl {
+        ModuleDecl::Ty(group) => ModuleTypeDeclaration::Ty(group),
+        ModuleDecl::Import(import) => ModuleTypeDeclaration::Import(import),
+        ModuleDecl::Export { name, ty } => ModuleTypeDeclaration::Export { name, ty },
+    }
+}
+
+/// A declaration of the type of a core module.
+pub fn read_type_decl(
+    alloc: Global,
+    value: &Value<'_>,
+) -> Result<Option<ModuleTypeDeclaration>, OutOfMemory>
+    ensures { IfOk result (λ decl. option_map module_decl_view decl ≡ type_decl_of (view value.now)) }
+{
+    if has_only_keys(value, &["alias"]) {
+        Ok(member_at(value, "alias").and_then(read_core_outer))
+    } else {
+        Ok(read_module_decl(alloc, value)?.map(in_type))
+    }
+}

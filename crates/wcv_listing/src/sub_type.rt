@@ -1,0 +1,210 @@
+// Core types in a group.
+ghost use Rattle.std.specs.Prelude.{◌≡◌, IfOk, codes, map, option_map};
+ghost use Rattle.serde_json.specs.Find.{get};
+ghost use Rattle.wcv_listing.specs.Core.{core_value_of};
+ghost use Rattle.wcv_listing.specs.CoreForms.{packed_of, storage_of, field_of, core_func_of, composite_forms, composite_of, final_mark, super_of, sub_of, rec_of};
+ghost use Rattle.wcv_listing.specs.Fields.{array_of, first_of, optional};
+ghost use Rattle.wcv_listing.specs.Seen.{view};
+ghost use Rattle.wcv_syntax.specs.Model.{core_func};
+ghost use Rattle.wcv_syntax.specs.View.{composite_view, sub_view, rec_view};
+
+use crate::core_value::{mark_at, read_core_value};
+use crate::value::{bool_of, first_key, has_only_keys, index_of, list_of, member_at, text_of};
+use json::Value;
+use std::alloc::Global;
+use wcv_core::{
+    ArrayType, CompositeInnerType, FieldType, FuncType, OutOfMemory, RecGroup, StorageType,
+    StructType, SubType, SuperType, ValType,
+};
+
+// The type that only a field can have, by its name.
+fn read_packed(value: &Value<'_>) -> Option<StorageType>
+    ensures { result ≡ packed_of (view value.now) }
+{
+    match text_of(value)? {
+        "i8" => Some(StorageType::I8),
+        "i16" => Some(StorageType::I16),
+        _ => None,
+    }
+}
+
+// The type of a field.
+fn read_storage(value: &Value<'_>) -> Option<StorageType>
+    ensures { result ≡ storage_of (view value.now) }
+{
+    match read_packed(value) {
+        Some(packed) => Some(packed),
+        None => read_core_value(value).map(StorageType::Val),
+    }
+}
+
+// A field.
+fn read_field(value: &Value<'_>) -> Option<FieldType>
+    ensures { result ≡ field_of (view value.now) }
+{
+    if !has_only_keys(value, &["type", "mut"]) {
+        return None;
+    }
+    let storage = read_storage(member_at(value, "type")?)?;
+    let mutable = mark_at(value, "mut")?;
+    Some(FieldType { storage, mutable })
+}
+
+// The fields of a struct.
+fn read_fields(alloc: Global, value: &Value<'_>) -> Result<Option<Vec<FieldType>>, OutOfMemory>
+    ensures { IfOk result (λ fields. option_map (λ fs. fs.items) fields ≡ array_of field_of (view value.now)) }
+{
+    let Some(list) = list_of(value) else {
+        return Ok(None);
+    };
+    let mut fields = Vec::with_capacity(alloc, list.len())?;
+    for value in list {
+        match read_field(value) {
+            Some(field) => fields.push(field)?,
+            None => return Ok(None),
+        }
+    }
+    Ok(Some(fields))
+}
+
+// The types of parameters or of results.
+fn read_values(alloc: Global, value: &Value<'_>) -> Result<Option<Vec<ValType>>, OutOfMemory>
+    ensures { IfOk result (λ types. option_map (λ ts. ts.items) types ≡ array_of core_value_of (view value.now)) }
+{
+    let Some(list) = list_of(value) else {
+        return Ok(None);
+    };
+    let mut types = Vec::with_capacity(alloc, list.len())?;
+    for value in list {
+        match read_core_value(value) {
+            Some(ty) => types.push(ty)?,
+            None => return Ok(None),
+        }
+    }
+    Ok(Some(types))
+}
+
+// A function type.
+fn read_core_func(alloc: Global, value: &Value<'_>) -> Result<Option<FuncType>, OutOfMemory>
+    ensures { IfOk result (λ func. option_map (λ f. core_func f.params.items f.results.items) func ≡ core_func_of (view value.now)) }
+{
+    let Some(list) = list_of(value) else {
+        return Ok(None);
+    };
+    if list.len() != 2 {
+        return Ok(None);
+    }
+    let Some(params) = read_values(alloc, &list[0])? else {
+        return Ok(None);
+    };
+    let Some(results) = read_values(alloc, &list[1])? else {
+        return Ok(None);
+    };
+    Ok(Some(FuncType { params, results }))
+}
+
+// What stands under the name of a form.
+fn read_composite(
+    alloc: Global,
+    name: &str,
+    body: &Value<'_>,
+) -> Result<Option<CompositeInnerType>, OutOfMemory>
+    ensures { IfOk result (λ ty. option_map composite_view ty ≡ composite_of name.now (view body.now)) }
+{
+    match name {
+        "func" => Ok(read_core_func(alloc, body)?.map(CompositeInnerType::Func)),
+        "struct" => {
+            let Some(fields) = read_fields(alloc, body)? else {
+                return Ok(None);
+            };
+            Ok(Some(CompositeInnerType::Struct(StructType { fields })))
+        }
+        "array" => {
+            let Some(field) = read_field(body) else {
+                return Ok(None);
+            };
+            Ok(Some(CompositeInnerType::Array(ArrayType { field })))
+        }
+        _ => Ok(None),
+    }
+}
+
+// The name of the form under which the value has a body.
+fn form_name(value: &Value<'_>) -> Option<&'static str>
+    ensures { option_map (λ name. name.now) result ≡ first_of (map (λ row. row.0) composite_forms) (view value.now) }
+{
+    first_key(value, &["func", "struct", "array"])
+}
+
+// Whether the type is final, which it is where nothing says so, or `None` where what is there is no Boolean.
+fn read_final(value: &Value<'_>) -> Option<bool>
+    ensures { result ≡ final_mark (get (codes "final") (view value.now)) }
+{
+    match member_at(value, "final") {
+        None => Some(true),
+        Some(flag) => bool_of(flag),
+    }
+}
+
+// The supertype, where there is one, or `None` where what is there is no index.
+fn read_super(value: &Value<'_>) -> Option<Option<SuperType>>
+    ensures { result ≡ optional super_of (get (codes "super") (view value.now)) }
+{
+    match member_at(value, "super") {
+        None => Some(None),
+        Some(index) => {
+            let index = index_of(index)?;
+            Some(Some(SuperType::Index(index)))
+        }
+    }
+}
+
+// A core type with its place among the others.
+fn read_sub(alloc: Global, value: &Value<'_>) -> Result<Option<SubType>, OutOfMemory>
+    ensures { IfOk result (λ ty. option_map sub_view ty ≡ sub_of (view value.now)) }
+{
+    let Some(name) = form_name(value) else {
+        return Ok(None);
+    };
+    if !has_only_keys(value, &["final", "super", "shared", name]) {
+        return Ok(None);
+    }
+    let Some(is_final) = read_final(value) else {
+        return Ok(None);
+    };
+    let Some(supertype) = read_super(value) else {
+        return Ok(None);
+    };
+    let Some(shared) = mark_at(value, "shared") else {
+        return Ok(None);
+    };
+    let Some(body) = member_at(value, name) else {
+        return Ok(None);
+    };
+    let Some(inner) = read_composite(alloc, name, body)? else {
+        return Ok(None);
+    };
+    Ok(Some(SubType {
+        is_final,
+        supertype,
+        shared,
+        inner,
+    }))
+}
+
+/// A group of core types.
+pub fn read_rec(alloc: Global, value: &Value<'_>) -> Result<Option<RecGroup>, OutOfMemory>
+    ensures { IfOk result (λ group. option_map rec_view group ≡ rec_of (view value.now)) }
+{
+    let Some(list) = list_of(value) else {
+        return Ok(None);
+    };
+    let mut types = Vec::with_capacity(alloc, list.len())?;
+    for value in list {
+        match read_sub(alloc, value)? {
+            Some(ty) => types.push(ty)?,
+            None => return Ok(None),
+        }
+    }
+    Ok(Some(RecGroup { types }))
+}
