@@ -46,7 +46,7 @@ index_free n ts i t e =
     let f : slice_get (type_entries ts) i ≡ Some (sub_entry t.index) = entry_found ts i t e in
     (lt_inside i (length (type_entries ts)) (slice_get_within (type_entries ts) i (sub_entry t.index) f), (ap is_module f, tt))
 
-none_past : {A : Type 0} (xs : List A) (i : ℕ) → is_none (slice_get xs i) ≡ true → length xs ≤ i
+pub none_past : {A : Type 0} (xs : List A) (i : ℕ) → is_none (slice_get xs i) ≡ true → length xs ≤ i
 none_past [] i e = omega arith
 none_past (x ∷ xs) zero e = Prim.absurd (false≢true e)
 none_past (x ∷ xs) (suc i) e = omega (arith, none_past xs i e)

@@ -1,4 +1,6 @@
-pub mod Around
+pub mod Counting
+pub mod Declaring
+pub mod Growing
 pub mod Indices
 pub mod Joins
 pub mod Names

@@ -8,7 +8,7 @@ ghost use Rattle.wcv_core.specs.CoreJoining.{IsLeft};
 ghost use Rattle.wcv_core.specs.CoreMatching.{type_at};
 ghost use Rattle.wcv_core.specs.CoreWritten.{IsKnown, closed_group};
 ghost use Rattle.wcv_core.specs.Refusal.{error_kind, error_offset};
-ghost use Rattle.wcv_module.specs.Kept.{IsEntityKnown};
+ghost use Rattle.wcv_module.specs.Kept.{IsEntityKnown, Grows};
 ghost use Rattle.wcv_syntax.specs.CoreItems.{ref_checks, entity_of, entity_size, form_size};
 ghost use Rattle.wcv_syntax.specs.ModuleTypes.{Module_type, empty_module, module_entries, with_type, with_import, with_export, max_module_entries, max_module_size, types_checks, size_checks, import_checks, export_checks, import_joins, group_joins, with_group_of, whole_checks};
 
@@ -196,13 +196,21 @@ impl Module {
         written(&self.features, self.types.as_slice(), core, ty, offset)
     }
 
-    /// The imports, where no two of them have one pair of names, as the type of a module asks.
+    /// Whether no two imports have one pair of names, as the type of a module asks.
+    pub fn check_whole(&self, offset: u64) -> Result<(), Error>
+        ensures free { OnOk result (IsFree (whole_checks self.now)) }
+        ensures cause { IfErr result (MemoryOrCausedBy (whole_checks self.now) offset) }
+    {
+        check_pairs(self.alloc, self.imports.as_slice(), offset)
+    }
+
+    /// The imports, where no two of them have one pair of names.
     pub fn imports_for_module_type(&self, offset: u64) -> Result<ImportMap, Error>
         ensures ok { IfOk result (λ imports. imports ≡ self.now.imports) }
         ensures free { OnOk result (IsFree (whole_checks self.now)) }
         ensures cause { IfErr result (MemoryOrCausedBy (whole_checks self.now) offset) }
     {
-        check_pairs(self.alloc, self.imports.as_slice(), offset)?;
+        self.check_whole(offset)?;
         Ok(self.imports.copy(self.alloc)?)
     }
 
@@ -217,6 +225,7 @@ impl Module {
         ensures ok { OnOk result ((core.new, self.new) ≡ with_group_of core.old self.old (group_form rec)) }
         ensures free { OnOk result (IsFree (group_joins core.old self.old (group_form rec))) }
         ensures known { All (IsKnown (total core.new)) (module_entries self.new) }
+        ensures grows { Grows core.old core.new }
         ensures cause { IfErr result (MemoryOrCausedBy (group_joins core.old self.old (group_form rec)) offset) }
         ensures err { IfErr result (IsLeft with_type (λ m. m) self.old self.new core.old core.new (closed_group (module_entries self.old) (group_form rec))) }
     {

@@ -1,0 +1,135 @@
+// Declarations of a core module or of its type, one after another.
+ghost use Rattle.std.specs.Prelude.{◌≡◌, suc, Some, All, map, IfOk, OnOk, IfErr};
+ghost use Rattle.wcv_core.specs.Checks.{IsFree, MemoryOrCausedBy};
+ghost use Rattle.wcv_core.specs.CoreGroups.{total};
+ghost use Rattle.wcv_core.specs.CoreSizes.{IsEntityWithin};
+ghost use Rattle.wcv_core.specs.CoreWritten.{IsKnown};
+ghost use Rattle.wcv_syntax.specs.ModuleTypes.{module_entries, empty_module, decl_checks, declared, all_declared, module_checks};
+ghost use Rattle.wcv_syntax.specs.View.{module_decl_view};
+ghost use Rattle.wcv_module.specs.Kept.{Grows, IsUndone, module_items, entity_sizes};
+
+use crate::limits::{check_group, check_import_names, check_name};
+use crate::module::Module;
+use crate::outer::OuterTypes;
+use std::alloc::Global;
+use wcv_core::{CoreTypes, Error, WasmFeatures};
+use wcv_syntax::{ModuleDecl, ModuleTypeDeclaration};
+
+/// A declaration of a core module or of its type.
+pub trait ModuleDeclaration: Drop {
+    ghost use Rattle.std.specs.Prelude.{◌≡◌, OnOk, IfErr};
+    ghost use Rattle.wcv_core.specs.Checks.{IsFree, CausedBy};
+    ghost use Rattle.wcv_syntax.specs.Model.{Module_decl};
+    ghost use Rattle.wcv_syntax.specs.ModuleTypes.{decl_left};
+    ghost use Rattle.wcv_syntax.specs.View.{module_decl_view};
+
+    /// What it declares.
+    ghost form: { Self → Module_decl };
+
+    /// The same as a declaration of a module type.
+    fn into_type_declaration(self) -> ModuleTypeDeclaration
+        ensures { module_decl_view result ≡ form self };
+
+    /// Whether its lists and texts keep their limits.
+    fn check_limits(&self, offset: u64) -> Result<(), Error>
+        ensures ok { OnOk result (IsFree (decl_left (form self.now))) }
+        ensures err { IfErr result (CausedBy (decl_left (form self.now)) offset) };
+}
+
+impl ModuleDeclaration for ModuleTypeDeclaration {
+    ghost use Rattle.wcv_syntax.specs.View.{module_decl_view};
+
+    ghost form = { module_decl_view };
+
+    fn into_type_declaration(self) -> ModuleTypeDeclaration {
+        self
+    }
+
+    fn check_limits(&self, offset: u64) -> Result<(), Error> {
+        match self {
+            ModuleTypeDeclaration::Ty(rec) => check_group(rec, offset),
+            ModuleTypeDeclaration::Import(import) => check_import_names(import, offset),
+            ModuleTypeDeclaration::Export { name, .. } => check_name(name, "an export", offset),
+            ModuleTypeDeclaration::OuterAlias { .. } => Ok(()),
+        }
+    }
+}
+
+impl ModuleDeclaration for ModuleDecl {
+    ghost use Rattle.wcv_syntax.specs.View.{code_decl_view};
+
+    ghost form = { code_decl_view };
+
+    fn into_type_declaration(self) -> ModuleTypeDeclaration {
+        match self {
+            ModuleDecl::Ty(rec) => ModuleTypeDeclaration::Ty(rec),
+            ModuleDecl::Import(import) => ModuleTypeDeclaration::Import(import),
+            ModuleDecl::Export { name, ty } => ModuleTypeDeclaration::Export { name, ty },
+        }
+    }
+
+    fn check_limits(&self, offset: u64) -> Result<(), Error> {
+        match self {
+            ModuleDecl::Ty(rec) => check_group(rec, offset),
+            ModuleDecl::Import(import) => check_import_names(import, offset),
+            ModuleDecl::Export { name, .. } => check_name(name, "an export", offset),
+        }
+    }
+}
+
+impl Module {
+    /// Adds a declaration behind the others.
+    pub fn add_declaration<O: OuterTypes>(
+        &mut self,
+        decl: ModuleTypeDeclaration,
+        outers: &O,
+        core: &mut CoreTypes,
+        offset: u64,
+    ) -> Result<(), Error>
+        requires known { All (IsKnown (total core.old)) (module_entries self.old) }
+        requires around { All (All (IsKnown (total core.old))) (O.spaces outers.now) }
+        ensures ok { OnOk result (declared (O.spaces outers.now) core.old self.old (module_decl_view decl) ≡ Some (core.new, self.new)) }
+        ensures free { OnOk result (IsFree (decl_checks (O.spaces outers.now) core.old self.old (module_decl_view decl))) }
+        ensures known { All (IsKnown (total core.new)) (module_entries self.new) }
+        ensures grows { Grows core.old core.new }
+        ensures cause { IfErr result (MemoryOrCausedBy (decl_checks (O.spaces outers.now) core.old self.old (module_decl_view decl)) offset) }
+        ensures err { IfErr result (IsUndone self.old self.new core.old core.new) }
+    {
+        match decl {
+            ModuleTypeDeclaration::Ty(rec) => self.add_types(rec, core, offset),
+            ModuleTypeDeclaration::Import(import) => self.add_import(import, core, offset),
+            ModuleTypeDeclaration::Export { name, ty } => {
+                self.add_written_export(name.as_str(), &ty, core, offset)
+            }
+            ModuleTypeDeclaration::OuterAlias { count, index } => {
+                self.add_outer_alias(outers, count, index, offset)
+            }
+        }
+    }
+
+    /// The module that declarations make, where they have no cause of a refusal. All of them stand at one offset.
+    pub fn declare<D: ModuleDeclaration, O: OuterTypes>(
+        alloc: Global,
+        features: WasmFeatures,
+        decls: Vec<D>,
+        outers: &O,
+        core: &mut CoreTypes,
+        offset: u64,
+    ) -> Result<Module, Error>
+        requires around { All (All (IsKnown (total core.old))) (O.spaces outers.now) }
+        ensures ok { IfOk result (λ made. all_declared (O.spaces outers.now) core.old (empty_module features) (map D.form decls.items) ≡ Some (core.new, made)) }
+        ensures free { OnOk result (IsFree (module_checks (O.spaces outers.now) core.old (empty_module features) (map D.form decls.items))) }
+        ensures known { IfOk result (λ made. All (IsKnown (total core.new)) (module_entries made)) }
+        ensures within { IfOk result (λ made. All (IsEntityWithin (total core.new)) (module_items made)) }
+        ensures size { IfOk result (λ made. made.size ≡ suc (entity_sizes core.new (module_items made))) }
+        ensures grows { Grows core.old core.new }
+        ensures cause { IfErr result (MemoryOrCausedBy (module_checks (O.spaces outers.now) core.old (empty_module features) (map D.form decls.items)) offset) }
+    {
+        let mut made = Module::new(alloc, features);
+        for decl in decls {
+            made.add_declaration(decl.into_type_declaration(), outers, core, offset)?;
+        }
+        made.check_whole(offset)?;
+        Ok(made)
+    }
+}

@@ -1,0 +1,87 @@
+// Limits on lists and texts, which the calls of a module leave to their caller.
+ghost use Rattle.std.specs.Prelude.{length, map, ◌++◌, OnOk, IfErr};
+ghost use Rattle.wcv_core.specs.Checks.{IsFree, CausedBy, all_checks, too_many};
+ghost use Rattle.wcv_core.specs.CoreFeatures.{group_left};
+ghost use Rattle.wcv_syntax.specs.ModuleTypes.{max_name, decl_left, module_left, written_group};
+ghost use Rattle.wcv_syntax.specs.View.{rec_view};
+
+use crate::declarations::ModuleDeclaration;
+use wcv_core::{Error, ErrorKind, RecGroup, Text, check_group_limits};
+use wcv_syntax::Import;
+
+/// The most declarations of a module.
+const MAX_DECLARATIONS: usize = 100_000;
+
+/// The most bytes of a name.
+const MAX_NAME: usize = 100_000;
+
+/// Whether a name keeps its limit. What it is the name of is for the message.
+pub fn check_name(name: &Text, of: &str, offset: u64) -> Result<(), Error>
+    ensures ok { OnOk result (IsFree (too_many max_name (length name.now))) }
+    ensures err { IfErr result (CausedBy (too_many max_name (length name.now)) offset) }
+{
+    let len = name.as_str().len();
+    if len > MAX_NAME {
+        return Err(Error::new(
+            ErrorKind::Limit,
+            offset,
+            format_args!("the name of {of} has {len} bytes, at most {MAX_NAME} are allowed"),
+        ));
+    }
+    Ok(())
+}
+
+/// Whether the names of an import keep their limits.
+#[tactic(auto, using(wcv_core::proofs::Closing::caused_left, wcv_core::proofs::Closing::caused_right, wcv_core::proofs::Causes::free_both))]
+pub fn check_import_names(import: &Import, offset: u64) -> Result<(), Error>
+    ensures ok { OnOk result (IsFree (too_many max_name (length import.now.module) ++ too_many max_name (length import.now.name))) }
+    ensures err { IfErr result (CausedBy (too_many max_name (length import.now.module) ++ too_many max_name (length import.now.name)) offset) }
+{
+    check_name(&import.module, "a module", offset)?;
+    check_name(&import.name, "an import", offset)
+}
+
+/// Whether the lists of a written group keep their limits.
+pub fn check_group(group: &RecGroup, offset: u64) -> Result<(), Error>
+    ensures ok { OnOk result (IsFree (group_left (written_group (rec_view group.now)))) }
+    ensures err { IfErr result (CausedBy (group_left (written_group (rec_view group.now))) offset) }
+{
+    check_group_limits(group, offset)
+}
+
+fn check_count(count: usize, offset: u64) -> Result<(), Error>
+    ensures ok { OnOk result (IsFree (too_many 100000 count)) }
+    ensures err { IfErr result (CausedBy (too_many 100000 count) offset) }
+{
+    if count > MAX_DECLARATIONS {
+        return Err(Error::new(
+            ErrorKind::Limit,
+            offset,
+            format_args!(
+                "a module has {count} declarations, at most {MAX_DECLARATIONS} are allowed"
+            ),
+        ));
+    }
+    Ok(())
+}
+
+#[tactic(auto, using(wcv_core::proofs::Closing::free_mapped))]
+fn check_each<D: ModuleDeclaration>(decls: &[D], offset: u64) -> Result<(), Error>
+    ensures ok { OnOk result (IsFree (all_checks decl_left (map D.form decls.now))) }
+    ensures err { IfErr result (CausedBy (all_checks decl_left (map D.form decls.now)) offset) }
+{
+    for decl in decls {
+        decl.check_limits(offset)?;
+    }
+    Ok(())
+}
+
+/// Whether the declarations of a module, their names and the lists of their groups keep their limits.
+#[tactic(auto, using(wcv_core::proofs::Closing::caused_left, wcv_core::proofs::Closing::caused_right, wcv_core::proofs::Causes::free_both))]
+pub fn check_module_limits<D: ModuleDeclaration>(decls: &[D], offset: u64) -> Result<(), Error>
+    ensures ok { OnOk result (IsFree (module_left (map D.form decls.now))) }
+    ensures err { IfErr result (CausedBy (module_left (map D.form decls.now)) offset) }
+{
+    check_count(decls.len(), offset)?;
+    check_each(decls, offset)
+}
