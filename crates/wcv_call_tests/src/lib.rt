@@ -4,6 +4,10 @@
 #[cfg(test)]
 mod base;
 #[cfg(test)]
+mod core_ids;
+#[cfg(test)]
+mod core_readers;
+#[cfg(test)]
 mod declared;
 #[cfg(test)]
 mod extern_rows;
@@ -24,9 +28,29 @@ mod layouts;
 #[cfg(test)]
 mod lines;
 #[cfg(test)]
+mod module_rows;
+#[cfg(test)]
+mod module_words;
+#[cfg(test)]
+mod modules;
+#[cfg(test)]
 mod name_rows;
 #[cfg(test)]
 mod names;
+#[cfg(test)]
+mod sort_entries;
+#[cfg(test)]
+mod sort_name_rows;
+#[cfg(test)]
+mod sort_names;
+#[cfg(test)]
+mod sort_shapes;
+#[cfg(test)]
+mod sort_text;
+#[cfg(test)]
+mod sort_text_rows;
+#[cfg(test)]
+mod sorts;
 #[cfg(test)]
 mod state;
 #[cfg(test)]
