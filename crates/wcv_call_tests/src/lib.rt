@@ -8,6 +8,10 @@ mod core_ids;
 #[cfg(test)]
 mod core_readers;
 #[cfg(test)]
+mod core_state;
+#[cfg(test)]
+mod core_state_rows;
+#[cfg(test)]
 mod declared;
 #[cfg(test)]
 mod extern_rows;
@@ -37,6 +41,10 @@ mod modules;
 mod name_rows;
 #[cfg(test)]
 mod names;
+#[cfg(test)]
+mod sort_call_rows;
+#[cfg(test)]
+mod sort_calls;
 #[cfg(test)]
 mod sort_entries;
 #[cfg(test)]
