@@ -38,6 +38,10 @@ mod name_rows;
 #[cfg(test)]
 mod names;
 #[cfg(test)]
+mod sort_call_rows;
+#[cfg(test)]
+mod sort_calls;
+#[cfg(test)]
 mod sort_entries;
 #[cfg(test)]
 mod sort_name_rows;
