@@ -28,13 +28,17 @@ impl fmt::Display for UnreadForm {
                 r#"the body of this "type" is none of {"func": {"params": [[NAME, TYPE], ..], "result": TYPE, "async": BOOL}}, {"defined": DEFINED} and {"resource": {"rep": CORE-TYPE}}; no other is built yet"#
             }
             ItemForm::Import => {
-                r#"the body of this "import" is none of {"name": NAME, "type": {"func": INDEX}}, {"name": NAME, "type": {"eq": INDEX}} and {"name": NAME, "type": "sub-resource"}; no other is built yet"#
+                r#"the body of this "import" is none of {"name": NAME, "type": {"module": INDEX}}, {"name": NAME, "type": {"func": INDEX}}, {"name": NAME, "type": {"eq": INDEX}} and {"name": NAME, "type": "sub-resource"}; no other is built yet"#
             }
             ItemForm::Export => {
                 r#"the body of this "export" is not {"name": NAME, "sort": SORT, "index": INDEX}; no other is built yet"#
             }
-            ItemForm::CoreType => r#"items of the form "core-type" are not built yet"#,
-            ItemForm::CoreModule => r#"items of the form "core-module" are not built yet"#,
+            ItemForm::CoreType => {
+                r#"the body of this "core-type" is neither {"rec": [CORE-TYPE, ..]} nor {"module": [DECLARATION, ..]}"#
+            }
+            ItemForm::CoreModule => {
+                r#"the body of this "core-module" is no list of {"type": [CORE-TYPE, ..]}, {"import": [MODULE, NAME, ITEM]} and {"export": [NAME, ITEM]}"#
+            }
             ItemForm::CoreInstance => r#"items of the form "core-instance" are not built yet"#,
             ItemForm::Component => r#"items of the form "component" are not built yet"#,
             ItemForm::Instance => r#"items of the form "instance" are not built yet"#,
