@@ -2,11 +2,12 @@
 ghost use Rattle.std.specs.Prelude.{◌≡◌, IfOk, map, option_map};
 ghost use Rattle.serde_json.specs.Find.{as_str};
 ghost use Rattle.wcv_listing.specs.Defined.{case_of, map_of, fixed_list_of, result_of, defined_forms, form_of, defined_of};
-ghost use Rattle.wcv_listing.specs.Fields.{array_of, null_or, only_key};
+ghost use Rattle.wcv_listing.specs.Fields.{null_or, only_key};
 ghost use Rattle.wcv_listing.specs.Seen.{view};
 ghost use Rattle.wcv_listing.specs.Values.{value_of};
 ghost use Rattle.wcv_syntax.specs.View.{defined_view};
 
+use crate::list::{FromValue, read_list};
 use crate::value::{has_only_keys, index_of, is_null, list_of, member_at, only_key_of, text_of};
 use crate::value_type::{primitive_of, read_optional, read_params, read_value_type};
 use json::Value;
@@ -15,82 +16,46 @@ use wcv_core::{OutOfMemory, Text};
 use wcv_syntax::{ComponentDefinedType, ComponentValType, VariantCase};
 
 // A case of a variant.
-fn read_case(alloc: Global, value: &Value<'_>) -> Result<Option<VariantCase>, OutOfMemory>
-    ensures { IfOk result (λ c. c ≡ case_of (view value.now)) }
-{
-    let Some(list) = list_of(value) else {
-        return Ok(None);
-    };
-    if list.len() != 1 && list.len() != 2 {
-        return Ok(None);
-    }
-    let Some(name) = text_of(&list[0]) else {
-        return Ok(None);
-    };
-    let ty = if list.len() == 2 {
-        let Some(payload) = read_value_type(&list[1]) else {
+impl FromValue for VariantCase {
+    ghost seen = { λ case. case };
+
+    ghost meant = { case_of };
+
+    fn from_value(alloc: Global, value: &Value<'_>) -> Result<Option<VariantCase>, OutOfMemory> {
+        let Some(list) = list_of(value) else {
             return Ok(None);
         };
-        Some(payload)
-    } else {
-        None
-    };
-    let name = Text::new(alloc, name)?;
-    Ok(Some(VariantCase { name, ty }))
-}
-
-// The cases of a variant.
-fn read_cases(alloc: Global, value: &Value<'_>) -> Result<Option<Vec<VariantCase>>, OutOfMemory>
-    ensures { IfOk result (λ cases. option_map (λ cs. cs.items) cases ≡ array_of case_of (view value.now)) }
-{
-    let Some(list) = list_of(value) else {
-        return Ok(None);
-    };
-    let mut cases = Vec::with_capacity(alloc, list.len())?;
-    for value in list {
-        match read_case(alloc, value)? {
-            Some(case) => cases.push(case)?,
-            None => return Ok(None),
+        if list.len() != 1 && list.len() != 2 {
+            return Ok(None);
         }
+        let Some(name) = text_of(&list[0]) else {
+            return Ok(None);
+        };
+        let ty = if list.len() == 2 {
+            let Some(payload) = read_value_type(&list[1]) else {
+                return Ok(None);
+            };
+            Some(payload)
+        } else {
+            None
+        };
+        let name = Text::new(alloc, name)?;
+        Ok(Some(VariantCase { name, ty }))
     }
-    Ok(Some(cases))
 }
 
-// The types of a tuple.
-fn read_types(
-    alloc: Global,
-    value: &Value<'_>,
-) -> Result<Option<Vec<ComponentValType>>, OutOfMemory>
-    ensures { IfOk result (λ types. option_map (λ ts. ts.items) types ≡ array_of value_of (view value.now)) }
-{
-    let Some(list) = list_of(value) else {
-        return Ok(None);
-    };
-    let mut types = Vec::with_capacity(alloc, list.len())?;
-    for value in list {
-        match read_value_type(value) {
-            Some(ty) => types.push(ty)?,
-            None => return Ok(None),
-        }
-    }
-    Ok(Some(types))
-}
+// A name.
+impl FromValue for Text {
+    ghost seen = { λ name. name };
 
-// The names of flags or of an enum.
-fn read_names(alloc: Global, value: &Value<'_>) -> Result<Option<Vec<Text>>, OutOfMemory>
-    ensures { IfOk result (λ names. option_map (λ ns. ns.items) names ≡ array_of as_str (view value.now)) }
-{
-    let Some(list) = list_of(value) else {
-        return Ok(None);
-    };
-    let mut names = Vec::with_capacity(alloc, list.len())?;
-    for value in list {
+    ghost meant = { as_str };
+
+    fn from_value(alloc: Global, value: &Value<'_>) -> Result<Option<Text>, OutOfMemory> {
         match text_of(value) {
-            Some(name) => names.push(Text::new(alloc, name)?)?,
-            None => return Ok(None),
+            Some(name) => Ok(Some(Text::new(alloc, name)?)),
+            None => Ok(None),
         }
     }
-    Ok(Some(names))
 }
 
 // A map by the types of its keys and its values.
@@ -177,13 +142,13 @@ fn read_form(
 {
     match name {
         "record" => Ok(read_params(alloc, body)?.map(ComponentDefinedType::Record)),
-        "variant" => Ok(read_cases(alloc, body)?.map(ComponentDefinedType::Variant)),
+        "variant" => Ok(read_list(alloc, body)?.map(ComponentDefinedType::Variant)),
         "list" => Ok(read_value_type(body).map(ComponentDefinedType::List)),
         "map" => Ok(read_map(body)),
         "fixed-list" => Ok(read_fixed_list(body)),
-        "tuple" => Ok(read_types(alloc, body)?.map(ComponentDefinedType::Tuple)),
-        "flags" => Ok(read_names(alloc, body)?.map(ComponentDefinedType::Flags)),
-        "enum" => Ok(read_names(alloc, body)?.map(ComponentDefinedType::Enum)),
+        "tuple" => Ok(read_list(alloc, body)?.map(ComponentDefinedType::Tuple)),
+        "flags" => Ok(read_list(alloc, body)?.map(ComponentDefinedType::Flags)),
+        "enum" => Ok(read_list(alloc, body)?.map(ComponentDefinedType::Enum)),
         "option" => Ok(read_value_type(body).map(ComponentDefinedType::Option)),
         "result" => Ok(read_result(body)),
         "own" => Ok(index_of(body).map(ComponentDefinedType::Own)),

@@ -2,9 +2,11 @@
 ghost use Rattle.std.specs.Prelude.{◌≡◌, IfOk, option_map};
 ghost use Rattle.wcv_listing.specs.CoreForms.{core_import_of, core_export_of, module_decl_of, core_outer_of, type_decl_of};
 ghost use Rattle.wcv_listing.specs.Seen.{view};
+ghost use Rattle.wcv_syntax.specs.Model.{Module_decl};
 ghost use Rattle.wcv_syntax.specs.View.{module_decl_view, code_decl_view};
 
 use crate::core_entity::read_entity;
+use crate::list::FromValue;
 use crate::sub_type::read_rec;
 use crate::value::{has_only_keys, index_of, list_of, member_at, text_of};
 use json::Value;
@@ -80,6 +82,18 @@ pub fn read_module_decl(alloc: Global, value: &Value<'_>) -> Result<Option<Modul
     }
 }
 
+impl FromValue for ModuleDecl {
+    ghost Form = { Module_decl };
+
+    ghost seen = { code_decl_view };
+
+    ghost meant = { module_decl_of };
+
+    fn from_value(alloc: Global, value: &Value<'_>) -> Result<Option<ModuleDecl>, OutOfMemory> {
+        read_module_decl(alloc, value)
+    }
+}
+
 // An outer alias of a core type.
 fn read_core_outer(value: &Value<'_>) -> Option<ModuleTypeDeclaration>
     ensures { option_map module_decl_view result ≡ core_outer_of (view value.now) }
@@ -93,17 +107,6 @@ fn read_core_outer(value: &Value<'_>) -> Option<ModuleTypeDeclaration>
     Some(ModuleTypeDeclaration::OuterAlias { count, index })
 }
 
-// The declaration as one of a type.
-fn in_type(decl: ModuleDecl) -> ModuleTypeDeclaration
-    ensures { module_decl_view result ≡ code_decl_view decl }
-{
-    match decl {
-        ModuleDecl::Ty(group) => ModuleTypeDeclaration::Ty(group),
-        ModuleDecl::Import(import) => ModuleTypeDeclaration::Import(import),
-        ModuleDecl::Export { name, ty } => ModuleTypeDeclaration::Export { name, ty },
-    }
-}
-
 /// A declaration of the type of a core module.
 pub fn read_type_decl(
     alloc: Global,
@@ -114,6 +117,21 @@ pub fn read_type_decl(
     if has_only_keys(value, &["alias"]) {
         Ok(member_at(value, "alias").and_then(read_core_outer))
     } else {
-        Ok(read_module_decl(alloc, value)?.map(in_type))
+        Ok(read_module_decl(alloc, value)?.map(ModuleDecl::in_module_type))
+    }
+}
+
+impl FromValue for ModuleTypeDeclaration {
+    ghost Form = { Module_decl };
+
+    ghost seen = { module_decl_view };
+
+    ghost meant = { type_decl_of };
+
+    fn from_value(
+        alloc: Global,
+        value: &Value<'_>,
+    ) -> Result<Option<ModuleTypeDeclaration>, OutOfMemory> {
+        read_type_decl(alloc, value)
     }
 }

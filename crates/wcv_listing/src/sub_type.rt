@@ -3,12 +3,13 @@ ghost use Rattle.std.specs.Prelude.{◌≡◌, IfOk, codes, map, option_map};
 ghost use Rattle.serde_json.specs.Find.{get};
 ghost use Rattle.wcv_listing.specs.Core.{core_value_of};
 ghost use Rattle.wcv_listing.specs.CoreForms.{packed_of, storage_of, field_of, core_func_of, composite_forms, composite_of, final_mark, super_of, sub_of, rec_of};
-ghost use Rattle.wcv_listing.specs.Fields.{array_of, first_of, optional};
+ghost use Rattle.wcv_listing.specs.Fields.{first_of, optional};
 ghost use Rattle.wcv_listing.specs.Seen.{view};
-ghost use Rattle.wcv_syntax.specs.Model.{core_func};
+ghost use Rattle.wcv_syntax.specs.Model.{Sub_form, core_func};
 ghost use Rattle.wcv_syntax.specs.View.{composite_view, sub_view, rec_view};
 
 use crate::core_value::{mark_at, read_core_value};
+use crate::list::{FromValue, read_list};
 use crate::value::{bool_of, first_key, has_only_keys, index_of, list_of, member_at, text_of};
 use json::Value;
 use std::alloc::Global;
@@ -50,38 +51,24 @@ fn read_field(value: &Value<'_>) -> Option<FieldType>
     Some(FieldType { storage, mutable })
 }
 
-// The fields of a struct.
-fn read_fields(alloc: Global, value: &Value<'_>) -> Result<Option<Vec<FieldType>>, OutOfMemory>
-    ensures { IfOk result (λ fields. option_map (λ fs. fs.items) fields ≡ array_of field_of (view value.now)) }
-{
-    let Some(list) = list_of(value) else {
-        return Ok(None);
-    };
-    let mut fields = Vec::with_capacity(alloc, list.len())?;
-    for value in list {
-        match read_field(value) {
-            Some(field) => fields.push(field)?,
-            None => return Ok(None),
-        }
+impl FromValue for FieldType {
+    ghost seen = { λ field. field };
+
+    ghost meant = { field_of };
+
+    fn from_value(_alloc: Global, value: &Value<'_>) -> Result<Option<FieldType>, OutOfMemory> {
+        Ok(read_field(value))
     }
-    Ok(Some(fields))
 }
 
-// The types of parameters or of results.
-fn read_values(alloc: Global, value: &Value<'_>) -> Result<Option<Vec<ValType>>, OutOfMemory>
-    ensures { IfOk result (λ types. option_map (λ ts. ts.items) types ≡ array_of core_value_of (view value.now)) }
-{
-    let Some(list) = list_of(value) else {
-        return Ok(None);
-    };
-    let mut types = Vec::with_capacity(alloc, list.len())?;
-    for value in list {
-        match read_core_value(value) {
-            Some(ty) => types.push(ty)?,
-            None => return Ok(None),
-        }
+impl FromValue for ValType {
+    ghost seen = { λ ty. ty };
+
+    ghost meant = { core_value_of };
+
+    fn from_value(_alloc: Global, value: &Value<'_>) -> Result<Option<ValType>, OutOfMemory> {
+        Ok(read_core_value(value))
     }
-    Ok(Some(types))
 }
 
 // A function type.
@@ -94,10 +81,10 @@ fn read_core_func(alloc: Global, value: &Value<'_>) -> Result<Option<FuncType>, 
     if list.len() != 2 {
         return Ok(None);
     }
-    let Some(params) = read_values(alloc, &list[0])? else {
+    let Some(params) = read_list(alloc, &list[0])? else {
         return Ok(None);
     };
-    let Some(results) = read_values(alloc, &list[1])? else {
+    let Some(results) = read_list(alloc, &list[1])? else {
         return Ok(None);
     };
     Ok(Some(FuncType { params, results }))
@@ -114,7 +101,7 @@ fn read_composite(
     match name {
         "func" => Ok(read_core_func(alloc, body)?.map(CompositeInnerType::Func)),
         "struct" => {
-            let Some(fields) = read_fields(alloc, body)? else {
+            let Some(fields) = read_list(alloc, body)? else {
                 return Ok(None);
             };
             Ok(Some(CompositeInnerType::Struct(StructType { fields })))
@@ -160,51 +147,47 @@ fn read_super(value: &Value<'_>) -> Option<Option<SuperType>>
 }
 
 // A core type with its place among the others.
-fn read_sub(alloc: Global, value: &Value<'_>) -> Result<Option<SubType>, OutOfMemory>
-    ensures { IfOk result (λ ty. option_map sub_view ty ≡ sub_of (view value.now)) }
-{
-    let Some(name) = form_name(value) else {
-        return Ok(None);
-    };
-    if !has_only_keys(value, &["final", "super", "shared", name]) {
-        return Ok(None);
+impl FromValue for SubType {
+    ghost Form = { Sub_form };
+
+    ghost seen = { sub_view };
+
+    ghost meant = { sub_of };
+
+    fn from_value(alloc: Global, value: &Value<'_>) -> Result<Option<SubType>, OutOfMemory> {
+        let Some(name) = form_name(value) else {
+            return Ok(None);
+        };
+        if !has_only_keys(value, &["final", "super", "shared", name]) {
+            return Ok(None);
+        }
+        let Some(is_final) = read_final(value) else {
+            return Ok(None);
+        };
+        let Some(supertype) = read_super(value) else {
+            return Ok(None);
+        };
+        let Some(shared) = mark_at(value, "shared") else {
+            return Ok(None);
+        };
+        let Some(body) = member_at(value, name) else {
+            return Ok(None);
+        };
+        let Some(inner) = read_composite(alloc, name, body)? else {
+            return Ok(None);
+        };
+        Ok(Some(SubType {
+            is_final,
+            supertype,
+            shared,
+            inner,
+        }))
     }
-    let Some(is_final) = read_final(value) else {
-        return Ok(None);
-    };
-    let Some(supertype) = read_super(value) else {
-        return Ok(None);
-    };
-    let Some(shared) = mark_at(value, "shared") else {
-        return Ok(None);
-    };
-    let Some(body) = member_at(value, name) else {
-        return Ok(None);
-    };
-    let Some(inner) = read_composite(alloc, name, body)? else {
-        return Ok(None);
-    };
-    Ok(Some(SubType {
-        is_final,
-        supertype,
-        shared,
-        inner,
-    }))
 }
 
 /// A group of core types.
 pub fn read_rec(alloc: Global, value: &Value<'_>) -> Result<Option<RecGroup>, OutOfMemory>
     ensures { IfOk result (λ group. option_map rec_view group ≡ rec_of (view value.now)) }
 {
-    let Some(list) = list_of(value) else {
-        return Ok(None);
-    };
-    let mut types = Vec::with_capacity(alloc, list.len())?;
-    for value in list {
-        match read_sub(alloc, value)? {
-            Some(ty) => types.push(ty)?,
-            None => return Ok(None),
-        }
-    }
-    Ok(Some(RecGroup { types }))
+    Ok(read_list(alloc, value)?.map(|types| RecGroup { types }))
 }

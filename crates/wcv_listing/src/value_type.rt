@@ -5,6 +5,7 @@ ghost use Rattle.wcv_listing.specs.Fields.{optional};
 ghost use Rattle.wcv_listing.specs.Seen.{view};
 ghost use Rattle.wcv_listing.specs.Values.{primitive_named, value_of, param_of, params_of};
 
+use crate::list::{FromValue, read_list};
 use crate::value::{index_of, list_of, member_at, text_of};
 use json::Value;
 use std::alloc::Global;
@@ -54,27 +55,44 @@ pub fn read_optional(value: &Value<'_>, key: &str) -> Option<Option<ComponentVal
     }
 }
 
-// A name and a value type.
-fn read_param(
-    alloc: Global,
-    value: &Value<'_>,
-) -> Result<Option<(Text, ComponentValType)>, OutOfMemory>
-    ensures { IfOk result (λ param. param ≡ param_of (view value.now)) }
-{
-    let Some(list) = list_of(value) else {
-        return Ok(None);
-    };
-    if list.len() != 2 {
-        return Ok(None);
+impl FromValue for ComponentValType {
+    ghost seen = { λ ty. ty };
+
+    ghost meant = { value_of };
+
+    fn from_value(
+        _alloc: Global,
+        value: &Value<'_>,
+    ) -> Result<Option<ComponentValType>, OutOfMemory> {
+        Ok(read_value_type(value))
     }
-    let Some(name) = text_of(&list[0]) else {
-        return Ok(None);
-    };
-    let Some(ty) = read_value_type(&list[1]) else {
-        return Ok(None);
-    };
-    let name = Text::new(alloc, name)?;
-    Ok(Some((name, ty)))
+}
+
+// A name and a value type.
+impl FromValue for (Text, ComponentValType) {
+    ghost seen = { λ param. param };
+
+    ghost meant = { param_of };
+
+    fn from_value(
+        alloc: Global,
+        value: &Value<'_>,
+    ) -> Result<Option<(Text, ComponentValType)>, OutOfMemory> {
+        let Some(list) = list_of(value) else {
+            return Ok(None);
+        };
+        if list.len() != 2 {
+            return Ok(None);
+        }
+        let Some(name) = text_of(&list[0]) else {
+            return Ok(None);
+        };
+        let Some(ty) = read_value_type(&list[1]) else {
+            return Ok(None);
+        };
+        let name = Text::new(alloc, name)?;
+        Ok(Some((name, ty)))
+    }
 }
 
 /// Names and value types.
@@ -84,15 +102,5 @@ pub fn read_params(
 ) -> Result<Option<Vec<(Text, ComponentValType)>>, OutOfMemory>
     ensures { IfOk result (λ params. option_map (λ ps. ps.items) params ≡ params_of (view value.now)) }
 {
-    let Some(list) = list_of(value) else {
-        return Ok(None);
-    };
-    let mut params = Vec::with_capacity(alloc, list.len())?;
-    for value in list {
-        match read_param(alloc, value)? {
-            Some(param) => params.push(param)?,
-            None => return Ok(None),
-        }
-    }
-    Ok(Some(params))
+    read_list(alloc, value)
 }

@@ -1,9 +1,0 @@
-use Rattle.std.proofs.Common.{◌≡◌, ◌++◌, drop, option_map}
-use Rattle.wcv_listing.specs.Fields.{all_of, array_of}
-use Rattle.wcv_listing.specs.Seen.{view, items_view}
-use Rattle.wcv_listing.specs.Values.{value_of}
-use Rattle.wcv_listing.proofs.defined.read_types.Given as goal
-
-abbrev pub invariant-loop-value : goal.invariant-loop-value
-invariant-loop-value l =
-    option_map (λ xs. l.types.items ++ xs) (all_of value_of (items_view (drop l.value-index l.value-items))) ≡ array_of value_of (view l.value)
