@@ -6,7 +6,7 @@ use Rattle.std.proofs.lemmas.Bool.{cases_lt}
 use Rattle.wcv_core.specs.declared.primitive.PrimitiveValType.{PrimitiveValType}
 use Rattle.wcv_core.specs.declared.primitive.PrimitiveValType.TheVariants as prim
 use Rattle.wcv_types.specs.Abi.{primitive_align, align_up, discriminant, flags_size, variant_size, former_size, former_align, abi_align, greatest_align, count, kept_size}
-use Rattle.wcv_types.specs.Tree.{Former, named, record_of, variant_of, list_of, map_of, tuple_of, option_of, result_of, own_of, borrow_of, future_of, stream_of, fixed_list_of, flags_of, enum_of, nothing, primitive, resource, defined, func, instance, component, type_entity, Tree, node, Parts, none, part}
+use Rattle.wcv_types.specs.Tree.{Former, named, record_of, variant_of, list_of, map_of, tuple_of, option_of, result_of, own_of, borrow_of, future_of, stream_of, fixed_list_of, flags_of, enum_of, nothing, primitive, resource, defined, func, instance, component, type_entity, core_module, core_instance, core_type, core_item, Tree, node, Parts, none, part}
 
 -- ## Alignments
 
@@ -63,6 +63,10 @@ mutual
   align-positive p h (node (instance i own) ps) = omega arith
   align-positive p h (node (component i ins outs) ps) = omega arith
   align-positive p h (node type_entity ps) = omega arith
+  align-positive p h (node (core_module i m) ps) = omega arith
+  align-positive p h (node (core_instance i m) ps) = omega arith
+  align-positive p h (node (core_type i) ps) = omega arith
+  align-positive p h (node (core_item x) ps) = omega arith
 
   pub greatest-positive : {R I : Type 0} (p : ℕ) → 1 ≤ p → (ps : Parts R I) → 1 ≤ greatest_align p ps
   greatest-positive p h none = omega arith

@@ -5,7 +5,7 @@ use Rattle.std.specs.Option.{option_map}
 use Rattle.std.proofs.lemmas.Bool.{false≢true}
 use Rattle.wcv_core.specs.Names.{Name, member}
 use Rattle.wcv_core.proofs.Names.{same-true, same-equal}
-use Rattle.wcv_types.specs.Tree.{Extern_name, Head, nothing, primitive, resource, defined, func, instance, component, type_entity, here, label, import, export, Tree, node, Parts, none, part, head, first_part, rest_parts, exports, exports_in}
+use Rattle.wcv_types.specs.Tree.{Extern_name, Head, nothing, primitive, resource, defined, func, instance, component, type_entity, core_module, core_instance, core_type, core_item, here, label, import, export, core_import, core_export, Tree, node, Parts, none, part, head, first_part, rest_parts, exports, exports_in}
 use Rattle.wcv_types.specs.Resources.{RefersTo, refers}
 use Rattle.wcv_types.specs.Paths.{IsTypeOf, IsWayTo, PathLeadsTo}
 use Rattle.wcv_types.specs.FirstPath.{or_else, path_at, path_in, path_from, first_path}
@@ -67,6 +67,10 @@ refers-to r (func i b) e = absurd (false≢true e)
 refers-to r (instance i own) e = absurd (false≢true e)
 refers-to r (component i ins outs) e = absurd (false≢true e)
 refers-to r type_entity e = absurd (false≢true e)
+refers-to r (core_module i n) e = absurd (false≢true e)
+refers-to r (core_instance i n) e = absurd (false≢true e)
+refers-to r (core_type k) e = absurd (false≢true e)
+refers-to r (core_item x) e = absurd (false≢true e)
 
 pub to-refers : (r : Name) (h : Head Name Name) → RefersTo r h → refers r h ≡ true
 to-refers r (resource q s) e = same-equal r q e
@@ -77,6 +81,10 @@ to-refers r (func i b) e = absurd e
 to-refers r (instance i own) e = absurd e
 to-refers r (component i ins outs) e = absurd e
 to-refers r type_entity e = absurd e
+to-refers r (core_module i n) e = absurd e
+to-refers r (core_instance i n) e = absurd e
+to-refers r (core_type k) e = absurd e
+to-refers r (core_item x) e = absurd e
 
 no_path : {x : List ℕ} → None ≡ Some x → ⊥
 no_path w = cc
@@ -101,12 +109,16 @@ instance-reaches r i own ps q inside h = go (member r own) refl h
 mutual
   pub path_at-reaches : (r : Name) (t : Tree Name Name) (q : List ℕ) → path_at r t ≡ Some q → Reaches r q t
   path_at-reaches r (node type_entity ps) q h = type-reaches r ps q h
+  path_at-reaches r (node (core_type k) ps) q h = cc
+  path_at-reaches r (node (core_item x) ps) q h = cc
   path_at-reaches r (node (instance i own) ps) q h = instance-reaches r i own ps q (λ w. path_in-begins r 0 ps q w) h
   path_at-reaches r (node nothing ps) q h = cc
   path_at-reaches r (node (primitive p) ps) q h = cc
   path_at-reaches r (node (resource x s) ps) q h = cc
   path_at-reaches r (node (defined i x) ps) q h = cc
   path_at-reaches r (node (func i b) ps) q h = cc
+  path_at-reaches r (node (core_module i n) ps) q h = cc
+  path_at-reaches r (node (core_instance i n) ps) q h = cc
   path_at-reaches r (node (component i ins outs) ps) q h = cc
 
   pub path_in-begins : (r : Name) (k : ℕ) (ps : Parts Name Name) (p : List ℕ) → path_in r k ps ≡ Some p → Begins r k (exports_in ps) p
@@ -115,6 +127,8 @@ mutual
   path_in-begins r k (part (import n) t ps) p h = path_in-begins r k ps p h
   path_in-begins r k (part (label n) t ps) p h = path_in-begins r k ps p h
   path_in-begins r k (part here t ps) p h = path_in-begins r k ps p h
+  path_in-begins r k (part (core_import m n) t ps) p h = path_in-begins r k ps p h
+  path_in-begins r k (part (core_export m) t ps) p h = path_in-begins r k ps p h
 
 path_from-begins : (r : Name) (k : ℕ) (es : List Entry) (p : List ℕ) → path_from r k es ≡ Some p → Begins r k es p
 path_from-begins r k [] p h = cc
@@ -171,12 +185,16 @@ not_reached r t (k ∷ q) x y w = y w.0
 mutual
   pub path_at-none : (r : Name) (t : Tree Name Name) → path_at r t ≡ None → (q : List ℕ) → Reaches r q t → ⊥
   path_at-none r (node type_entity ps) h q w = no-type r ps q h w
+  path_at-none r (node (core_type k) ps) h q w = not_reached r (node (core_type k) ps) q (λ y. let e = y.0 in cc) (λ y. let e = y.0 in cc) w
+  path_at-none r (node (core_item x) ps) h q w = not_reached r (node (core_item x) ps) q (λ y. let e = y.0 in cc) (λ y. let e = y.0 in cc) w
   path_at-none r (node (instance i own) ps) h q w = no-instance r i own ps q (λ e. path_in-none r 0 ps e) h w
   path_at-none r (node nothing ps) h q w = not_reached r (node nothing ps) q (λ x. let e = x.0 in cc) (λ x. let e = x.0 in cc) w
   path_at-none r (node (primitive p) ps) h q w = not_reached r (node (primitive p) ps) q (λ x. let e = x.0 in cc) (λ x. let e = x.0 in cc) w
   path_at-none r (node (resource y s) ps) h q w = not_reached r (node (resource y s) ps) q (λ x. let e = x.0 in cc) (λ x. let e = x.0 in cc) w
   path_at-none r (node (defined i y) ps) h q w = not_reached r (node (defined i y) ps) q (λ x. let e = x.0 in cc) (λ x. let e = x.0 in cc) w
   path_at-none r (node (func i b) ps) h q w = not_reached r (node (func i b) ps) q (λ x. let e = x.0 in cc) (λ x. let e = x.0 in cc) w
+  path_at-none r (node (core_module i n) ps) h q w = not_reached r (node (core_module i n) ps) q (λ x. let e = x.0 in cc) (λ x. let e = x.0 in cc) w
+  path_at-none r (node (core_instance i n) ps) h q w = not_reached r (node (core_instance i n) ps) q (λ x. let e = x.0 in cc) (λ x. let e = x.0 in cc) w
   path_at-none r (node (component i ins outs) ps) h q w = not_reached r (node (component i ins outs) ps) q (λ x. let e = x.0 in cc) (λ x. let e = x.0 in cc) w
 
   pub path_in-none : (r : Name) (k : ℕ) (ps : Parts Name Name) → path_in r k ps ≡ None → (j : ℕ) (q : List ℕ) (e : Extern_name × Tree Name Name) → slice_get (exports_in ps) j ≡ Some e → Reaches r q e.1 → ⊥
@@ -187,6 +205,8 @@ mutual
   path_in-none r k (part (import n) t ps) h j q e s w = path_in-none r k ps h j q e s w
   path_in-none r k (part (label n) t ps) h j q e s w = path_in-none r k ps h j q e s w
   path_in-none r k (part here t ps) h j q e s w = path_in-none r k ps h j q e s w
+  path_in-none r k (part (core_import m n) t ps) h j q e s w = path_in-none r k ps h j q e s w
+  path_in-none r k (part (core_export m) t ps) h j q e s w = path_in-none r k ps h j q e s w
 
 path_from-none : (r : Name) (k : ℕ) (es : List Entry) → path_from r k es ≡ None → None_begins r es
 path_from-none r k [] h = none_of_none r
@@ -210,6 +230,10 @@ module _ (f back g : Name → Name) (Q : Name → Type 0) where
   refers-renamed r (instance i own) e n = refl
   refers-renamed r (component i ins outs) e n = refl
   refers-renamed r type_entity e n = refl
+  refers-renamed r (core_module i k) e n = refl
+  refers-renamed r (core_instance i k) e n = refl
+  refers-renamed r (core_type k) e n = refl
+  refers-renamed r (core_item x) e n = refl
 
   second-renamed : (r : Name) (ps : Parts Name Name) → back (f r) ≡ r → EachNameIn (λ q. back (f q) ≡ q) Q ps →
       refers (f r) (head (first_part (rest_parts (rename_parts f g ps)))) ≡ refers r (head (first_part (rest_parts ps)))
@@ -220,6 +244,8 @@ module _ (f back g : Name → Name) (Q : Name → Type 0) where
   mutual
     pub path_at-renamed : (r : Name) (t : Tree Name Name) → back (f r) ≡ r → EachName (λ q. back (f q) ≡ q) Q t → path_at (f r) (rename f g t) ≡ path_at r t
     path_at-renamed r (node type_entity ps) e n = ap ends_here (second-renamed r ps e n.1)
+    path_at-renamed r (node (core_type k) ps) e n = refl
+    path_at-renamed r (node (core_item x) ps) e n = refl
     path_at-renamed r (node (instance i own) ps) e n =
         let a : member (f r) (map f own) ≡ member r own = owns-renamed f back g Q (instance i own) r n.0 e in
         let b : path_in (f r) 0 (rename_parts f g ps) ≡ path_in r 0 ps = path_in-renamed r 0 ps e n.1 in
@@ -229,6 +255,8 @@ module _ (f back g : Name → Name) (Q : Name → Type 0) where
     path_at-renamed r (node (resource q s) ps) e n = refl
     path_at-renamed r (node (defined i x) ps) e n = refl
     path_at-renamed r (node (func i b) ps) e n = refl
+    path_at-renamed r (node (core_module i k) ps) e n = refl
+    path_at-renamed r (node (core_instance i k) ps) e n = refl
     path_at-renamed r (node (component i ins outs) ps) e n = refl
 
     pub path_in-renamed : (r : Name) (k : ℕ) (ps : Parts Name Name) → back (f r) ≡ r → EachNameIn (λ q. back (f q) ≡ q) Q ps → path_in (f r) k (rename_parts f g ps) ≡ path_in r k ps
@@ -240,6 +268,8 @@ module _ (f back g : Name → Name) (Q : Name → Type 0) where
     path_in-renamed r k (part (import m) t ps) e n = path_in-renamed r k ps e n.1
     path_in-renamed r k (part (label m) t ps) e n = path_in-renamed r k ps e n.1
     path_in-renamed r k (part here t ps) e n = path_in-renamed r k ps e n.1
+    path_in-renamed r k (part (core_import m l) t ps) e n = path_in-renamed r k ps e n.1
+    path_in-renamed r k (part (core_export m) t ps) e n = path_in-renamed r k ps e n.1
 
   -- so among entries
   pub path_from-renamed : (r : Name) (k : ℕ) (es : List Entry) → back (f r) ≡ r → ((e : Entry) → EachName (λ q. back (f q) ≡ q) Q e.1) →

@@ -2,13 +2,15 @@
 use Rattle.std.proofs.Common.{◌≡◌, List, [], ◌∷◌, length, ap, sym, subst, ◌∙◌, Some}
 use Rattle.std.specs.Prelude.{Option, All}
 use Rattle.std.proofs.lemmas.List.Elements.{All-nil}
+use Rattle.wcv_core.specs.CoreGroups.{total}
+use Rattle.wcv_core.specs.CoreSizes.{IsEntityWithin}
 use Rattle.wcv_core.specs.Names.{number}
 use Rattle.wcv_core.specs.declared.primitive.PrimitiveValType.{PrimitiveValType}
 use Rattle.wcv_types.specs.Tree.{Text, here, func, node}
 use Rattle.wcv_types.specs.Measure.{size, depth}
 use Rattle.wcv_types.specs.Arena.{Arena}
 use Rattle.wcv_types.specs.Unfold.{Type_tree, Slots, capped, slot_parts, field_slots, option_slot, parts_in, trees}
-use Rattle.wcv_types.specs.Standing.{Stands, Fits}
+use Rattle.wcv_types.specs.Standing.{Stands, GaveResource, Fits}
 use Rattle.wcv_types.specs.declared.arena.Node.TheVariants as n
 use Rattle.wcv_types.specs.declared.shapes.ComponentFuncType.{ComponentFuncType}
 use Rattle.wcv_types.specs.declared.shapes.ComponentValType.{ComponentValType}
@@ -27,4 +29,8 @@ fits_plain a f q none gives s d =
     record {
       parts = subst (λ (ss : Slots). All (Stands a) (parts_in ss)) (sym e) (All-nil (Stands a));
       info = record { size = s ∙ large; depth = d ∙ deep };
+      owned = All-nil (GaveResource a);
+      led = tt;
+      within = All-nil (IsEntityWithin (total a.core));
+      stated = tt;
     }

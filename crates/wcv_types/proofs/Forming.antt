@@ -5,10 +5,10 @@ use Rattle.std.proofs.lemmas.Bool.{false≢true}
 use Rattle.wcv_core.specs.Names.{Name}
 use Rattle.wcv_types.specs.Abi.{former_size, former_align, former_has, greatest_align, greatest_size, end_of, count, pointer, handle, borrow, kept_size}
 use Rattle.wcv_types.specs.Facts.{is_plain, IsFactsOf}
-use Rattle.wcv_types.specs.Measure.{former_weight, weigh, sizes, first_size, depths, first_depth}
+use Rattle.wcv_types.specs.Measure.{former_weight, weigh, deepen, sizes, first_size, depths, first_depth}
 use Rattle.wcv_types.specs.Named.{named_by_itself, is_named}
 use Rattle.wcv_types.specs.Sums.{HasAlign, HasParts, IsExtentOf, IsSumOf}
-use Rattle.wcv_types.specs.Tree.{Former, named, record_of, variant_of, list_of, map_of, tuple_of, option_of, result_of, own_of, borrow_of, future_of, stream_of, fixed_list_of, flags_of, enum_of, nothing, primitive, resource, defined, func, instance, component, type_entity, Role, Parts, node, sort, is_value}
+use Rattle.wcv_types.specs.Tree.{Former, named, record_of, variant_of, list_of, map_of, tuple_of, option_of, result_of, own_of, borrow_of, future_of, stream_of, fixed_list_of, flags_of, enum_of, nothing, primitive, resource, defined, func, instance, component, type_entity, core_module, core_instance, core_type, core_item, Role, Parts, node, sort, is_value}
 use Rattle.wcv_types.specs.Unfold.{Type_tree, capped, former_of, value_parts, value_slots, handles, defined_slots, head_of, slot_parts}
 use Rattle.wcv_types.specs.declared.arena.Node.TheVariants as n
 use Rattle.wcv_types.specs.declared.facts.Facts.{Facts}
@@ -45,6 +45,24 @@ weigh-capped result_of f n = omega arith
 weigh-capped future_of f n = omega arith
 weigh-capped stream_of f n = omega arith
 weigh-capped (fixed_list_of k) f n = omega arith
+
+-- a value type does not state its size
+deepen-former : (k : Former) (f n : ℕ) → weigh (former_weight k) f n ≡ deepen (former_weight k) f n
+deepen-former (named q) f n = refl
+deepen-former own_of f n = refl
+deepen-former borrow_of f n = refl
+deepen-former (flags_of ls) f n = refl
+deepen-former (enum_of ls) f n = refl
+deepen-former record_of f n = refl
+deepen-former variant_of f n = refl
+deepen-former tuple_of f n = refl
+deepen-former list_of f n = refl
+deepen-former map_of f n = refl
+deepen-former option_of f n = refl
+deepen-former result_of f n = refl
+deepen-former future_of f n = refl
+deepen-former stream_of f n = refl
+deepen-former (fixed_list_of m) f n = refl
 
 -- ## How many parts
 
@@ -129,7 +147,8 @@ module _ (s : ComponentDefinedType) (x : Sum) (ts : List Type_tree) (k : ℕ) (h
   facts_are f i1 i2 a1 a2 a3 a4 m1 m2 m3 q w = record {
     info = record {
       size = i1 ∙ ap (λ (m : ℕ). capped (weigh (former_weight (former_of s)) 0 m)) h.size ∙ weigh-capped (former_of s) (first_size ps) (sizes ps);
-      depth = i2 ∙ ap (λ (m : ℕ). capped (weigh (former_weight (former_of s)) 0 m)) h.depth ∙ weigh-capped (former_of s) (first_depth ps) (depths ps);
+      depth = i2 ∙ ap (λ (m : ℕ). capped (weigh (former_weight (former_of s)) 0 m)) h.depth ∙ weigh-capped (former_of s) (first_depth ps) (depths ps) ∙
+          ap capped (deepen-former (former_of s) (first_depth ps) (depths ps));
     };
     abi = record {
       size32 = size_known 4 f.abi.size32 x.narrow h.narrow a1;
@@ -155,3 +174,7 @@ plain_value (node (func i b) ps) e = cc
 plain_value (node (instance i own) ps) e = refl
 plain_value (node (component i ins outs) ps) e = refl
 plain_value (node type_entity ps) e = refl
+plain_value (node (core_module i m) ps) e = refl
+plain_value (node (core_instance i m) ps) e = refl
+plain_value (node (core_type i) ps) e = refl
+plain_value (node (core_item x) ps) e = refl

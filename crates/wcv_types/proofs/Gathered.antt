@@ -15,7 +15,7 @@ use Rattle.wcv_types.specs.NamedBySet.{handle_of}
 use Rattle.wcv_types.specs.Resources.{Free, FreeIn, mentions, mentions_in}
 use Rattle.wcv_types.specs.Sets.{same_type, has_type, with_type, has_resource, with_resource, resource_names}
 use Rattle.wcv_types.specs.Standing.{Stands, StandsBefore}
-use Rattle.wcv_types.specs.Tree.{Text, Role, here, label, nothing, primitive, resource, defined, func, instance, component, type_entity, node, Parts, none, part, type_of}
+use Rattle.wcv_types.specs.Tree.{Text, Role, here, label, nothing, primitive, resource, defined, func, instance, component, type_entity, core_module, core_instance, core_type, core_item, node, Parts, none, part, type_of}
 use Rattle.wcv_types.specs.Unfold.{Type_tree, Slot, Slots, value_parts, value_slots, value_slot, option_slot, field_slots, defined_slots, handles, slot_tree, slot_parts, slots_of, parts_of, trees, tree_at, unfolded}
 use Rattle.wcv_types.specs.declared.arena.Node.TheVariants as n
 use Rattle.wcv_types.specs.declared.ids.AliasableResourceId.{AliasableResourceId}
@@ -32,97 +32,9 @@ use Rattle.wcv_types.specs.declared.shapes.ComponentDefinedType.TheVariants as d
 use Rattle.wcv_types.specs.declared.shapes.ComponentFuncType.{ComponentFuncType}
 use Rattle.wcv_types.specs.declared.shapes.ComponentValType.{ComponentValType}
 use Rattle.wcv_types.specs.declared.shapes.ComponentValType.TheVariants as v
+use Rattle.wcv_types.proofs.Gaining.{or_split, or_none, none_or, kept, gains_then, gains_as, gains_push}
 use Rattle.wcv_types.proofs.Forming.{slots_of_values}
 use Rattle.wcv_types.proofs.Knowing.{take-next, slot_at, all_values, fields_behind, fields_next, given_stands, given_result}
-
--- ## Sets
-
-or_false : (b : Bool) → (b || false) ≡ b
-or_false true = refl
-or_false false = refl
-
-or_split : (b c : Bool) → (b || c) ≡ true → (b ≡ true) ⊎ (c ≡ true)
-or_split true c e = inl refl
-or_split false c e = inr e
-
-or_left : (b c : Bool) → b ≡ true → (b || c) ≡ true
-or_left true c e = refl
-or_left false c e = absurd (false≢true e)
-
-or_right : (b c : Bool) → c ≡ true → (b || c) ≡ true
-or_right true c e = refl
-or_right false c e = e
-
-or_none : (b c : Bool) → (b || c) ≡ false → b ≡ false
-or_none true c e = absurd (false≢true (sym e))
-or_none false c e = refl
-
-none_or : (b c : Bool) → (b || c) ≡ false → c ≡ false
-none_or true c e = absurd (false≢true (sym e))
-none_or false c e = e
-
-member-append : (r : Name) (xs ys : List Name) → member r (xs ++ ys) ≡ (member r xs || member r ys)
-member-append r [] ys = refl
-member-append r (x ∷ xs) ys = ap (λ (b : Bool). same r x || b) (member-append r xs ys) ∙ or_assoc (same r x) (member r xs) (member r ys)
-  where
-    or_assoc : (a b c : Bool) → (a || (b || c)) ≡ ((a || b) || c)
-    or_assoc true b c = refl
-    or_assoc false b c = refl
-
--- a set has a resource where its names have its name
-pub has-member : (rs : List ResourceId) (q : ResourceId) → has_resource rs q ≡ member (number q.index) (resource_names rs)
-has-member [] q = refl
-has-member (r ∷ rs) q = ap (λ (b : Bool). eqb q.index r.index || b) (has-member rs q)
-
-names-append : (xs ys : List ResourceId) (r : Name) → member r (resource_names (xs ++ ys)) ≡ (member r (resource_names xs) || member r (resource_names ys))
-names-append xs ys r = ap (member r) (map-append (λ (q : ResourceId). number q.index) xs ys) ∙ member-append r (resource_names xs) (resource_names ys)
-
-pub kept : (old new : List ResourceId) (r : Name) → Continues old new → member r (resource_names old) ≡ true → member r (resource_names new) ≡ true
-kept old new r c h =
-    ap (λ (rs : List ResourceId). member r (resource_names rs)) c.1 ∙ names-append old c.0 r ∙ or_left (member r (resource_names old)) (member r (resource_names c.0)) h
-
-pub continues_refl : (rs : List ResourceId) → Continues rs rs
-continues_refl rs = ([], sym (append-nil rs))
-
-pub continues_trans : (xs ys zs : List ResourceId) → Continues xs ys → Continues ys zs → Continues xs zs
-continues_trans xs ys zs c d = (c.0 ++ d.0, d.1 ∙ ap (λ (rs : List ResourceId). rs ++ d.0) c.1 ∙ append_assoc xs c.0 d.0)
-
--- ## What a set gains
-
--- nothing, where it has all
-pub gains_held : (P : Name → Type 0) (rs : List ResourceId) → ((r : Name) → P r → member r (resource_names rs) ≡ true) → Gains P rs rs
-gains_held P rs h = record { keeps = continues_refl rs; all = h; only = λ r m. inl m }
-
--- one after another
-pub gains_then : (P Q : Name → Type 0) (xs ys zs : List ResourceId) → Gains P xs ys → Gains Q ys zs → Gains (λ r. P r ⊎ Q r) xs zs
-gains_then P Q xs ys zs g h = record {
-  keeps = continues_trans xs ys zs g.keeps h.keeps;
-  all = λ r w. ⊎_elim (λ (x : P r). kept ys zs r h.keeps (g.all r x)) (λ (y : Q r). h.all r y) w;
-  only = λ r m. ⊎_elim (λ (x : member r (resource_names ys) ≡ true). ⊎_elim (λ (y : member r (resource_names xs) ≡ true). inl y) (λ (y : P r). inr (inl y)) (g.only r x)) (λ (y : Q r). inr (inr y)) (h.only r m);
-}
-
--- the same, said in other words
-pub gains_as : (P Q : Name → Type 0) (xs ys : List ResourceId) → ((r : Name) → P r → Q r) → ((r : Name) → Q r → P r) → Gains P xs ys → Gains Q xs ys
-gains_as P Q xs ys to back g = record {
-  keeps = g.keeps;
-  all = λ r y. g.all r (back r y);
-  only = λ r m. ⊎_elim (λ (x : member r (resource_names xs) ≡ true). inl x) (λ (x : P r). inr (to r x)) (g.only r m);
-}
-
--- one resource
-pub gains_push : (rs : List ResourceId) (q : ResourceId) → Gains (λ r. r ≡ number q.index) rs (with_resource rs q)
-gains_push rs q = go (has_resource rs q) refl
-  where
-    at_end : (r : Name) → member r (resource_names (rs ++ q ∷ [])) ≡ (member r (resource_names rs) || same r (number q.index))
-    at_end r = names-append rs (q ∷ []) r ∙ ap (λ (b : Bool). member r (resource_names rs) || b) (or_false (same r (number q.index)))
-
-    go : (b : Bool) → has_resource rs q ≡ b → Gains (λ r. r ≡ number q.index) rs (cond b rs (rs ++ q ∷ []))
-    go true e = gains_held (λ r. r ≡ number q.index) rs (λ r i. ap (λ (x : Name). member x (resource_names rs)) i ∙ sym (has-member rs q) ∙ e)
-    go false e = record {
-      keeps = (q ∷ [], refl);
-      all = λ r i. at_end r ∙ or_right (member r (resource_names rs)) (same r (number q.index)) (same-equal r (number q.index) i);
-      only = λ r m. ⊎_elim (λ (x : member r (resource_names rs) ≡ true). inl x) (λ (x : same r (number q.index) ≡ true). inr (same-true r (number q.index) x)) (or_split (member r (resource_names rs)) (same r (number q.index)) (sym (at_end r) ∙ m));
-    }
 
 -- ## Types that were seen
 
@@ -196,6 +108,14 @@ mutual
   closed (node (component i ins outs) ps) r e (inr x) = closed_in ps r e x.1
   closed (node type_entity ps) r e (inl x) = x
   closed (node type_entity ps) r e (inr x) = closed_in ps r e x.1
+  closed (node (core_module i m) ps) r e (inl x) = x
+  closed (node (core_module i m) ps) r e (inr x) = closed_in ps r e x.1
+  closed (node (core_instance i m) ps) r e (inl x) = x
+  closed (node (core_instance i m) ps) r e (inr x) = closed_in ps r e x.1
+  closed (node (core_type k) ps) r e (inl x) = x
+  closed (node (core_type k) ps) r e (inr x) = closed_in ps r e x.1
+  closed (node (core_item k) ps) r e (inl x) = x
+  closed (node (core_item k) ps) r e (inr x) = closed_in ps r e x.1
 
   closed_in : (ps : Parts Name Name) (r : Name) → mentions_in ps ≡ false → FreeIn r ps → ⊥
   closed_in none r e f = f
@@ -203,16 +123,16 @@ mutual
   closed_in (part k t ps) r e (inr f) = closed_in ps r (none_or (mentions t) (mentions_in ps) e) f
 
 module _ (r : Name) (ts : List Type_tree) where
-  free_left : (xs ys : Slots) → FreeIn r (slot_parts ts xs) → FreeIn r (slot_parts ts (xs ++ ys))
+  pub free_left : (xs ys : Slots) → FreeIn r (slot_parts ts xs) → FreeIn r (slot_parts ts (xs ++ ys))
   free_left [] ys f = absurd f
   free_left (x ∷ xs) ys (inl f) = inl f
   free_left (x ∷ xs) ys (inr f) = inr (free_left xs ys f)
 
-  free_right : (xs ys : Slots) → FreeIn r (slot_parts ts ys) → FreeIn r (slot_parts ts (xs ++ ys))
+  pub free_right : (xs ys : Slots) → FreeIn r (slot_parts ts ys) → FreeIn r (slot_parts ts (xs ++ ys))
   free_right [] ys f = f
   free_right (x ∷ xs) ys f = inr (free_right xs ys f)
 
-  free_split : (xs ys : Slots) → FreeIn r (slot_parts ts (xs ++ ys)) → FreeIn r (slot_parts ts xs) ⊎ FreeIn r (slot_parts ts ys)
+  pub free_split : (xs ys : Slots) → FreeIn r (slot_parts ts (xs ++ ys)) → FreeIn r (slot_parts ts xs) ⊎ FreeIn r (slot_parts ts ys)
   free_split [] ys f = inr f
   free_split (x ∷ xs) ys (inl f) = inl (inl f)
   free_split (x ∷ xs) ys (inr f) = ⊎_elim (λ (g : FreeIn r (slot_parts ts xs)). inl (inr g)) (λ (g : FreeIn r (slot_parts ts ys)). inr g) (free_split xs ys f)

@@ -1,40 +1,53 @@
 -- What stands in an arena that grew, and the trees of its nodes.
 use Rattle.std.proofs.Common.{◌≡◌, ℕ, zero, suc, ◌+◌, ◌<◌, ◌≤◌, List, [], ◌∷◌, ◌++◌, length, take, refl, sym, ◌∙◌, ap, subst, arith, get_or, length-append, append_assoc, append-nil, ⊎_elim}
-use Rattle.std.specs.Prelude.{slice_get, Some, IfSome}
+use Rattle.std.specs.Prelude.{slice_get, Some, IfSome, All}
 use Rattle.std.proofs.lemmas.Grind.{common_steps}
 use Rattle.std.proofs.lemmas.Option.{slice_get-get_or, slice_get_within, get_or_from_slice_get}
 use Rattle.std.proofs.lemmas.Bool.{cases_lt}
-use Rattle.std.proofs.lemmas.List.Elements.{All-weaker}
+use Rattle.std.proofs.lemmas.List.Elements.{All-head, All-weaker}
 use Rattle.std.proofs.Math.ListN.{get_or-append}
 use Rattle.std.proofs.Math.Seq.{get_or-append_seam, take-append_seam}
+use Rattle.wcv_core.specs.CoreForm.{Group}
+use Rattle.wcv_core.specs.CoreGroups.{total}
+use Rattle.wcv_core.specs.CoreSizes.{IsEntityWithin}
+use Rattle.wcv_core.specs.Names.{Name, number, stamp, base, at, stamped, aside}
+use Rattle.wcv_core.specs.declared.core_types.EntityType.{EntityType}
 use Rattle.wcv_types.specs.Arena.{Arena}
-use Rattle.wcv_types.specs.Unfold.{Type_tree, left_out, rank, tree_of, tree_in, trees_after, trees, tree_at, info_of, parts_of, IsInfoOf}
-use Rattle.wcv_types.specs.Standing.{Stands, Fits, AllFit, cut, with_node, Extends, KeepsTrees}
+use Rattle.wcv_types.specs.Led.{Led}
+use Rattle.wcv_types.specs.Measure.{size}
+use Rattle.wcv_types.specs.Resources.{owned_by}
+use Rattle.wcv_types.specs.Unfold.{Type_tree, capped, left_out, rank, head_of, kind_slots, parts_in, tree_of, tree_in, trees_after, trees, tree_at, info_of, parts_of, IsInfoOf}
+use Rattle.wcv_types.specs.Standing.{Stands, GaveResource, kind_items, core_items, entity_sizes, kind_size, IsStated, Fits, AllFit, cut, with_node, Extends, KeepsTrees}
 use Rattle.wcv_types.specs.declared.arena.Node.{Node}
 use Rattle.wcv_types.specs.declared.arena.Node.TheVariants as n
+use Rattle.wcv_types.specs.declared.core_shapes.CoreInstanceTypeKind.{CoreInstanceTypeKind}
+use Rattle.wcv_types.specs.declared.core_shapes.CoreInstanceTypeKind.TheVariants as kind
 use Rattle.wcv_types.specs.declared.ids.Part.{Part}
 use Rattle.wcv_types.specs.declared.ids.Part.TheVariants as p
+use Rattle.wcv_types.proofs.CoreGrown.{total-append, within_more, sizes_stay}
 
 -- ## Growing
 
 pub extends_refl : (a : Arena) → Extends a a
-extends_refl a = record { more = []; nodes = sym (append-nil a.nodes); resources = omega arith; stamps = omega arith }
+extends_refl a = record { more = []; nodes = sym (append-nil a.nodes); groups = []; core = sym (append-nil a.core); resources = omega arith; stamps = omega arith }
 
 pub extends_trans : (a b c : Arena) → Extends a b → Extends b c → Extends a c
 extends_trans a b c p q = record {
   more = p.more ++ q.more;
   nodes = q.nodes ∙ ap (λ xs. xs ++ q.more) p.nodes ∙ append_assoc a.nodes p.more q.more;
+  groups = p.groups ++ q.groups;
+  core = q.core ∙ ap (λ gs. gs ++ q.groups) p.core ∙ append_assoc a.core p.groups q.groups;
   resources = omega (arith, p.resources, q.resources);
   stamps = omega (arith, p.stamps, q.stamps);
 }
 
 -- one more node
 pub extends_push : (a : Arena) (x : Node) → Extends a (with_node a x)
-extends_push a x = record { more = x ∷ []; nodes = refl; resources = omega arith; stamps = omega arith }
+extends_push a x = record { more = x ∷ []; nodes = refl; groups = []; core = sym (append-nil a.core); resources = omega arith; stamps = omega arith }
 
 -- the nodes that stand behind the first k
 pub extends_cut : (a : Arena) (k : ℕ) (xs : List Node) → a.nodes ≡ take k a.nodes ++ xs → Extends (cut a k) a
-extends_cut a k xs e = record { more = xs; nodes = e; resources = omega arith; stamps = omega arith }
+extends_cut a k xs e = record { more = xs; nodes = e; groups = []; core = sym (append-nil a.core); resources = omega arith; stamps = omega arith }
 
 slice_get-left : (xs ys : List Node) (k : ℕ) (x : Node) → slice_get xs k ≡ Some x → slice_get (xs ++ ys) k ≡ Some x
 slice_get-left [] ys k x h = cc
@@ -49,22 +62,22 @@ pub stands_more : (a b : Arena) (q : Part) → Extends a b → Stands a q → St
 stands_more a b (p.Resource r) e s = record { resource = omega (arith, e.resources, s.resource); stamp = omega (arith, e.stamps, s.stamp) }
 stands_more a b (p.Func i) e s = (s.0, node_stays a b i.index (n.Func s.0) e s.1)
 stands_more a b (p.Defined i) e s = (s.0, node_stays a b i.index (n.Defined s.0) e s.1)
-stands_more a b (p.Instance i) e s = absurd s
-stands_more a b (p.Component i) e s = absurd s
-stands_more a b (p.Module i) e s = absurd s
-stands_more a b (p.CoreInstance i) e s = absurd s
-stands_more a b (p.Core i) e s = absurd s
+stands_more a b (p.Instance i) e s = (s.0, node_stays a b i.index (n.Instance s.0) e s.1)
+stands_more a b (p.Component i) e s = (s.0, node_stays a b i.index (n.Component s.0) e s.1)
+stands_more a b (p.Module i) e s = (s.0, node_stays a b i.index (n.Module s.0) e s.1)
+stands_more a b (p.CoreInstance i) e s = (s.0, node_stays a b i.index (n.CoreInstance s.0) e s.1)
+stands_more a b (p.Core i) e s = omega (arith, s, ap total e.core, total-append a.core e.groups)
 
 -- what stands has a place among the nodes, or none
 pub stands_rank : (a : Arena) (q : Part) → Stands a q → rank q ≤ length a.nodes
 stands_rank a (p.Resource r) s = omega arith
 stands_rank a (p.Func i) s = omega (arith, slice_get_within a.nodes i.index (n.Func s.0) s.1)
 stands_rank a (p.Defined i) s = omega (arith, slice_get_within a.nodes i.index (n.Defined s.0) s.1)
-stands_rank a (p.Instance i) s = absurd s
-stands_rank a (p.Component i) s = absurd s
-stands_rank a (p.Module i) s = absurd s
-stands_rank a (p.CoreInstance i) s = absurd s
-stands_rank a (p.Core i) s = absurd s
+stands_rank a (p.Instance i) s = omega (arith, slice_get_within a.nodes i.index (n.Instance s.0) s.1)
+stands_rank a (p.Component i) s = omega (arith, slice_get_within a.nodes i.index (n.Component s.0) s.1)
+stands_rank a (p.Module i) s = omega (arith, slice_get_within a.nodes i.index (n.Module s.0) s.1)
+stands_rank a (p.CoreInstance i) s = omega (arith, slice_get_within a.nodes i.index (n.CoreInstance s.0) s.1)
+stands_rank a (p.Core i) s = omega arith
 
 -- ## Trees
 
@@ -187,15 +200,53 @@ all_fit_push a b x e f g = subst AllFit (sym e) pushed
         ⊎_elim (λ (h : k < length a.nodes). fits_before a x y k f h s)
         (λ (h : length a.nodes ≤ k). fits_last a x y k g (omega (arith, h, w, length-append a.nodes (x ∷ []))) s) (cases_lt k (length a.nodes))
 
--- more resources leave each node fitting
+pub gave_more : (a b : Arena) (r : Name) → a.resources ≤ b.resources → GaveResource a r → GaveResource b r
+gave_more a b (number k) l h = omega (arith, l, h)
+gave_more a b (stamp k) l h = absurd h
+gave_more a b (base p) l h = absurd h
+gave_more a b (at p r) l h = absurd h
+gave_more a b (stamped p) l h = absurd h
+gave_more a b (aside r) l h = absurd h
+
+items_stay : (a b : Arena) (es : List EntityType) → Extends a b → All (IsEntityWithin (total a.core)) es → entity_sizes a.core es ≡ entity_sizes b.core es
+items_stay a b es e w = sym (ap (λ (gs : List Group). entity_sizes gs es) e.core ∙ sizes_stay a.core e.groups es w)
+
+pub items_within : (a b : Arena) (es : List EntityType) → Extends a b → All (IsEntityWithin (total a.core)) es → All (IsEntityWithin (total b.core)) es
+items_within a b es e w = subst (λ (gs : List Group). All (IsEntityWithin (total gs)) es) (sym e.core) (within_more a.core e.groups es w)
+
+-- the size that is stated stays the own one
+pub stated_more : (a b : Arena) (x : Node) → Extends a b → All (Stands a) (parts_of x) → All (IsEntityWithin (total a.core)) (core_items x) → IsStated a.core (trees a.nodes) x → IsStated b.core (trees b.nodes) x
+stated_more a b (n.Defined s) e q w h = tt
+stated_more a b (n.Func s) e q w h = tt
+stated_more a b (n.Instance s) e q w h = tt
+stated_more a b (n.Component s) e q w h = tt
+stated_more a b (n.Module s) e q w h = h ∙ ap (λ (k : ℕ). capped (suc k)) (items_stay a b (core_items (n.Module s)) e w)
+stated_more a b (n.CoreInstance s) e q w h = h ∙ ap (λ (k : ℕ). capped (suc k)) (kind_stays s.kind q w)
+  where
+    kind_stays : (c : CoreInstanceTypeKind) → All (Stands a) (parts_in (kind_slots c)) → All (IsEntityWithin (total a.core)) (kind_items c) → kind_size a.core (trees a.nodes) c ≡ kind_size b.core (trees b.nodes) c
+    kind_stays (kind.Instantiated m) q v = ap size (sym (same_tree a b (p.Module m) e (All-head (Stands a) (p.Module m) [] q)))
+    kind_stays (kind.Exports es) q v = items_stay a b (kind_items (kind.Exports es)) e v
+
+-- more resources and more groups leave each node fitting
 pub fits_more : (a b : Arena) (x : Node) → Extends a b → b.nodes ≡ a.nodes → Fits a x → Fits b x
 fits_more a b x e same f = record {
   parts = All-weaker (Stands a) (Stands b) (λ q s. stands_more a b q e s) (parts_of x) f.parts;
   info = subst (λ (xs : List Node). IfSome (info_of x) (λ i. IsInfoOf i (tree_of (trees xs) x))) (sym same) f.info;
+  owned = subst (λ (xs : List Node). All (GaveResource b) (owned_by (head_of (length xs) x))) (sym same)
+      (All-weaker (GaveResource a) (GaveResource b) (λ r g. gave_more a b r e.resources g) (owned_by (head_of (length a.nodes) x)) f.owned);
+  led = subst (λ (xs : List Node). Led (tree_of (trees xs) x)) (sym same) f.led;
+  within = items_within a b (core_items x) e f.within;
+  stated = stated_more a b x e f.parts f.within f.stated;
 }
 
-pub all_fit_more : (a : Arena) (resources stamps : ℕ) → a.resources ≤ resources → a.stamps ≤ stamps → AllFit a → AllFit (record a { resources = resources; stamps = stamps })
-all_fit_more a resources stamps h h' f k x s =
-    let b : Arena = record { nodes = take k a.nodes; resources = resources; stamps = stamps } in
-    let e : Extends (cut a k) b = record { more = []; nodes = sym (append-nil (take k a.nodes)); resources = h; stamps = h' } in
-    fits_more (cut a k) b x e refl (f k x s)
+-- so an arena that only gave more of them is sound
+pub all_fit_more : (a b : Arena) → Extends a b → b.nodes ≡ a.nodes → AllFit a → AllFit b
+all_fit_more a b e same f k x s =
+    let found : slice_get a.nodes k ≡ Some x = ap (λ (xs : List Node). slice_get xs k) (sym same) ∙ s in
+    let nodes : take k b.nodes ≡ take k a.nodes = ap (take k) same in
+    let grown : Extends (cut a k) (cut b k) = record { more = []; nodes = nodes ∙ sym (append-nil (take k a.nodes)); groups = e.groups; core = e.core; resources = e.resources; stamps = e.stamps } in
+    fits_more (cut a k) (cut b k) x grown nodes (f k x found)
+
+-- more resources and stamps
+pub more_given : (a : Arena) (resources stamps : ℕ) → a.resources ≤ resources → a.stamps ≤ stamps → Extends a (record a { resources = resources; stamps = stamps })
+more_given a resources stamps h h' = record { more = []; nodes = sym (append-nil a.nodes); groups = []; core = sym (append-nil a.core); resources = h; stamps = h' }

@@ -4,7 +4,7 @@ use Rattle.std.specs.Prelude.{Option}
 use Rattle.std.specs.Option.{option_map}
 use Rattle.wcv_core.specs.Names.{Name, same}
 use Rattle.wcv_core.proofs.Names.{same-true, same-refl}
-use Rattle.wcv_types.specs.Tree.{Head, nothing, primitive, resource, defined, func, instance, component, type_entity}
+use Rattle.wcv_types.specs.Tree.{Head, nothing, primitive, resource, defined, func, instance, component, type_entity, core_module, core_instance, core_type, core_item}
 use Rattle.wcv_types.specs.Rename.{rename_head, HeadNames}
 use Rattle.wcv_types.specs.Identity.{Identity, of_node, of_reference, identity_at, same_identity, rename_identity}
 
@@ -52,6 +52,10 @@ module _ (f back : Name → Name) (g g_back : Name → Name) where
   kept_identity (instance i own) e = e.0
   kept_identity (component i ins outs) e = e.0
   kept_identity type_entity e = tt
+  kept_identity (core_module i n) e = e
+  kept_identity (core_instance i n) e = e
+  kept_identity (core_type i) e = tt
+  kept_identity (core_item x) e = tt
 
 pub identity-same : (f g : Name → Name) (h : Head Name Name) → identity_at (rename_head f g h) ≡ option_map (rename_identity f g) (identity_at h)
 identity-same f g nothing = refl
@@ -62,3 +66,7 @@ identity-same f g (func i b) = refl
 identity-same f g (instance i own) = refl
 identity-same f g (component i ins outs) = refl
 identity-same f g type_entity = refl
+identity-same f g (core_module i n) = refl
+identity-same f g (core_instance i n) = refl
+identity-same f g (core_type i) = refl
+identity-same f g (core_item x) = refl

@@ -14,8 +14,8 @@ use Rattle.wcv_types.specs.Identity.{Identity}
 use Rattle.wcv_types.specs.Named.{is_named, are_named, passes}
 use Rattle.wcv_types.specs.Resources.{mentions, mentions_in}
 use Rattle.wcv_types.specs.Standing.{Stands, Fits}
-use Rattle.wcv_types.specs.Tree.{Text, Role, here, label, nothing, primitive, resource, defined, func, instance, component, type_entity, node, sort, is_func}
-use Rattle.wcv_types.specs.Unfold.{Type_tree, Slot, leaf, at, both, Slots, value_slot, option_slot, field_slots, value_parts, value_slots, handles, defined_slots, slot_refs, parts_in, slot_tree, slot_parts, tree_at, trees}
+use Rattle.wcv_types.specs.Tree.{Text, Role, here, label, nothing, primitive, resource, defined, func, instance, component, type_entity, core_module, core_instance, core_type, core_item, node, sort, is_func}
+use Rattle.wcv_types.specs.Unfold.{Type_tree, Slot, leaf, at, both, core, Slots, value_slot, option_slot, field_slots, value_parts, value_slots, handles, defined_slots, slot_refs, parts_in, slot_tree, slot_parts, tree_at, trees}
 use Rattle.wcv_types.specs.declared.arena.Node.TheVariants as n
 use Rattle.wcv_types.specs.declared.ids.AliasableResourceId.{AliasableResourceId}
 use Rattle.wcv_types.specs.declared.ids.ComponentFuncTypeId.{ComponentFuncTypeId}
@@ -26,22 +26,20 @@ use Rattle.wcv_types.specs.declared.shapes.ComponentDefinedType.TheVariants as d
 use Rattle.wcv_types.specs.declared.shapes.ComponentFuncType.{ComponentFuncType}
 use Rattle.wcv_types.specs.declared.shapes.ComponentValType.{ComponentValType}
 use Rattle.wcv_types.specs.declared.shapes.ComponentValType.TheVariants as v
+pub use Rattle.wcv_types.proofs.Lists.{take-next}
 use Rattle.wcv_types.proofs.Each.{length-mapped}
 use Rattle.wcv_types.proofs.Forming.{plain_value, slots_of_values}
 use Rattle.wcv_types.proofs.Unfolding.{all_left, all_right, sort_stands}
 
 -- ## Slots
 
--- a list as far as its next element
-pub take-next : {X : Type 0} (xs : List X) (k : ℕ) (x : X) → slice_get xs k ≡ Some x → take (suc k) xs ≡ take k xs ++ x ∷ []
-take-next xs k x h = take-suc xs k x (slice_get_within xs k x h) ∙ ap (λ y. take k xs ++ y ∷ []) (get_or_from_slice_get xs k x x h)
-
 pub parts_in-append : (xs ys : Slots) → parts_in (xs ++ ys) ≡ parts_in xs ++ parts_in ys
 parts_in-append [] ys = refl
 parts_in-append (x ∷ xs) ys = ap (λ (qs : List Part). slot_refs x.1 ++ qs) (parts_in-append xs ys) ∙ sym (append_assoc (slot_refs x.1) (parts_in xs) (parts_in ys))
 
-refs_stand : (a : Arena) (s : Slot) → All (Stands a) (slot_refs s) → SlotStands a s
+pub refs_stand : (a : Arena) (s : Slot) → All (Stands a) (slot_refs s) → SlotStands a s
 refs_stand a (leaf o) h = tt
+refs_stand a (core e) h = tt
 refs_stand a (at q) h = All-head (Stands a) q [] h
 refs_stand a (both c r) h = (All-head (Stands a) c (r ∷ []) h, All-head (Stands a) r [] (All-tail (Stands a) c (r ∷ []) h))
 
@@ -68,6 +66,10 @@ plain_passes (node (defined i k) ps) e = cc
 plain_passes (node (instance i own) ps) e = cc
 plain_passes (node (component i ins outs) ps) e = cc
 plain_passes (node type_entity ps) e = cc
+plain_passes (node (core_module i m) ps) e = cc
+plain_passes (node (core_instance i m) ps) e = cc
+plain_passes (node (core_type i) ps) e = cc
+plain_passes (node (core_item x) ps) e = cc
 
 -- a function is plain where it passes
 pub func_plain : (a : Arena) (i : ComponentFuncTypeId) → Stands a (p.Func i) → is_plain (tree_at a (p.Func i)) ≡ passes [] (tree_at a (p.Func i))

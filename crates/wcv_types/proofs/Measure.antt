@@ -1,8 +1,8 @@
 -- Size, depth and height are the same for trees of one shape, as renaming and replacing of resources leave it.
 use Rattle.std.proofs.Common.{◌≡◌, suc, max, ◌+◌, refl, ap}
 use Rattle.wcv_core.specs.Names.{Name}
-use Rattle.wcv_types.specs.Tree.{Head, nothing, primitive, resource, defined, func, instance, component, type_entity, Tree, node, Parts, none, part}
-use Rattle.wcv_types.specs.Measure.{weight, weigh, size, sizes, first_size, depth, depths, first_depth, height, heights}
+use Rattle.wcv_types.specs.Tree.{Head, nothing, primitive, resource, defined, func, instance, component, type_entity, core_module, core_instance, core_type, core_item, Tree, node, Parts, none, part}
+use Rattle.wcv_types.specs.Measure.{weight, weigh, deepen, size, sizes, first_size, depth, depths, first_depth, height, heights}
 use Rattle.wcv_types.specs.Rename.{rename_head, rename, rename_parts}
 use Rattle.wcv_types.specs.Resources.{spare, substitute_head, substitute, substitute_parts}
 
@@ -47,7 +47,7 @@ module _ {R S I J : Type 0} where
         let w : weight h ≡ weight h' = e.0 in
         let a : first_depth ps ≡ first_depth ps' = first_depth-same ps ps' e.1 in
         let b : depths ps ≡ depths ps' = depths-same ps ps' e.1 in
-        λ j. weigh (w j) (a j) (b j)
+        λ j. deepen (w j) (a j) (b j)
 
     pub depths-same : (ps : Parts R I) (ps' : Parts S J) → PartsOfOneShape ps ps' → depths ps ≡ depths ps'
     depths-same none none e = refl
@@ -89,6 +89,10 @@ module _ {R S I J : Type 0} (f : R → S) (g : I → J) where
   weight-rename (instance i own) = refl
   weight-rename (component i ins outs) = refl
   weight-rename type_entity = refl
+  weight-rename (core_module i n) = refl
+  weight-rename (core_instance i n) = refl
+  weight-rename (core_type k) = refl
+  weight-rename (core_item x) = refl
 
   mutual
     pub shape-rename : (t : Tree R I) → OfOneShape (rename f g t) t
@@ -117,6 +121,10 @@ module _ {I : Type 0} where
   weight-substitute u (instance i own) = refl
   weight-substitute u (component i ins outs) = refl
   weight-substitute u type_entity = refl
+  weight-substitute u (core_module i n) = refl
+  weight-substitute u (core_instance i n) = refl
+  weight-substitute u (core_type k) = refl
+  weight-substitute u (core_item x) = refl
 
   mutual
     pub shape-substitute : (u : Name → Name) (t : Tree Name I) → OfOneShape (substitute u t) t

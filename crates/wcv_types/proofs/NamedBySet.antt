@@ -4,7 +4,7 @@ use Rattle.std.specs.Prelude.{Option, slice_get, All}
 use Rattle.std.specs.Option.{option_map}
 use Rattle.std.proofs.lemmas.Bool.{false≢true, eqb-true}
 use Rattle.std.proofs.lemmas.List.Elements.{All-head, All-tail}
-use Rattle.std.proofs.lemmas.Option.{slice_get_within, get_or_from_slice_get}
+use Rattle.std.proofs.lemmas.Option.{same_Some, slice_get_within, get_or_from_slice_get}
 use Rattle.std.proofs.Math.ListN.{drop_of_length-le}
 use Rattle.wcv_core.specs.Names.{Name, number, stamp}
 use Rattle.wcv_types.specs.Tree.{Role, defined, node}
@@ -16,12 +16,12 @@ use Rattle.wcv_types.specs.NamedBySet.{names_itself, handle_of, node_id}
 use Rattle.wcv_types.specs.Sets.{same_type, has_type, AllStand, identities}
 use Rattle.wcv_types.specs.Standing.{Stands, StandsBefore, identity_of}
 use Rattle.wcv_types.specs.Unfold.{Type_tree, Slot, Slots, slot_refs, parts_in, handle_parts, value_parts, value_slots, defined_slots, former_of, option_slot, slot_tree, slot_parts, trees, tree_at, unfolded}
+use Rattle.wcv_types.specs.declared.arena.Node.{Node}
 use Rattle.wcv_types.specs.declared.arena.Node.TheVariants as n
 use Rattle.wcv_types.specs.declared.ids.AliasableResourceId.{AliasableResourceId}
 use Rattle.wcv_types.specs.declared.ids.ComponentAnyTypeId.{ComponentAnyTypeId}
 use Rattle.wcv_types.specs.declared.ids.ComponentAnyTypeId.TheVariants as any
 use Rattle.wcv_types.specs.declared.ids.ComponentDefinedTypeId.{ComponentDefinedTypeId}
-use Rattle.wcv_types.specs.declared.ids.ComponentFuncTypeId.{ComponentFuncTypeId}
 use Rattle.wcv_types.specs.declared.ids.Part.{Part}
 use Rattle.wcv_types.specs.declared.ids.Part.TheVariants as p
 use Rattle.wcv_types.specs.declared.shapes.ComponentDefinedType.{ComponentDefinedType}
@@ -37,22 +37,19 @@ use Rattle.wcv_types.proofs.Each.{length-mapped}
 
 -- of a node
 module _ (a : Arena) (i : ComponentDefinedTypeId) (s : Stands a (p.Defined i)) where
-  func_apart : (j : ComponentFuncTypeId) → Stands a (p.Func j) → false ≡ eqb i.index j.index
-  func_apart j t = go (eqb i.index j.index) refl
+  node_apart : (k : ℕ) (x : Node) → slice_get a.nodes k ≡ Some x → (n.Defined s.0 ≡ x → ⊥) → false ≡ eqb i.index k
+  node_apart k x h apart = go (eqb i.index k) refl
     where
-      go : (b : Bool) → eqb i.index j.index ≡ b → false ≡ b
+      go : (b : Bool) → eqb i.index k ≡ b → false ≡ b
       go false e = refl
-      go true e =
-          let k : i.index ≡ j.index = eqb-true i.index j.index e in
-          let both : Some (n.Defined s.0) ≡ Some (n.Func t.0) = sym s.1 ∙ ap (slice_get a.nodes) k ∙ t.1 in
-          absurd (cc)
+      go true e = absurd (apart (same_Some (n.Defined s.0) x (sym s.1 ∙ ap (slice_get a.nodes) (eqb-true i.index k e) ∙ h)))
 
   same_node : (id : ComponentAnyTypeId) → Stands a (any_part id) → same_type (any.Defined i) id ≡ same_identity (of_node (number i.index)) (identity_of (any_part id))
   same_node (any.Defined j) t = refl
   same_node (any.Resource r) t = refl
-  same_node (any.Func j) t = func_apart j t
-  same_node (any.Instance j) t = absurd t
-  same_node (any.Component j) t = absurd t
+  same_node (any.Func j) t = node_apart j.index (n.Func t.0) t.1 (λ e. cc)
+  same_node (any.Instance j) t = node_apart j.index (n.Instance t.0) t.1 (λ e. cc)
+  same_node (any.Component j) t = node_apart j.index (n.Component t.0) t.1 (λ e. cc)
 
   pub node_in_set : (ids : List ComponentAnyTypeId) → AllStand a ids → has_type ids (any.Defined i) ≡ is_in (identities ids) (of_node (number i.index))
   node_in_set [] h = refl
@@ -66,8 +63,8 @@ same_reference : (a : Arena) (r : AliasableResourceId) (id : ComponentAnyTypeId)
 same_reference a r (any.Resource q) t = refl
 same_reference a r (any.Defined j) t = refl
 same_reference a r (any.Func j) t = refl
-same_reference a r (any.Instance j) t = absurd t
-same_reference a r (any.Component j) t = absurd t
+same_reference a r (any.Instance j) t = refl
+same_reference a r (any.Component j) t = refl
 
 pub reference_in_set : (a : Arena) (r : AliasableResourceId) (ids : List ComponentAnyTypeId) → AllStand a ids → has_type ids (any.Resource r) ≡ is_in (identities ids) (of_reference (number r.resource.index) (stamp r.stamp))
 reference_in_set a r [] h = refl

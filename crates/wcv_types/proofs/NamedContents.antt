@@ -23,10 +23,6 @@ use Rattle.wcv_types.specs.declared.shapes.ComponentValType.{ComponentValType}
 use Rattle.wcv_types.proofs.Knowing.{slot_at, slot_stands_at}
 use Rattle.wcv_types.proofs.NamedBySet.{reference_in_set}
 
--- what stands before a node stands
-pub before_stands : (a : Arena) (bound : ℕ) (qs : List Part) → All (StandsBefore a bound) qs → All (Stands a) qs
-before_stands a bound qs h = All-weaker (StandsBefore a bound) (Stands a) (λ q t. t.stands) qs h
-
 -- a type without a handle is made of value types
 pub made_of_values : (s : ComponentDefinedType) → handle_of s ≡ None → defined_slots s ≡ value_slots (value_parts s)
 made_of_values (d.Own a) h = cc

@@ -5,7 +5,7 @@ use Rattle.wcv_core.specs.Names.{Name, number}
 use Rattle.wcv_types.specs.Tree.{Text, here, label, Head, defined, node, head}
 use Rattle.wcv_types.specs.Arena.{Arena}
 use Rattle.wcv_types.specs.Standing.{Stands, with_node}
-use Rattle.wcv_types.specs.Unfold.{Type_tree, Slot, leaf, at, both, Slots, rank, head_of, slots_of, slots_at, slots_if, slot_parts, parts_in, former_of, defined_slots, handle_parts, value_parts, value_slots, option_slot, value_slot, field_slots, trees, tree_at, unfolded}
+use Rattle.wcv_types.specs.Unfold.{Type_tree, Slot, leaf, at, both, core, Slots, rank, head_of, slots_of, slots_at, slots_if, slot_parts, parts_in, former_of, defined_slots, handle_parts, value_parts, value_slots, option_slot, value_slot, field_slots, trees, tree_at, unfolded}
 use Rattle.wcv_types.specs.Rebuild.{SameSorts, same_sort, FillsSlot, Fills, refill_slot, after_slot, refill, after, anew, slots_by, field_value, MadeAgain}
 use Rattle.wcv_types.specs.declared.arena.Node.{Node}
 use Rattle.wcv_types.specs.declared.arena.Node.TheVariants as n
@@ -25,6 +25,7 @@ use Rattle.wcv_types.proofs.Grown.{push_keeps, tree_at_last, length-trees}
 pub fills_sorts : (ss : Slots) (qs : List Part) → SameSorts (parts_in ss) qs → Fills ss qs
 fills_sorts [] qs h = tt
 fills_sorts ((k, leaf o) ∷ ss) qs h = (tt, fills_sorts ss qs h)
+fills_sorts ((k, core e) ∷ ss) qs h = (tt, fills_sorts ss qs h)
 fills_sorts ((k, at q) ∷ ss) [] h = absurd h
 fills_sorts ((k, at q) ∷ ss) (r ∷ rs) h = (h.0, fills_sorts ss rs h.1)
 fills_sorts ((k, both c d) ∷ ss) [] h = absurd h
@@ -36,6 +37,7 @@ pub parts_refilled : (ss : Slots) (qs : List Part) → SameSorts (parts_in ss) q
 parts_refilled [] [] h = refl
 parts_refilled [] (r ∷ rs) h = absurd h
 parts_refilled ((k, leaf o) ∷ ss) qs h = parts_refilled ss qs h
+parts_refilled ((k, core e) ∷ ss) qs h = parts_refilled ss qs h
 parts_refilled ((k, at q) ∷ ss) [] h = absurd h
 parts_refilled ((k, at q) ∷ ss) (r ∷ rs) h = ap (λ (xs : List Part). r ∷ xs) (parts_refilled ss rs h.1)
 parts_refilled ((k, both c d) ∷ ss) [] h = absurd h
@@ -47,13 +49,13 @@ refilled_stand a ss ts qs h s e = subst (λ xs. All (Stands a) (parts_in xs)) (s
 
 -- ## One list of slots after another
 
-fills_both : (xs ys : Slots) (qs : List Part) → Fills (xs ++ ys) qs → Fills xs qs × Fills ys (after xs qs)
+pub fills_both : (xs ys : Slots) (qs : List Part) → Fills (xs ++ ys) qs → Fills xs qs × Fills ys (after xs qs)
 fills_both [] ys qs f = (tt, f)
 fills_both (x ∷ xs) ys qs f =
     let w = fills_both xs ys (after_slot x.1 qs) f.1 in
     ((f.0, w.0), w.1)
 
-refill_both : (xs ys : Slots) (qs : List Part) → refill (xs ++ ys) qs ≡ refill xs qs ++ refill ys (after xs qs)
+pub refill_both : (xs ys : Slots) (qs : List Part) → refill (xs ++ ys) qs ≡ refill xs qs ++ refill ys (after xs qs)
 refill_both [] ys qs = refl
 refill_both (x ∷ xs) ys qs = ap (λ (zs : Slots). (x.0, refill_slot x.1 qs) ∷ zs) (refill_both xs ys (after_slot x.1 qs))
 
@@ -114,7 +116,7 @@ module _ (fs : Fields) (o : Option ComponentValType) (qs : List Part) where
 -- ## The new node
 
 -- it is behind all others, and has these slots and that head
-made_again : (a b : Arena) (q made : Part) (qs : List Part) (y : Node) → b ≡ with_node a y → rank made ≡ suc (length a.nodes) → Stands b made → same_sort q made ≡ true →
+pub made_again : (a b : Arena) (q made : Part) (qs : List Part) (y : Node) → b ≡ with_node a y → rank made ≡ suc (length a.nodes) → Stands b made → same_sort q made ≡ true →
     slots_of y ≡ refill (slots_at a.nodes q) qs → head_of (length a.nodes) y ≡ anew (number (length a.nodes)) (head (tree_at a q)) → MadeAgain a b q qs made
 made_again a b q made qs y e last s sort slots h = record {
   nodes = ap (λ (c : Arena). length c.nodes) e ∙ length-append a.nodes (y ∷ []) ∙ omega arith;

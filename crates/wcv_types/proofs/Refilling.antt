@@ -22,10 +22,10 @@ next_first qs k q h e = drop-cons qs k q (next_within qs k h) ∙ ap (λ (r : Pa
 
 -- ## Slots in order
 
-begun : (all : Slots) (qs : List Part) → Fills all qs → Refilling all qs all [] qs
+pub begun : (all : Slots) (qs : List Part) → Fills all qs → Refilling all qs all [] qs
 begun all qs f = record { fills = f; slots = refl; left_is = refl }
 
-went : (all : Slots) (qs : List Part) (s : Role × Slot) (rest made : Slots) (left left' : List Part) → left' ≡ after_slot s.1 left → Refilling all qs (s ∷ rest) made left →
+pub went : (all : Slots) (qs : List Part) (s : Role × Slot) (rest made : Slots) (left left' : List Part) → left' ≡ after_slot s.1 left → Refilling all qs (s ∷ rest) made left →
     Refilling all qs rest (made ++ (s.0, refill_slot s.1 left) ∷ []) left'
 went all qs s rest made left left' e r = record {
   fills = subst (Fills rest) (sym e) r.fills.1;

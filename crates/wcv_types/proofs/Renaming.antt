@@ -2,7 +2,7 @@
 use Rattle.std.proofs.Common.{◌≡◌, ℕ, List, [], ◌∷◌, map, refl, ap}
 use Rattle.std.specs.Prelude.{All}
 use Rattle.std.proofs.lemmas.List.Elements.{All-head, All-tail}
-use Rattle.wcv_types.specs.Tree.{Head, nothing, primitive, resource, defined, func, instance, component, type_entity, Tree, node, Parts, none, part}
+use Rattle.wcv_types.specs.Tree.{Head, nothing, primitive, resource, defined, func, instance, component, type_entity, core_module, core_instance, core_type, core_item, Tree, node, Parts, none, part}
 use Rattle.wcv_types.specs.Rename.{rename_head, rename, rename_parts, rename_paths, HeadNames, EachName, EachNameIn}
 use Rattle.wcv_types.proofs.Lists.{map-id, map-map}
 use Rattle.wcv_types.proofs.All.{all-mapped, all-mapped_back, all-both, all-always}
@@ -38,6 +38,10 @@ module _ {R S I J : Type 0} (f f' : R → S) (g g' : I → J) where
       let p' : rename_paths f outs ≡ rename_paths f' outs = paths-agree f f' outs e.2 in
       cc
   rename_head-agree type_entity e = refl
+  rename_head-agree (core_module i n) e = cc
+  rename_head-agree (core_instance i n) e = cc
+  rename_head-agree (core_type k) e = refl
+  rename_head-agree (core_item x) e = refl
 
   -- renamings that agree on the names that occur give the same tree
   mutual
@@ -69,6 +73,10 @@ module _ {R I : Type 0} where
       let e' : rename_paths (λ r. r) outs ≡ outs = map-id outs in
       λ j. component i (e j) (e' j)
   rename_head-id type_entity = refl
+  rename_head-id (core_module i n) = refl
+  rename_head-id (core_instance i n) = refl
+  rename_head-id (core_type k) = refl
+  rename_head-id (core_item x) = refl
 
   mutual
     pub rename-id : (t : Tree R I) → rename (λ r. r) (λ i. i) t ≡ t
@@ -100,6 +108,10 @@ module _ {R S T I J K : Type 0} (f : R → S) (h : S → T) (g : I → J) (k : J
       let e' : rename_paths h (rename_paths f outs) ≡ rename_paths (λ r. h (f r)) outs = paths-twice f h outs in
       λ j. component (k (g i)) (e j) (e' j)
   rename_head-twice type_entity = refl
+  rename_head-twice (core_module i n) = refl
+  rename_head-twice (core_instance i n) = refl
+  rename_head-twice (core_type k) = refl
+  rename_head-twice (core_item x) = refl
 
   mutual
     pub rename-twice : (t : Tree R I) → rename h k (rename f g t) ≡ rename (λ r. h (f r)) (λ i. k (g i)) t
@@ -133,6 +145,10 @@ module _ {R S I J : Type 0} (P : R → Type 0) (Q : I → Type 0) (P' : S → Ty
       all-mapped (λ (x : R × List ℕ). P x.0) (λ (x : S × List ℕ). P' x.0) (λ x. (f x.0, x.1)) (λ x. p x.0) outs e.2,
     )
     head-renamed type_entity e = tt
+    head-renamed (core_module i n) e = q i e
+    head-renamed (core_instance i n) e = q i e
+    head-renamed (core_type k) e = tt
+    head-renamed (core_item x) e = tt
 
     mutual
       pub each-renamed : (t : Tree R I) → EachName P Q t → EachName P' Q' (rename f g t)
@@ -156,6 +172,10 @@ module _ {R S I J : Type 0} (P : R → Type 0) (Q : I → Type 0) (P' : S → Ty
       all-mapped_back (λ (x : R × List ℕ). P x.0) (λ (x : S × List ℕ). P' x.0) (λ x. (f x.0, x.1)) (λ x. p x.0) outs e.2,
     )
     head-renamed_back type_entity e = tt
+    head-renamed_back (core_module i n) e = q i e
+    head-renamed_back (core_instance i n) e = q i e
+    head-renamed_back (core_type k) e = tt
+    head-renamed_back (core_item x) e = tt
 
     mutual
       pub each-renamed_back : (t : Tree R I) → EachName P' Q' (rename f g t) → EachName P Q t
@@ -180,6 +200,10 @@ module _ {R I : Type 0} (P P' P'' : R → Type 0) (Q Q' Q'' : I → Type 0) (p :
     all-both (λ (x : R × List ℕ). P x.0) (λ (x : R × List ℕ). P' x.0) (λ (x : R × List ℕ). P'' x.0) (λ x. p x.0) outs e.2 e'.2,
   )
   head-both type_entity e e' = tt
+  head-both (core_module i n) e e' = q i e e'
+  head-both (core_instance i n) e e' = q i e e'
+  head-both (core_type k) e e' = tt
+  head-both (core_item x) e e' = tt
 
   mutual
     pub each-both : (t : Tree R I) → EachName P Q t → EachName P' Q' t → EachName P'' Q'' t
@@ -200,6 +224,10 @@ module _ {R I : Type 0} (P : R → Type 0) (Q : I → Type 0) (p : (r : R) → P
   head-always (instance i owned) = (q i, all-always P p owned)
   head-always (component i ins outs) = (q i, all-always (λ (x : R × List ℕ). P x.0) (λ x. p x.0) ins, all-always (λ (x : R × List ℕ). P x.0) (λ x. p x.0) outs)
   head-always type_entity = tt
+  head-always (core_module i n) = q i
+  head-always (core_instance i n) = q i
+  head-always (core_type k) = tt
+  head-always (core_item x) = tt
 
   mutual
     pub each-always : (t : Tree R I) → EachName P Q t

@@ -4,7 +4,7 @@ use Rattle.std.proofs.Math.Path.{fun_ext}
 use Rattle.std.specs.Prelude.{Option, Some, None}
 use Rattle.wcv_core.specs.Names.{Name, same}
 use Rattle.wcv_core.proofs.Names.{same-true}
-use Rattle.wcv_types.specs.Tree.{Head, nothing, primitive, resource, defined, func, instance, component, type_entity, Tree, node, Parts, none, part, head}
+use Rattle.wcv_types.specs.Tree.{Head, nothing, primitive, resource, defined, func, instance, component, type_entity, core_module, core_instance, core_type, core_item, Tree, node, Parts, none, part, head}
 use Rattle.wcv_types.specs.Identity.{Identity, identity_at, same_known}
 use Rattle.wcv_types.specs.Rename.{rename_head, rename_parts, no_identity, without_identities}
 use Rattle.wcv_types.specs.Resources.{owns, spare, substitute_head, substitute, substitute_parts}
@@ -25,10 +25,18 @@ head-new m b (primitive q) = refl
 head-new m b type_entity = refl
 head-new m true (defined i k) = refl
 head-new m true (func i k) = refl
+head-new m true (core_module i n) = refl
+head-new m true (core_instance i n) = refl
+head-new m true (core_type k) = refl
+head-new m true (core_item x) = refl
 head-new m true (instance i own) = refl
 head-new m true (component i ins outs) = refl
 head-new m false (defined i k) = refl
 head-new m false (func i k) = refl
+head-new m false (core_module i n) = refl
+head-new m false (core_instance i n) = refl
+head-new m false (core_type k) = refl
+head-new m false (core_item x) = refl
 head-new m false (instance i own) = refl
 head-new m false (component i ins outs) = refl
 
@@ -97,8 +105,12 @@ head-stays m (resource r s) e = ap (λ (q : Name). resource q s) (unmoved r (m.r
 head-stays m nothing e = refl
 head-stays m (primitive q) e = refl
 head-stays m type_entity e = refl
+head-stays m (core_type k) e = refl
+head-stays m (core_item x) e = refl
 head-stays m (defined i k) e = refl
 head-stays m (func i k) e = refl
+head-stays m (core_module i n) e = refl
+head-stays m (core_instance i n) e = refl
 head-stays m (instance i own) e = refl
 head-stays m (component i ins outs) e = refl
 

@@ -1,16 +1,19 @@
 -- The text is the same for types that are equal up to renaming.
-use Rattle.std.proofs.Common.{◌≡◌, ℕ, List, [], ◌∷◌, ◌++◌, length, map, refl, sym, ◌∙◌, ap, Bool, true, false, cond, Some, None}
+use Rattle.std.proofs.Common.{◌≡◌, ℕ, zero, suc, List, [], ◌∷◌, ◌++◌, length, map, refl, sym, ◌∙◌, ap, Bool, true, false, cond, Some, None}
 use Rattle.std.specs.Prelude.{Option, codes, All}
 use Rattle.std.specs.Option.{option_map}
 use Rattle.std.specs.Fmt.{decimal}
+use Rattle.std.specs.List.{fold}
 use Rattle.std.proofs.lemmas.List.Elements.{All-head, All-tail}
+use Rattle.wcv_core.specs.CoreForm.{Group}
 use Rattle.wcv_core.specs.Names.{Name, same}
-use Rattle.wcv_types.specs.Tree.{Text, Extern_name, Head, nothing, primitive, resource, defined, func, instance, component, type_entity, Former, named, record_of, variant_of, list_of, map_of, tuple_of, option_of, result_of, own_of, borrow_of, future_of, stream_of, fixed_list_of, flags_of, enum_of, here, label, import, export, Tree, node, Parts, none, part, head, created, referenced}
+use Rattle.wcv_types.specs.Tree.{Text, Extern_name, Head, nothing, primitive, resource, defined, func, instance, component, type_entity, Former, named, record_of, variant_of, list_of, map_of, tuple_of, option_of, result_of, own_of, borrow_of, future_of, stream_of, fixed_list_of, flags_of, enum_of, core_module, core_instance, core_type, core_item, here, label, import, export, core_import, core_export, Tree, node, Parts, none, part, head, created, referenced}
 use Rattle.wcv_types.specs.Rename.{rename, rename_head, rename_parts, rename_paths, HeadNames, EachName, EachNameIn, UpToRenaming}
 use Rattle.wcv_types.specs.Identity.{Identity, of_node, of_reference, identity_at, same_identity, rename_identity}
+use Rattle.wcv_types.specs.CoreText.{item_ids, older_ids}
 use Rattle.wcv_types.specs.Positions.{is_there}
 use Rattle.wcv_types.specs.Quoting.{quoted}
-use Rattle.wcv_types.specs.Text.{Written, nothing_written, node_number, resource_number, mention_head, mention, entity_text, name_text, entry_text, positions_text, path_text, listed, param_text, params_text, payload_text, case_texts, mentions, own_texts, entry_texts, path_texts, first_text, second_text, defined_text, instance_text, component_text, form_text, with_resource, with_each, with_paths, with_resources, line_text, with_line, line_if, has_line, write, write_parts, entry_line, write_entries, path_line, write_paths, write_component, type_text}
+use Rattle.wcv_types.specs.Text.{Written, nothing_written, node_number, resource_number, mention_head, mention, entity_text, name_text, entry_text, positions_text, path_text, listed, param_text, params_text, payload_text, case_texts, mentions, own_texts, entry_texts, path_texts, first_text, second_text, defined_text, instance_text, component_text, form_text, with_resource, with_each, with_paths, with_resources, line_text, with_line, has_group, with_group, with_new_group, write_group, write_groups, write_core, line_if, has_line, write, write_parts, entry_line, write_entries, path_line, write_paths, write_component, type_text}
 use Rattle.wcv_types.proofs.Identity.{same_under, IdentityKept, KnownKept, same_kept, kept_identity, identity-same}
 use Rattle.wcv_types.proofs.Each.{Each, push_each, map-push, length-mapped, position_under, there_under}
 
@@ -38,7 +41,7 @@ module _ (f back : Name → Name) (g g_back : Name → Name) where
   to i = rename_identity f g i
 
   abbrev W : Written → Written
-  W w = record { nodes = map to w.nodes; resources = map f w.resources; text = w.text }
+  W w = record { core = w.core; groups = w.groups; nodes = map to w.nodes; resources = map f w.resources; text = w.text }
 
   record Whole (w : Written) : Type 0 where
     pub nodes : Each Kept w.nodes
@@ -61,6 +64,10 @@ module _ (f back : Name → Name) (g g_back : Name → Name) where
   mention_head-same w (instance i own) k e = node_number-same w (of_node i) k e.0
   mention_head-same w (component i ins outs) k e = node_number-same w (of_node i) k e.0
   mention_head-same w type_entity k e = refl
+  mention_head-same w (core_module i n) k e = node_number-same w (of_node i) k e
+  mention_head-same w (core_instance i n) k e = node_number-same w (of_node i) k e
+  mention_head-same w (core_type i) k e = refl
+  mention_head-same w (core_item x) k e = refl
 
   mention-same : (w : Written) (t : Tree Name Name) → Whole w → Has t → mention (W w) (rename f g t) ≡ mention w t
   mention-same w (node h ps) k e = mention_head-same w h k e.0
@@ -98,6 +105,10 @@ module _ (f back : Name → Name) (g g_back : Name → Name) where
   entity-same w (func i b) t k e = ap (λ (x : Text). codes "func " ++ x) (mention-same w t k e)
   entity-same w (instance i own) t k e = ap (λ (x : Text). codes "instance " ++ x) (mention-same w t k e)
   entity-same w (component i ins outs) t k e = ap (λ (x : Text). codes "component " ++ x) (mention-same w t k e)
+  entity-same w (core_module i n) t k e = ap (λ (x : Text). codes "module " ++ x) (mention-same w t k e)
+  entity-same w (core_instance i n) t k e = ap (λ (x : Text). codes "value " ++ x) (mention-same w t k e)
+  entity-same w (core_type i) t k e = ap (λ (x : Text). codes "value " ++ x) (mention-same w t k e)
+  entity-same w (core_item i) t k e = ap (λ (x : Text). codes "value " ++ x) (mention-same w t k e)
   entity-same w nothing t k e = ap (λ (x : Text). codes "value " ++ x) (mention-same w t k e)
   entity-same w (primitive p) t k e = ap (λ (x : Text). codes "value " ++ x) (mention-same w t k e)
   entity-same w (resource r s) t k e = ap (λ (x : Text). codes "value " ++ x) (mention-same w t k e)
@@ -122,6 +133,8 @@ module _ (f back : Name → Name) (g g_back : Name → Name) where
   params-same w before (part here t ps) k e = ap (λ (x : Text). codes "} -> " ++ x) (mention-same w t k e.0)
   params-same w before (part (import n) t ps) k e = refl
   params-same w before (part (export n) t ps) k e = refl
+  params-same w before (part (core_import m n) t ps) k e = refl
+  params-same w before (part (core_export n) t ps) k e = refl
 
   payload-same : (w : Written) (h : Head Name Name) → Whole w → HasHead h → payload_text (W w) (rename_head f g h) ≡ payload_text w h
   payload-same w nothing k e = refl
@@ -132,6 +145,10 @@ module _ (f back : Name → Name) (g g_back : Name → Name) where
   payload-same w (instance i own) k e = ap (λ (x : Text). codes " " ++ x) (mention_head-same w (instance i own) k e)
   payload-same w (component i ins outs) k e = ap (λ (x : Text). codes " " ++ x) (mention_head-same w (component i ins outs) k e)
   payload-same w type_entity k e = refl
+  payload-same w (core_module i n) k e = ap (λ (x : Text). codes " " ++ x) (mention_head-same w (core_module i n) k e)
+  payload-same w (core_instance i n) k e = ap (λ (x : Text). codes " " ++ x) (mention_head-same w (core_instance i n) k e)
+  payload-same w (core_type i) k e = refl
+  payload-same w (core_item x) k e = refl
 
   case-same : (w : Written) (t : Tree Name Name) → Whole w → Has t → payload_text (W w) (head (rename f g t)) ≡ payload_text w (head t)
   case-same w (node h ps) k e = payload-same w h k e.0
@@ -145,6 +162,8 @@ module _ (f back : Name → Name) (g g_back : Name → Name) where
   cases-same w (part here t ps) k e = cases-same w ps k e.1
   cases-same w (part (import n) t ps) k e = cases-same w ps k e.1
   cases-same w (part (export n) t ps) k e = cases-same w ps k e.1
+  cases-same w (part (core_import m n) t ps) k e = cases-same w ps k e.1
+  cases-same w (part (core_export n) t ps) k e = cases-same w ps k e.1
 
   mentions-same : (w : Written) (ps : Parts Name Name) → Whole w → HasIn ps → mentions (W w) (rename_parts f g ps) ≡ mentions w ps
   mentions-same w none k e = refl
@@ -172,6 +191,14 @@ module _ (f back : Name → Name) (g g_back : Name → Name) where
       λ j. a j ∷ b j
   entry_texts-same w (part (label n) t ps) k e = entry_texts-same w ps k e.1
   entry_texts-same w (part here t ps) k e = entry_texts-same w ps k e.1
+  entry_texts-same w (part (core_import m n) t ps) k e =
+      let a : mention (W w) (rename f g t) ≡ mention w t = mention-same w t k e.0 in
+      let b : entry_texts (W w) (rename_parts f g ps) ≡ entry_texts w ps = entry_texts-same w ps k e.1 in
+      λ j. (codes "import " ++ quoted m ++ codes " " ++ quoted n ++ codes " " ++ a j) ∷ b j
+  entry_texts-same w (part (core_export n) t ps) k e =
+      let a : mention (W w) (rename f g t) ≡ mention w t = mention-same w t k e.0 in
+      let b : entry_texts (W w) (rename_parts f g ps) ≡ entry_texts w ps = entry_texts-same w ps k e.1 in
+      λ j. (codes "export " ++ quoted n ++ codes " " ++ a j) ∷ b j
 
   abbrev PathNames : List (Name × List ℕ) → Type 0
   PathNames ps = All (λ p. R p.0) ps
@@ -246,6 +273,10 @@ module _ (f back : Name → Name) (g g_back : Name → Name) where
   form-same w (instance i own) ps k eh e = instance-same w own ps k eh.1 e
   form-same w (component i ins outs) ps k eh e = component_text-same w ins outs ps k eh.1 eh.2 e
   form-same w type_entity ps k eh e = refl
+  form-same w (core_module i n) ps k eh e = ap (λ (xs : List Text). codes "module {" ++ listed [] xs ++ codes "}") (entry_texts-same w ps k e)
+  form-same w (core_instance i n) ps k eh e = refl
+  form-same w (core_type i) ps k eh e = refl
+  form-same w (core_item x) ps k eh e = refl
 
   -- ## Numbers of resources
 
@@ -291,6 +322,57 @@ module _ (f back : Name → Name) (g g_back : Name → Name) where
       let q = with_paths-same (with_paths w ins) outs p.1 e.2 in
       (ap (λ (v : Written). with_paths v (rename_paths f outs)) p.0 ∙ q.0, q.1)
   with_resources-same w type_entity k e = (refl, k)
+  with_resources-same w (core_module i n) k e = (refl, k)
+  with_resources-same w (core_instance i n) k e = (refl, k)
+  with_resources-same w (core_type i) k e = (refl, k)
+  with_resources-same w (core_item x) k e = (refl, k)
+
+  -- ## Core groups
+
+  pull : (b : Bool) (x y : Written) → cond b (W x) (W y) ≡ W (cond b x y)
+  pull true x y = refl
+  pull false x y = refl
+
+  whole_either : (b : Bool) (x y : Written) → Whole x → Whole y → Whole (cond b x y)
+  whole_either true x y p q = p
+  whole_either false x y p q = q
+
+  abbrev Goes : (Written → ℕ → Written) → Written → ℕ → Type 0
+  Goes step w i = (step (W w) i ≡ W (step w i)) × Whole (step w i)
+
+  fold-same : (step : Written → ℕ → Written) → ((w : Written) (i : ℕ) → Whole w → Goes step w i) → (w : Written) (is : List ℕ) → Whole w →
+      (fold step (W w) is ≡ W (fold step w is)) × Whole (fold step w is)
+  fold-same step goes w [] k = (refl, k)
+  fold-same step goes w (i ∷ is) k =
+      let p = goes w i k in
+      let q = fold-same step goes (step w i) is p.1 in
+      (ap (λ (v : Written). fold step v is) p.0 ∙ q.0, q.1)
+
+  group-same : (d : ℕ) (w : Written) (i : ℕ) → Whole w → Goes (write_group d) w i
+  group-same zero w i k = (refl, k)
+  group-same (suc d) w i k =
+      let v : Written = fold (write_group d) w (older_ids w.core i) in
+      let p = fold-same (write_group d) (group-same d) w (older_ids w.core i) k in (
+        ap (λ (x : Written). cond (has_group w i) (W w) (with_new_group x i)) p.0 ∙ ap (λ (x : Written). cond (has_group w i) (W w) x) (pull (has_group v i) v (with_group v i)) ∙ pull (has_group w i) w (with_new_group v i),
+        whole_either (has_group w i) w (with_new_group v i) k (whole_either (has_group v i) v (with_group v i) p.1 (record { nodes = p.1.nodes; resources = p.1.resources })),
+      )
+
+  groups-same : (w : Written) (is : List ℕ) → Whole w → (write_groups (W w) is ≡ W (write_groups w is)) × Whole (write_groups w is)
+  groups-same w is k = fold-same (λ v i. write_group (suc i) v i) (λ v i h. group-same (suc i) v i h) w is k
+
+  core-same : (w : Written) (h : Head Name Name) → Whole w → (write_core (W w) (rename_head f g h) ≡ W (write_core w h)) × Whole (write_core w h)
+  core-same w (core_item x) k = groups-same w (item_ids x) k
+  core-same w (core_type i) k = groups-same w (i ∷ []) k
+  core-same w nothing k = (refl, k)
+  core-same w (primitive p) k = (refl, k)
+  core-same w (resource r s) k = (refl, k)
+  core-same w (defined i x) k = (refl, k)
+  core-same w (func i b) k = (refl, k)
+  core-same w (instance i own) k = (refl, k)
+  core-same w (component i ins outs) k = (refl, k)
+  core-same w type_entity k = (refl, k)
+  core-same w (core_module i n) k = (refl, k)
+  core-same w (core_instance i n) k = (refl, k)
 
   -- ## Lines
 
@@ -303,7 +385,7 @@ module _ (f back : Name → Name) (g g_back : Name → Name) where
 
   line-same : (w : Written) (o : Option Identity) (h : Head Name Name) (ps : Parts Name Name) → Whole w → HasHead h → HasIn ps →
       line_if (W w) (option_map to o) (rename_head f g h) (rename_parts f g ps) ≡ W (line_if w o h ps)
-  line-same w None h ps k eh e = refl
+  line-same w None h ps k eh e = (core-same w h k).0
   line-same w (Some i) h ps k eh e =
       let p = with_resources-same w h k eh in
       let u : Written = with_resources w h in
@@ -311,21 +393,13 @@ module _ (f back : Name → Name) (g g_back : Name → Name) where
       let count : length (map to u.nodes) ≡ length u.nodes = length-mapped to u.nodes in
       let nodes : map to u.nodes ++ to i ∷ [] ≡ map to (u.nodes ++ i ∷ []) = sym (map-push to u.nodes i) in
       ap (λ (v : Written). with_line v (to i) (rename_head f g h) (rename_parts f g ps)) p.0 ∙
-      (λ j. record { nodes = nodes j; resources = map f u.resources; text = u.text ++ line_text (count j) (form j) })
+      (λ j. record (W u) { nodes = nodes j; text = u.text ++ line_text (count j) (form j) })
 
   line-whole : (w : Written) (o : Option Identity) (h : Head Name Name) (ps : Parts Name Name) → Whole w → HasHead h → KeptIf o → Whole (line_if w o h ps)
-  line-whole w None h ps k eh e = k
+  line-whole w None h ps k eh e = (core-same w h k).1
   line-whole w (Some i) h ps k eh e =
       let ku : Whole (with_resources w h) = (with_resources-same w h k eh).1 in
       record { nodes = push_each Kept (with_resources w h).nodes i ku.nodes e; resources = ku.resources }
-
-  pull : (b : Bool) (x y : Written) → cond b (W x) (W y) ≡ W (cond b x y)
-  pull true x y = refl
-  pull false x y = refl
-
-  whole_either : (b : Bool) (x y : Written) → Whole x → Whole y → Whole (cond b x y)
-  whole_either true x y p q = p
-  whole_either false x y p q = q
 
   -- one node, where its parts were written alike
   node-same : (w u v : Written) (h : Head Name Name) (ps : Parts Name Name) → Whole w → HasHead h → HasIn ps → u ≡ W v → Whole v →
@@ -378,6 +452,8 @@ module _ (f back : Name → Name) (g g_back : Name → Name) where
       (ap (λ (x : Written). write_entries x (rename_parts f g ps)) p.0 ∙ q.0, q.1)
   entries-same w (part (label n) t ps) k e = entries-same w ps k e.1
   entries-same w (part here t ps) k e = entries-same w ps k e.1
+  entries-same w (part (core_import m n) t ps) k e = entries-same w ps k e.1
+  entries-same w (part (core_export n) t ps) k e = entries-same w ps k e.1
 
   paths-same : (word : Text) (w : Written) (ps : List (Name × List ℕ)) → Whole w → PathNames ps → (write_paths word (W w) (rename_paths f ps) ≡ W (write_paths word w ps)) × Whole (write_paths word w ps)
   paths-same word w [] k e = (refl, k)
@@ -390,24 +466,28 @@ module _ (f back : Name → Name) (g g_back : Name → Name) where
       let q = paths-same word (path_line u word p.0 p.1) ps (record { nodes = ku.nodes; resources = ku.resources }) (further_paths p ps e) in
       (ap (λ (v : Written). write_paths word v (rename_paths f ps)) line ∙ q.0, q.1)
 
-  component-same : (h : Head Name Name) (ps : Parts Name Name) → HasHead h → HasIn ps → write_component (rename_head f g h) (rename_parts f g ps) ≡ W (write_component h ps)
-  component-same (component i ins outs) ps eh e =
-      let p = entries-same nothing_written ps (record { nodes = tt; resources = tt }) e in
-      let q = paths-same (codes "imported ") (write_entries nothing_written ps) ins p.1 eh.1 in
-      let r = paths-same (codes "defined ") (write_paths (codes "imported ") (write_entries nothing_written ps) ins) outs q.1 eh.2 in
+  component-same : (gs : List Group) (h : Head Name Name) (ps : Parts Name Name) → HasHead h → HasIn ps → write_component gs (rename_head f g h) (rename_parts f g ps) ≡ W (write_component gs h ps)
+  component-same gs (component i ins outs) ps eh e =
+      let p = entries-same (nothing_written gs) ps (record { nodes = tt; resources = tt }) e in
+      let q = paths-same (codes "imported ") (write_entries (nothing_written gs) ps) ins p.1 eh.1 in
+      let r = paths-same (codes "defined ") (write_paths (codes "imported ") (write_entries (nothing_written gs) ps) ins) outs q.1 eh.2 in
       ap (λ (x : Written). write_paths (codes "defined ") (write_paths (codes "imported ") x (rename_paths f ins)) (rename_paths f outs)) p.0 ∙
       ap (λ (x : Written). write_paths (codes "defined ") x (rename_paths f outs)) q.0 ∙ r.0
-  component-same nothing ps eh e = refl
-  component-same (primitive p) ps eh e = refl
-  component-same (resource r s) ps eh e = refl
-  component-same (defined i x) ps eh e = refl
-  component-same (func i b) ps eh e = refl
-  component-same (instance i own) ps eh e = refl
-  component-same type_entity ps eh e = refl
+  component-same gs nothing ps eh e = refl
+  component-same gs (primitive p) ps eh e = refl
+  component-same gs (resource r s) ps eh e = refl
+  component-same gs (defined i x) ps eh e = refl
+  component-same gs (func i b) ps eh e = refl
+  component-same gs (instance i own) ps eh e = refl
+  component-same gs type_entity ps eh e = refl
+  component-same gs (core_module i n) ps eh e = refl
+  component-same gs (core_instance i n) ps eh e = refl
+  component-same gs (core_type i) ps eh e = refl
+  component-same gs (core_item x) ps eh e = refl
 
-  pub text-renamed : (t : Tree Name Name) → EachName (λ r. back (f r) ≡ r) (λ i. g_back (g i) ≡ i) t → type_text (rename f g t) ≡ type_text t
-  text-renamed (node h ps) e = ap (λ (x : Written). x.text) (component-same h ps e.0 e.1)
+  pub text-renamed : (gs : List Group) (t : Tree Name Name) → EachName (λ r. back (f r) ≡ r) (λ i. g_back (g i) ≡ i) t → type_text gs (rename f g t) ≡ type_text gs t
+  text-renamed gs (node h ps) e = ap (λ (x : Written). x.text) (component-same gs h ps e.0 e.1)
 
 -- types that are equal up to renaming have one text
-pub same_text : (s t : Tree Name Name) → UpToRenaming s t → type_text s ≡ type_text t
-same_text s t u = sym (text-renamed u.resource_to u.resource_back u.identity_to u.identity_back s u.one_to_one) ∙ ap type_text u.renamed
+pub same_text : (gs : List Group) (s t : Tree Name Name) → UpToRenaming s t → type_text gs s ≡ type_text gs t
+same_text gs s t u = sym (text-renamed u.resource_to u.resource_back u.identity_to u.identity_back gs s u.one_to_one) ∙ ap (type_text gs) u.renamed

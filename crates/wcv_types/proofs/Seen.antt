@@ -2,7 +2,7 @@
 use Rattle.std.proofs.Common.{◌≡◌, ℕ, List, map, Bool, cond, ◌||◌, refl, ap, sym, ◌∙◌}
 use Rattle.std.specs.Prelude.{None}
 use Rattle.wcv_core.specs.Names.{Name, member}
-use Rattle.wcv_types.specs.Tree.{Head, nothing, primitive, resource, defined, func, instance, component, type_entity, Tree, node, Parts, none, part, firsts}
+use Rattle.wcv_types.specs.Tree.{Head, nothing, primitive, resource, defined, func, instance, component, type_entity, core_module, core_instance, core_type, core_item, Tree, node, Parts, none, part, firsts}
 use Rattle.wcv_types.specs.Identity.{Identity}
 use Rattle.wcv_types.specs.Rename.{rename_paths, without_identities}
 use Rattle.wcv_types.specs.Resources.{owns, substitute}
@@ -27,6 +27,10 @@ module _ {I : Type 0} where
   owns-aside (defined i k) = refl
   owns-aside (func i b) = refl
   owns-aside type_entity = refl
+  owns-aside (core_module i n) = refl
+  owns-aside (core_instance i n) = refl
+  owns-aside (core_type k) = refl
+  owns-aside (core_item x) = refl
 
 module _ {I A : Type 0} where
   head-aside : (f : Name → Within A) (h : Head Name I) → seen_head f (aside_head h) ≡ seen_head f h
@@ -41,6 +45,10 @@ module _ {I A : Type 0} where
       let e' : rename_paths (λ r. r) outs ≡ outs = paths-id outs in
       λ j. component tt (rename_paths (λ r. inner r) (e j)) (rename_paths (λ r. inner r) (e' j))
   head-aside f type_entity = refl
+  head-aside f (core_module i n) = refl
+  head-aside f (core_instance i n) = refl
+  head-aside f (core_type k) = refl
+  head-aside f (core_item x) = refl
 
   mutual
     pub seen-aside : (f : Name → Within A) (t : Tree Name I) → seen f (without_identities t) ≡ seen f t
@@ -57,7 +65,3 @@ module _ {I A : Type 0} where
         let e : seen f (without_identities t) ≡ seen f t = seen-aside f t in
         let e' : seen_parts f (aside ps) ≡ seen_parts f ps = seen_parts-aside f ps in
         λ j. part k (e j) (e' j)
-
--- a rebuilding that replaces resources alone is seen as the replacing of free resources
-pub seen-replaced : {A : Type 0} (m : Replacement) → ((i : Identity) → m.nodes i ≡ None) → (f : Name → Within A) (t : Tree Name Name) → SparesOwn m t → seen f (replaced m t) ≡ seen f (substitute (new_resource m) t)
-seen-replaced m n f t s = sym (seen-aside f (replaced m t)) ∙ ap (seen f) (replaced-aside m n t s) ∙ seen-aside f (substitute (new_resource m) t)

@@ -1,5 +1,5 @@
 -- Nodes that share what they are made of, and what is kept of it.
-use Rattle.std.proofs.Common.{◌≡◌, ℕ, zero, suc, ◌<◌, ◌≤◌, List, [], ◌∷◌, ◌++◌, length, map, get_or, refl, sym, ◌∙◌, ap, subst, arith, length-append, Some, ⊎_elim}
+use Rattle.std.proofs.Common.{◌≡◌, ℕ, zero, suc, ◌<◌, ◌≤◌, List, [], ◌∷◌, ◌++◌, length, map, get_or, refl, sym, ◌∙◌, ap, subst, arith, length-append, Bool, Some, ⊎_elim}
 use Rattle.std.specs.Prelude.{slice_get}
 use Rattle.std.specs.Option.{option_map}
 use Rattle.std.proofs.lemmas.Bool.{cases_lt}
@@ -7,9 +7,12 @@ use Rattle.std.proofs.lemmas.List.{map-append}
 use Rattle.std.proofs.lemmas.Option.{same_Some, slice_get_within, slice_get_read, slice_get-get_or, slice_get-map, get_or_from_slice_get}
 use Rattle.std.proofs.Math.ListN.{get_or-append}
 use Rattle.wcv_core.specs.Names.{Name}
-use Rattle.wcv_types.specs.Facts.{IsFactsOf, IsKnown, AllKnown, no_node, nodes_at}
+use Rattle.wcv_types.specs.Abi.{abi_size, abi_align, contains, pointer, handle, borrow, kept_size}
+use Rattle.wcv_types.specs.Facts.{is_plain, IsFactsOf, IsKnown, AllKnown, no_node, nodes_at}
+use Rattle.wcv_types.specs.Measure.{size, depth}
+use Rattle.wcv_types.specs.Resources.{mentions}
 use Rattle.wcv_types.specs.Tree.{Parts, node}
-use Rattle.wcv_types.specs.Unfold.{Type_tree, left_out, head_of, slots_of, slot_parts, tree_of, tree_in, trees}
+use Rattle.wcv_types.specs.Unfold.{Type_tree, capped, left_out, head_of, slots_of, slot_parts, tree_of, tree_in, trees}
 use Rattle.wcv_types.specs.declared.arena.Node.{Node}
 use Rattle.wcv_types.specs.declared.arena.Node.TheVariants as n
 use Rattle.wcv_types.specs.declared.facts.Facts.{Facts}
@@ -126,10 +129,37 @@ known_push ks ls ps qs x p xs e f i v a g =
 
 -- ## A node once more
 
--- what is kept looks at no identity
+-- all that is kept of a tree
+abbrev kept : Type_tree → ℕ × ℕ × ℕ × ℕ × ℕ × ℕ × Bool × Bool × Bool × Bool × Bool
+kept t = (size t, depth t, abi_size 4 t, abi_align 4 t, abi_size 8 t, abi_align 8 t, contains pointer t, contains handle t, contains borrow t, is_plain t, mentions t)
+
+facts_kept : (f : Facts) (s t : Type_tree) → kept s ≡ kept t → IsFactsOf f s → IsFactsOf f t
+facts_kept f s t e h = record {
+  info = record { size = h.info.size ∙ (λ j. capped (e j).0); depth = h.info.depth ∙ (λ j. capped (e j).1) };
+  abi = record {
+    size32 = h.abi.size32 ∙ (λ j. kept_size (e j).2);
+    align32 = h.abi.align32 ∙ (λ j. (e j).3);
+    size64 = h.abi.size64 ∙ (λ j. kept_size (e j).4);
+    align64 = h.abi.align64 ∙ (λ j. (e j).5);
+    contains_ptr = h.abi.contains_ptr ∙ (λ j. (e j).6);
+    contains_handle = h.abi.contains_handle ∙ (λ j. (e j).7);
+    contains_borrow = h.abi.contains_borrow ∙ (λ j. (e j).8);
+  };
+  plain = h.plain ∙ (λ j. (e j).9);
+  refers = h.refers ∙ (λ j. (e j).10);
+}
+
+-- it looks at no identity
+kept_again : (x : Node) (j k : ℕ) (ps : Parts Name Name) → kept (node (head_of k x) ps) ≡ kept (node (head_of j x) ps)
+kept_again (n.Defined s) j k ps = refl
+kept_again (n.Func s) j k ps = refl
+kept_again (n.Instance s) j k ps = refl
+kept_again (n.Component s) j k ps = refl
+kept_again (n.Module s) j k ps = refl
+kept_again (n.CoreInstance s) j k ps = refl
+
 facts_again : (f : Facts) (x : Node) (j k : ℕ) (ps : Parts Name Name) → IsFactsOf f (node (head_of k x) ps) → IsFactsOf f (node (head_of j x) ps)
-facts_again f (n.Defined s) j k ps h = record { info = record { size = h.info.size; depth = h.info.depth }; abi = record { size32 = h.abi.size32; align32 = h.abi.align32; size64 = h.abi.size64; align64 = h.abi.align64; contains_ptr = h.abi.contains_ptr; contains_handle = h.abi.contains_handle; contains_borrow = h.abi.contains_borrow }; plain = h.plain; refers = h.refers }
-facts_again f (n.Func s) j k ps h = record { info = record { size = h.info.size; depth = h.info.depth }; abi = record { size32 = h.abi.size32; align32 = h.abi.align32; size64 = h.abi.size64; align64 = h.abi.align64; contains_ptr = h.abi.contains_ptr; contains_handle = h.abi.contains_handle; contains_borrow = h.abi.contains_borrow }; plain = h.plain; refers = h.refers }
+facts_again f x j k ps h = facts_kept f (node (head_of k x) ps) (node (head_of j x) ps) (kept_again x j k ps) h
 
 -- the tree of the node at a place is made of the trees of its parts in the same list
 abbrev pub UnfoldsAt : List Node → ℕ → Type 0

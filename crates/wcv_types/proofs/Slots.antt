@@ -74,7 +74,7 @@ count_without a i s h e =
     omega (arith, ap (λ (qs : List Part). length qs) (func_parts a i s None h e), length-append (parts_in (field_slots s.params.items [])) [])
 
 -- a part that is found among the parameters
-get_left : (qs rs : List Part) (k : ℕ) (q : Part) → slice_get qs k ≡ Some q → slice_get (qs ++ rs) k ≡ Some q
+pub get_left : (qs rs : List Part) (k : ℕ) (q : Part) → slice_get qs k ≡ Some q → slice_get (qs ++ rs) k ≡ Some q
 get_left [] rs k q h = cc
 get_left (r ∷ qs) rs zero q h = h
 get_left (r ∷ qs) rs (suc k) q h = get_left qs rs k q h
@@ -86,7 +86,7 @@ get_right [] r (suc k) h l = absurd (omega (arith, l))
 get_right (q ∷ qs) r zero h l = cc
 get_right (q ∷ qs) r (suc k) h l = get_right qs r k h (omega (arith, l))
 
-get_none : (qs : List Part) (k : ℕ) → None ≡ slice_get qs k → k < length qs → ⊥
+pub get_none : (qs : List Part) (k : ℕ) → None ≡ slice_get qs k → k < length qs → ⊥
 get_none [] k h l = absurd (omega (arith, l))
 get_none (q ∷ qs) zero h l = cc
 get_none (q ∷ qs) (suc k) h l = get_none qs k h (omega (arith, l))

@@ -3,14 +3,14 @@ use Rattle.std.proofs.Common.{◌≡◌, ℕ, zero, suc, List, [], ◌∷◌, le
 use Rattle.std.specs.Prelude.{◌⊎◌, Option, Contains}
 use Rattle.std.proofs.lemmas.List.Elements.{Contains-append_left, Contains-append_right}
 use Rattle.wcv_core.specs.Names.{Name, number}
-use Rattle.wcv_types.specs.Tree.{Head, nothing, primitive, resource, defined, func, instance, component, type_entity, node, Parts, part, head, type_of}
+use Rattle.wcv_types.specs.Tree.{Head, nothing, primitive, resource, defined, func, instance, component, type_entity, core_module, core_instance, core_type, core_item, node, Parts, part, head, type_of}
 use Rattle.wcv_types.specs.Arena.{Arena}
 use Rattle.wcv_types.specs.Identity.{Identity, of_node, identity_at}
 use Rattle.wcv_types.specs.Resources.{owns, RefersTo, Free, FreeIn}
 use Rattle.wcv_types.specs.Replacing.{Replacement, given_at, given_or, moves, changed_in, new_head, replaced, replaced_in}
 use Rattle.wcv_types.specs.Rebuild.{refill, anew, MadeAgain, BecomesIn}
 use Rattle.wcv_types.specs.Standing.{identity_of, Unfolds}
-use Rattle.wcv_types.specs.Unfold.{Slot, leaf, at, both, Slots, leaf_tree, part_tree, slot_refs, slot_tree, slots_at, slot_parts, parts_in, parts_at, place, rank, trees, tree_at}
+use Rattle.wcv_types.specs.Unfold.{Slot, leaf, at, both, core, Slots, leaf_tree, part_tree, slot_refs, slot_tree, slots_at, slot_parts, parts_in, parts_at, place, rank, trees, tree_at}
 use Rattle.wcv_types.specs.declared.ids.Part.{Part}
 use Rattle.wcv_types.specs.declared.ids.Part.TheVariants as p
 
@@ -30,6 +30,8 @@ module _ (a : Arena) (r : Name) where
   free_slot : (s : Slot) → Free r (slot_tree (trees a.nodes) s) → FreeInSome a r (slot_refs s)
   free_slot (leaf o) f = absurd (leaf_free o f)
   free_slot (at q) f = (q, (0, omega arith, refl), f)
+  free_slot (core x) (inl f) = absurd f
+  free_slot (core x) (inr f) = absurd f.1
   free_slot (both c d) (inl x) = absurd x
   free_slot (both c d) (inr (e, inl f)) = (c, (0, omega arith, refl), f)
   free_slot (both c d) (inr (e, inr (inl f))) = (d, (1, omega arith, refl), f)
@@ -51,6 +53,7 @@ module _ (a : Arena) (r : Name) where
   in_slots : (ss : Slots) (q : Part) → Contains (parts_in ss) q → Free r (tree_at a q) → FreeIn r (slot_parts (trees a.nodes) ss)
   in_slots [] q c f = absurd (omega (arith, c.1))
   in_slots ((k, leaf o) ∷ ss) q c f = inr (in_slots ss q c f)
+  in_slots ((k, core x) ∷ ss) q c f = inr (in_slots ss q c f)
   in_slots ((k, at s) ∷ ss) q (zero, l, e) f = inl (subst (λ x. Free r (tree_at a x)) (sym e) f)
   in_slots ((k, at s) ∷ ss) q (suc n, l, e) f = inr (in_slots ss q (n, omega (arith, l), e) f)
   in_slots ((k, both s t) ∷ ss) q (zero, l, e) f = inl (inr (refl, inl (subst (λ x. Free r (tree_at a x)) (sym e) f)))
@@ -84,6 +87,7 @@ module _ (a : Arena) (m : Replacement) where
       let e : leaf_tree o ≡ replaced m (leaf_tree o) = leaf_stays o in
       let e' = slots_become ss qs b in
       λ j. part k (e j) (e' j)
+  slots_become ((k, core x) ∷ ss) qs b = ap (λ ps. part k (slot_tree (trees a.nodes) (core x)) ps) (slots_become ss qs b)
   slots_become ((k, at q) ∷ ss) [] b = absurd b
   slots_become ((k, at q) ∷ ss) (r ∷ rs) b =
       let e : part_tree (trees a.nodes) r ≡ replaced m (part_tree (trees a.nodes) q) = b.0 in
@@ -107,6 +111,10 @@ module _ (a : Arena) (m : Replacement) where
   head_becomes nothing k n b e g c = cc
   head_becomes (primitive q) k n b e g c = cc
   head_becomes type_entity k n b e g c = cc
+  head_becomes (core_module i x) k n b e g c = let i_is : i ≡ k = cc in (λ j. core_module (sym g j) x) ∙ (λ j. core_module (m.again (sym i_is j)) x) ∙ (λ j. new_head m (sym c j) (core_module i x))
+  head_becomes (core_instance i x) k n b e g c = let i_is : i ≡ k = cc in (λ j. core_instance (sym g j) x) ∙ (λ j. core_instance (m.again (sym i_is j)) x) ∙ (λ j. new_head m (sym c j) (core_instance i x))
+  head_becomes (core_type ty) k n b e g c = cc
+  head_becomes (core_item x) k n b e g c = cc
 
   -- no node is given for it
   none_given : (h : Head Name Name) (k : Name) → identity_at h ≡ Some (of_node k) → m.nodes (of_node k) ≡ None → given_at m h ≡ None

@@ -21,11 +21,11 @@ module _ (ts : List Type_tree) (s : Role × Slot) where
   abbrev more : Slots → Parts Name Name
   more ss = slot_parts ts (ss ++ s ∷ [])
 
-  sizes-push : (ss : Slots) → sizes (more ss) ≡ sizes (slot_parts ts ss) + size t
+  pub sizes-push : (ss : Slots) → sizes (more ss) ≡ sizes (slot_parts ts ss) + size t
   sizes-push [] = omega arith
   sizes-push (x ∷ ss) = omega (arith, sizes-push ss)
 
-  depths-push : (ss : Slots) → depths (more ss) ≡ max (depths (slot_parts ts ss)) (depth t)
+  pub depths-push : (ss : Slots) → depths (more ss) ≡ max (depths (slot_parts ts ss)) (depth t)
   depths-push [] = omega arith
   depths-push (x ∷ ss) = omega (arith, depths-push ss)
 
@@ -53,7 +53,7 @@ module _ (ts : List Type_tree) (s : Role × Slot) where
   contains-push m [] = or_false (contains m t)
   contains-push m (x ∷ ss) = ap (λ (b : Bool). contains m (slot_tree ts x.1) || b) (contains-push m ss) ∙ or_assoc (contains m (slot_tree ts x.1)) (any_contains m (slot_parts ts ss)) (contains m t)
 
-  mentions-push : (ss : Slots) → mentions_in (more ss) ≡ (mentions_in (slot_parts ts ss) || mentions t)
+  pub mentions-push : (ss : Slots) → mentions_in (more ss) ≡ (mentions_in (slot_parts ts ss) || mentions t)
   mentions-push [] = or_false (mentions t)
   mentions-push (x ∷ ss) = ap (λ (b : Bool). mentions (slot_tree ts x.1) || b) (mentions-push ss) ∙ or_assoc (mentions (slot_tree ts x.1)) (mentions_in (slot_parts ts ss)) (mentions t)
 

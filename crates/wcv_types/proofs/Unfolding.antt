@@ -5,15 +5,17 @@ use Rattle.std.proofs.lemmas.Option.{slice_get_within}
 use Rattle.std.proofs.lemmas.List.{take-append-drop, length-take-le}
 use Rattle.std.proofs.lemmas.List.Elements.{All-head, All-tail, All-weaker, All-contains, All-contains_itself, Contains-append_left, Contains-append_right}
 use Rattle.std.proofs.Math.ListN.{get_or-append}
-use Rattle.wcv_core.specs.Names.{Name}
+use Rattle.wcv_core.specs.Names.{Name, number}
 use Rattle.std.proofs.Math.Seq.{get_or-append_seam}
-use Rattle.wcv_types.specs.Tree.{Parts, node, part, head, sort, sort_at, type_of, Sort, is_nothing, is_value, is_resource, is_func, is_instance, is_component}
+use Rattle.wcv_types.specs.Tree.{Parts, node, part, head, sort, sort_at, type_of, Sort, is_value, is_resource, is_func, is_instance, is_component, is_module, is_core_instance, is_core_type}
 use Rattle.wcv_types.specs.Arena.{Arena}
-use Rattle.wcv_types.specs.Unfold.{Type_tree, Slot, leaf, at, both, Slots, left_out, rank, head_of, slots_of, slot_refs, slot_tree, slot_parts, part_tree, parts_in, parts_of, tree_of, tree_in, trees_after, trees, tree_at, unfolded}
-use Rattle.wcv_types.specs.Identity.{identity_at}
-use Rattle.wcv_types.specs.Standing.{identity_of, Stands, StandsBefore, AllFit, cut, Extends}
+use Rattle.wcv_types.specs.Unfold.{Type_tree, Slot, leaf, at, both, core, Slots, left_out, any_part, place, rank, head_of, slots_of, slot_refs, slot_tree, slot_parts, part_tree, parts_in, parts_of, tree_of, tree_in, trees_after, trees, tree_at, unfolded}
+use Rattle.wcv_types.specs.Identity.{of_node, identity_at}
+use Rattle.wcv_types.specs.Standing.{HasIdentity, identity_of, Stands, StandsBefore, AllFit, cut, Extends}
 use Rattle.wcv_types.specs.declared.arena.Node.{Node}
 use Rattle.wcv_types.specs.declared.arena.Node.TheVariants as n
+use Rattle.wcv_types.specs.declared.ids.ComponentAnyTypeId.{ComponentAnyTypeId}
+use Rattle.wcv_types.specs.declared.ids.ComponentAnyTypeId.TheVariants as any
 use Rattle.wcv_types.specs.declared.ids.Part.{Part}
 use Rattle.wcv_types.specs.declared.ids.Part.TheVariants as p
 use Rattle.wcv_types.proofs.Grown.{extends_cut, stands_more, stands_rank, trees-grown, trees_after-extends, length-trees}
@@ -46,6 +48,7 @@ all_right P xs ys h = all_from P ys (λ x c. All-contains P (xs ++ ys) x h (Cont
 
 slot_more : (ts us : List Type_tree) (s : Slot) → RanksWithin (length ts) (slot_refs s) → slot_tree (ts ++ us) s ≡ slot_tree ts s
 slot_more ts us (leaf o) h = refl
+slot_more ts us (core e) h = refl
 slot_more ts us (at q) h = part_more ts us q (All-head (λ (r : Part). rank r ≤ length ts) q [] h)
 slot_more ts us (both c r) h =
     let P : Part → Type 0 = λ x. rank x ≤ length ts in
@@ -124,7 +127,9 @@ sort_of (p.Func i) = is_func
 sort_of (p.Defined i) = is_value
 sort_of (p.Instance i) = is_instance
 sort_of (p.Component i) = is_component
-sort_of q = is_nothing
+sort_of (p.Module i) = is_module
+sort_of (p.CoreInstance i) = is_core_instance
+sort_of (p.Core i) = is_core_type
 
 -- the root of the tree of a node
 pub head_in : (xs : List Node) (k : ℕ) (x : Node) → slice_get xs k ≡ Some x → head (tree_in (trees xs) k) ≡ head_of k x
@@ -137,19 +142,26 @@ pub sort_stands : (a : Arena) (q : Part) → Stands a q → sort (tree_at a q) �
 sort_stands a (p.Resource r) s = refl
 sort_stands a (p.Func i) s = ap sort_at (head_in a.nodes i.index (n.Func s.0) s.1)
 sort_stands a (p.Defined i) s = ap sort_at (head_in a.nodes i.index (n.Defined s.0) s.1)
-sort_stands a (p.Instance i) s = absurd s
-sort_stands a (p.Component i) s = absurd s
-sort_stands a (p.Module i) s = absurd s
-sort_stands a (p.CoreInstance i) s = absurd s
-sort_stands a (p.Core i) s = absurd s
+sort_stands a (p.Instance i) s = ap sort_at (head_in a.nodes i.index (n.Instance s.0) s.1)
+sort_stands a (p.Component i) s = ap sort_at (head_in a.nodes i.index (n.Component s.0) s.1)
+sort_stands a (p.Module i) s = ap sort_at (head_in a.nodes i.index (n.Module s.0) s.1)
+sort_stands a (p.CoreInstance i) s = ap sort_at (head_in a.nodes i.index (n.CoreInstance s.0) s.1)
+sort_stands a (p.Core i) s = refl
 
 -- a type that stands has its identity
-pub known_stands : (a : Arena) (q : Part) → Stands a q → identity_at (head (tree_at a q)) ≡ Some (identity_of q)
-known_stands a (p.Resource r) s = refl
-known_stands a (p.Func i) s = ap identity_at (head_in a.nodes i.index (n.Func s.0) s.1)
-known_stands a (p.Defined i) s = ap identity_at (head_in a.nodes i.index (n.Defined s.0) s.1)
-known_stands a (p.Instance i) s = absurd s
-known_stands a (p.Component i) s = absurd s
-known_stands a (p.Module i) s = absurd s
-known_stands a (p.CoreInstance i) s = absurd s
-known_stands a (p.Core i) s = absurd s
+pub known_stands : (a : Arena) (q : Part) → HasIdentity q → Stands a q → identity_at (head (tree_at a q)) ≡ Some (identity_of q)
+known_stands a (p.Resource r) h s = refl
+known_stands a (p.Func i) h s = ap identity_at (head_in a.nodes i.index (n.Func s.0) s.1)
+known_stands a (p.Defined i) h s = ap identity_at (head_in a.nodes i.index (n.Defined s.0) s.1)
+known_stands a (p.Instance i) h s = ap identity_at (head_in a.nodes i.index (n.Instance s.0) s.1)
+known_stands a (p.Component i) h s = ap identity_at (head_in a.nodes i.index (n.Component s.0) s.1)
+known_stands a (p.Module i) h s = ap identity_at (head_in a.nodes i.index (n.Module s.0) s.1)
+known_stands a (p.CoreInstance i) h s = ap identity_at (head_in a.nodes i.index (n.CoreInstance s.0) s.1)
+known_stands a (p.Core i) h s = absurd h
+
+pub known_any : (a : Arena) (c : ComponentAnyTypeId) → Stands a (any_part c) → identity_at (head (tree_at a (any_part c))) ≡ Some (identity_of (any_part c))
+known_any a (any.Resource r) s = known_stands a (p.Resource r) tt s
+known_any a (any.Defined i) s = known_stands a (p.Defined i) tt s
+known_any a (any.Func i) s = known_stands a (p.Func i) tt s
+known_any a (any.Instance i) s = known_stands a (p.Instance i) tt s
+known_any a (any.Component i) s = known_stands a (p.Component i) tt s

@@ -5,13 +5,10 @@ use Rattle.wcv_types.specs.Tree.{component_type}
 use Rattle.wcv_types.specs.Arena.{Arena}
 use Rattle.wcv_types.specs.Entities.{entry_trees, EntryStands}
 use Rattle.wcv_types.specs.Paths.{PathLeadsTo}
+pub use Rattle.wcv_types.specs.Unfold.{resource_path}
 use Rattle.wcv_types.specs.Unfold.{Type_tree, trees}
 use Rattle.wcv_types.specs.declared.component_type.ComponentType.{ComponentType}
 use Rattle.wcv_types.specs.declared.ids.ResourceId.{ResourceId}
-
--- a resource and the place where it stands
-abbrev pub resource_path : ResourceId × List ℕ → Name × List ℕ
-resource_path p = (number p.0.index, p.1)
 
 -- the tree, over the trees of the nodes, under an identity
 abbrev pub component_tree : List Type_tree → Name → ComponentType → Type_tree

@@ -3,14 +3,10 @@ use Rattle.std.specs.Prelude.{◌<◌, length}
 use Rattle.wcv_core.specs.Names.{Name, number, stamp}
 use Rattle.wcv_types.specs.Arena.{Arena}
 use Rattle.wcv_types.specs.Rename.{EachName}
+pub use Rattle.wcv_types.specs.Standing.{GaveResource}
 use Rattle.wcv_types.specs.Standing.{Stands}
 use Rattle.wcv_types.specs.Unfold.{Type_tree, tree_at}
 use Rattle.wcv_types.specs.declared.ids.Part.{Part}
-
--- to a resource
-abbrev pub GaveResource : Arena → Name → Type 0
-GaveResource a (number k) = k < a.resources
-GaveResource a _ = ⊥
 
 -- to a node, or as a stamp
 abbrev pub GaveIdentity : Arena → Name → Type 0

@@ -7,9 +7,11 @@ pub mod Resources
 pub mod Seen
 pub mod Replacing
 pub mod Paths
+pub mod Led
 pub mod FirstPath
 pub mod Named
 pub mod Quoting
+pub mod CoreText
 pub mod Text
 pub mod Arena
 pub mod Info
@@ -20,6 +22,7 @@ pub mod ComponentTrees
 pub mod Abi
 pub mod Facts
 pub mod Sums
+pub mod EntrySums
 pub mod Rebuild
 pub mod Renewed
 pub mod Sets
@@ -27,3 +30,5 @@ pub mod Given
 pub mod Gathering
 pub mod NamedBySet
 pub mod Alike
+pub mod CoreCalls
+pub mod ExplicitPaths

@@ -1,9 +1,13 @@
 -- How it is told whether a defined type is named.
-use Rattle.std.specs.Prelude.{Bool, true, false, Option, Some, None}
+use Rattle.std.specs.Prelude.{List, Bool, true, false, Option, Some, None}
+use Rattle.wcv_types.specs.Sets.{with_type}
 use Rattle.wcv_types.specs.declared.ids.AliasableResourceId.{AliasableResourceId}
+use Rattle.wcv_types.specs.declared.ids.ComponentAnyTypeId.{ComponentAnyTypeId}
 use Rattle.wcv_types.specs.declared.ids.ComponentDefinedTypeId.{ComponentDefinedTypeId}
 use Rattle.wcv_types.specs.declared.shapes.ComponentDefinedType.{ComponentDefinedType}
 use Rattle.wcv_types.specs.declared.shapes.ComponentDefinedType.TheVariants as d
+use Rattle.wcv_types.specs.declared.shapes.ComponentEntityType.{ComponentEntityType}
+use Rattle.wcv_types.specs.declared.shapes.ComponentEntityType.TheVariants as entity
 use Rattle.wcv_types.specs.declared.shapes.ComponentValType.{ComponentValType}
 use Rattle.wcv_types.specs.declared.shapes.ComponentValType.TheVariants as v
 
@@ -26,3 +30,8 @@ abbrev pub node_id : Option ComponentValType → Option ComponentDefinedTypeId
 node_id None = None
 node_id (Some (v.Primitive q)) = None
 node_id (Some (v.Ty i)) = Some i
+
+-- the set with what a type entity creates
+abbrev pub with_created_type : List ComponentAnyTypeId → ComponentEntityType → List ComponentAnyTypeId
+with_created_type ids (entity.Ty c r) = with_type ids c
+with_created_type ids x = ids

@@ -1,4 +1,4 @@
--- Texts between quotes.
+-- Texts between quotes, and lists of texts.
 use Rattle.std.specs.Prelude.{ℕ, List, [], ◌∷◌, ◌++◌, ◌+◌, ◌/◌, ◌%◌, Bool, ◌||◌, ◌==◌, nat_lt, if◌then◌else◌, codes}
 
 -- the digit of a number below 16, in lower case
@@ -24,3 +24,10 @@ quoted_bytes (b ∷ bs) = quoted_byte b ++ quoted_bytes bs
 -- the text between quotes
 abbrev pub quoted : List ℕ → List ℕ
 quoted text = codes "\"" ++ quoted_bytes text ++ codes "\""
+
+-- ## Lists
+
+-- texts one after another, the first behind `before`, each further one behind a comma and a space
+abbrev pub listed : List ℕ → List (List ℕ) → List ℕ
+listed before [] = []
+listed before (x ∷ xs) = before ++ x ++ listed (codes ", ") xs

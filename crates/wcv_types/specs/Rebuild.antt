@@ -1,11 +1,13 @@
 -- A node that is made again with other parts.
 use Rattle.std.specs.Prelude.{ℕ, suc, List, [], ◌∷◌, ◌++◌, drop, length, map, Option, Some, Bool, true, eqb, All, ◌≡◌}
 use Rattle.wcv_core.specs.Names.{Name, number}
-use Rattle.wcv_types.specs.Tree.{Text, Head, defined, func, instance, component, Role, here, label, node, head}
+use Rattle.wcv_types.specs.Tree.{Text, Head, defined, func, instance, component, core_module, core_instance, Role, here, label, node, Parts, part, head}
 use Rattle.wcv_types.specs.Arena.{Arena}
 use Rattle.wcv_types.specs.Replacing.{Replacement, replaced}
+use Rattle.wcv_types.specs.Led.{Led}
+use Rattle.wcv_types.specs.Measure.{size}
 use Rattle.wcv_types.specs.Standing.{Stands, KeepsTrees}
-use Rattle.wcv_types.specs.Unfold.{rank, Slot, leaf, at, both, Slots, slot_refs, slots_at, slot_parts, parts_at, trees, tree_at, value_slots}
+use Rattle.wcv_types.specs.Unfold.{capped, rank, Slot, leaf, at, both, core, Slots, slot_refs, slots_at, slot_parts, parts_at, trees, tree_at, value_slots}
 use Rattle.wcv_types.specs.declared.ids.Part.{Part}
 use Rattle.wcv_types.specs.declared.ids.Part.TheVariants as p
 use Rattle.wcv_types.specs.declared.shapes.ComponentValType.{ComponentValType}
@@ -35,6 +37,7 @@ SameSorts _ _ = ⊥
 -- what a slot becomes with the first of these parts
 abbrev pub refill_slot : Slot → List Part → Slot
 refill_slot (leaf o) qs = leaf o
+refill_slot (core e) qs = core e
 refill_slot (at q) [] = at q
 refill_slot (at q) (r ∷ rs) = at r
 refill_slot (both c r) [] = both c r
@@ -58,6 +61,7 @@ after (s ∷ ss) qs = after ss (after_slot s.1 qs)
 -- parts of the sorts that a slot asks for come first
 abbrev pub FillsSlot : Slot → List Part → Type 0
 FillsSlot (leaf o) qs = Unit {0}
+FillsSlot (core e) qs = Unit {0}
 FillsSlot (at q) [] = ⊥
 FillsSlot (at q) (r ∷ rs) = same_sort q r ≡ true
 FillsSlot (both c r) [] = ⊥
@@ -77,12 +81,23 @@ anew j (defined i k) = defined j k
 anew j (func i b) = func j b
 anew j (instance i own) = instance j own
 anew j (component i ins outs) = component j ins outs
+anew j (core_module i n) = core_module j n
+anew j (core_instance i n) = core_instance j n
 anew j h = h
+
+-- a core instance that was made of a module states its own size
+abbrev pub HeadCounts : Head Name Name → Parts Name Name → Type 0
+HeadCounts (core_instance i n) (part here t ps) = n ≡ capped (suc (size t))
+HeadCounts h ps = Unit {0}
 
 -- these may be the parts of that type
 pub record Refits (a : Arena) (q : Part) (qs : List Part) : Type 0 where
   pub same_sorts : SameSorts (parts_at a q) qs
   pub stand : All (Stands a) qs
+  -- what the node made again owns is led to
+  pub led : Led (node (head (tree_at a q)) (slot_parts (trees a.nodes) (refill (slots_at a.nodes q) qs)))
+  -- and what it states stays so
+  pub counts : HeadCounts (head (tree_at a q)) (slot_parts (trees a.nodes) (refill (slots_at a.nodes q) qs))
 
 -- one more node: it has the head of q under its own identity, and these parts
 pub record MadeAgain (a b : Arena) (q : Part) (qs : List Part) (made : Part) : Type 0 where

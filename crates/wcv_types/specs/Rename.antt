@@ -1,6 +1,6 @@
 -- Renaming of resources and of identities, everywhere in a tree.
 use Rattle.std.specs.Prelude.{ℕ, List, map, All, ◌≡◌}
-use Rattle.wcv_types.specs.Tree.{Head, nothing, primitive, resource, defined, func, instance, component, type_entity, Tree, node, Parts, none, part}
+use Rattle.wcv_types.specs.Tree.{Head, nothing, primitive, resource, defined, func, instance, component, type_entity, core_module, core_instance, core_type, core_item, Tree, node, Parts, none, part}
 
 -- the resources of a list renamed, their paths kept
 abbrev pub rename_paths : {R S : Type 0} → (R → S) → List (R × List ℕ) → List (S × List ℕ)
@@ -16,6 +16,10 @@ rename_head f g (func i b) = func (g i) b
 rename_head f g (instance i owned) = instance (g i) (map f owned)
 rename_head f g (component i ins outs) = component (g i) (rename_paths f ins) (rename_paths f outs)
 rename_head f g type_entity = type_entity
+rename_head f g (core_module i n) = core_module (g i) n
+rename_head f g (core_instance i n) = core_instance (g i) n
+rename_head f g (core_type i) = core_type i
+rename_head f g (core_item e) = core_item e
 
 -- f renames resources, g identities and stamps
 abbrev mutual
@@ -41,6 +45,8 @@ HeadNames P Q (defined i k) = Q i
 HeadNames P Q (func i b) = Q i
 HeadNames P Q (instance i owned) = Q i × All P owned
 HeadNames P Q (component i ins outs) = Q i × All (λ p. P p.0) ins × All (λ p. P p.0) outs
+HeadNames P Q (core_module i n) = Q i
+HeadNames P Q (core_instance i n) = Q i
 HeadNames P Q h = Unit {0}
 
 -- so at each node of the tree

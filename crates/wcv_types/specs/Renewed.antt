@@ -4,7 +4,7 @@ use Rattle.wcv_core.specs.Names.{Name, number, stamp}
 use Rattle.wcv_types.specs.Arena.{Arena}
 use Rattle.wcv_types.specs.Entities.{any_part}
 use Rattle.wcv_types.specs.Standing.{Stands, Extends, KeepsTrees, with_node}
-use Rattle.wcv_types.specs.Tree.{Head, resource, defined, func, instance, component, node}
+use Rattle.wcv_types.specs.Tree.{Head, resource, defined, func, instance, component, core_module, core_instance, node}
 use Rattle.wcv_types.specs.Unfold.{Type_tree, place, tree_in, trees, tree_at, unfolded}
 use Rattle.wcv_types.specs.declared.arena.Node.{Node}
 use Rattle.wcv_types.specs.declared.ids.ComponentAnyTypeId.{ComponentAnyTypeId}
@@ -19,6 +19,8 @@ renewed_head j (defined i k) = defined j k
 renewed_head j (func i b) = func j b
 renewed_head j (instance i own) = instance j own
 renewed_head j (component i ins outs) = component j ins outs
+renewed_head j (core_module i n) = core_module j n
+renewed_head j (core_instance i n) = core_instance j n
 renewed_head j h = h
 
 -- the tree under another identity; its parts are the same

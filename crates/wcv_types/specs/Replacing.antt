@@ -1,7 +1,7 @@
 -- Replacing of resources and of nodes, as a rebuilding makes it. It acts on all mentions: it is spoken of where no resource that is replaced is owned inside the tree.
 use Rattle.std.specs.Prelude.{Bool, true, false, not, ◌||◌, cond, Option, Some, None, ◌≡◌}
 use Rattle.wcv_core.specs.Names.{Name, same}
-use Rattle.wcv_types.specs.Tree.{Head, nothing, primitive, resource, defined, func, instance, component, type_entity, Tree, node, Parts, none, part, head}
+use Rattle.wcv_types.specs.Tree.{Head, nothing, primitive, resource, defined, func, instance, component, type_entity, core_module, core_instance, Tree, node, Parts, none, part, head}
 use Rattle.wcv_types.specs.Identity.{Identity, identity_at, same_known}
 use Rattle.wcv_types.specs.Resources.{owns}
 
@@ -66,6 +66,8 @@ again_head m (defined i k) = defined (m.again i) k
 again_head m (func i b) = func (m.again i) b
 again_head m (instance i own) = instance (m.again i) own
 again_head m (component i ins outs) = component (m.again i) ins outs
+again_head m (core_module i n) = core_module (m.again i) n
+again_head m (core_instance i n) = core_instance (m.again i) n
 again_head m h = h
 
 -- a reference keeps its stamp, another node is made again where it changes

@@ -1,5 +1,5 @@
 -- The free resources of a tree, and replacing them.
-use Rattle.std.specs.Prelude.{Bool, true, false, not, ◌&&◌, ◌||◌, cond, ◌≡◌, ◌⊎◌}
+use Rattle.std.specs.Prelude.{List, [], ◌++◌, Bool, true, false, not, ◌&&◌, ◌||◌, cond, ◌≡◌, ◌⊎◌}
 use Rattle.wcv_core.specs.Names.{Name, same, member}
 use Rattle.wcv_types.specs.Tree.{Head, resource, instance, component, Tree, node, Parts, none, part, firsts}
 
@@ -8,6 +8,12 @@ abbrev pub owns : {I : Type 0} → Head Name I → Name → Bool
 owns (instance i own) r = member r own
 owns (component i ins outs) r = member r (firsts ins) || member r (firsts outs)
 owns _ r = false
+
+-- the resources that a node owns
+abbrev pub owned_by : {R I : Type 0} → Head R I → List R
+owned_by (instance i own) = own
+owned_by (component i ins outs) = firsts ins ++ firsts outs
+owned_by h = []
 
 -- the node itself is a reference to the resource
 abbrev pub RefersTo : {I : Type 0} → Name → Head Name I → Type 0

@@ -1,7 +1,7 @@
 -- A tree with identities aside, and with its free resources read by a function.
 use Rattle.std.specs.Prelude.{cond, map}
 use Rattle.wcv_core.specs.Names.{Name}
-use Rattle.wcv_types.specs.Tree.{Head, nothing, primitive, resource, defined, func, instance, component, type_entity, Former, named, Tree, node, Parts, none, part}
+use Rattle.wcv_types.specs.Tree.{Head, nothing, primitive, resource, defined, func, instance, component, type_entity, core_module, core_instance, core_type, core_item, Former, named, Tree, node, Parts, none, part}
 use Rattle.wcv_types.specs.Rename.{rename_paths}
 use Rattle.wcv_types.specs.Resources.{owns}
 
@@ -29,6 +29,10 @@ seen_head f (func i b) = func tt b
 seen_head f (instance i own) = instance tt (map inner own)
 seen_head f (component i ins outs) = component tt (rename_paths inner ins) (rename_paths inner outs)
 seen_head f type_entity = type_entity
+seen_head f (core_module i n) = core_module tt n
+seen_head f (core_instance i n) = core_instance tt n
+seen_head f (core_type i) = core_type i
+seen_head f (core_item e) = core_item e
 
 -- f reads the free resources
 abbrev mutual

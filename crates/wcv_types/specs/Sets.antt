@@ -1,11 +1,11 @@
 -- Sets of identities of types, and of resources.
 use Rattle.std.specs.Prelude.{List, [], ◌∷◌, ◌++◌, map, Bool, false, cond, eqb, ◌&&◌, All}
 use Rattle.std.specs.List.{list_any}
-use Rattle.wcv_core.specs.Names.{Name, number}
 use Rattle.wcv_types.specs.Arena.{Arena}
 use Rattle.wcv_types.specs.Entities.{any_part}
 use Rattle.wcv_types.specs.Identity.{Identity}
 use Rattle.wcv_types.specs.Standing.{Stands, identity_of}
+pub use Rattle.wcv_types.specs.Unfold.{resource_names}
 use Rattle.wcv_types.specs.declared.ids.ComponentAnyTypeId.{ComponentAnyTypeId}
 use Rattle.wcv_types.specs.declared.ids.ComponentAnyTypeId.TheVariants as any
 use Rattle.wcv_types.specs.declared.ids.ResourceId.{ResourceId}
@@ -45,6 +45,3 @@ has_resource rs r = list_any (same_resource r) rs
 -- the set with that resource, which it may have already
 abbrev pub with_resource : List ResourceId → ResourceId → List ResourceId
 with_resource rs r = cond (has_resource rs r) rs (rs ++ r ∷ [])
-
-abbrev pub resource_names : List ResourceId → List Name
-resource_names rs = map (λ r. number r.index) rs

@@ -1,23 +1,30 @@
 -- The text of a component type, which numbers nodes and resources by first appearance.
-use Rattle.std.specs.Prelude.{ℕ, List, [], ◌∷◌, ◌++◌, length, Bool, false, cond, codes, Option, Some, None}
+use Rattle.std.specs.Prelude.{ℕ, zero, suc, eqb, List, [], ◌∷◌, ◌++◌, length, Bool, false, cond, codes, Option, Some, None}
 use Rattle.std.specs.Fmt.{decimal}
+use Rattle.std.specs.List.{fold}
+use Rattle.wcv_core.specs.CoreForm.{Group}
 use Rattle.wcv_core.specs.Names.{Name, same}
 use Rattle.wcv_core.specs.declared.primitive.PrimitiveValType.{PrimitiveValType}
 use Rattle.wcv_core.specs.declared.primitive.PrimitiveValType.TheVariants as prim
-use Rattle.wcv_types.specs.Tree.{Text, Extern_name, Former, named, record_of, variant_of, list_of, map_of, tuple_of, option_of, result_of, own_of, borrow_of, future_of, stream_of, fixed_list_of, flags_of, enum_of, Head, nothing, primitive, resource, defined, func, instance, component, type_entity, here, label, import, export, Tree, node, Parts, none, part, head, rest_parts, created, referenced}
+use Rattle.wcv_types.specs.Tree.{Text, Extern_name, Former, named, record_of, variant_of, list_of, map_of, tuple_of, option_of, result_of, own_of, borrow_of, future_of, stream_of, fixed_list_of, flags_of, enum_of, Head, nothing, primitive, resource, defined, func, instance, component, type_entity, here, label, import, export, core_module, core_instance, core_type, core_item, core_import, core_export, Tree, node, Parts, none, part, head, rest_parts, created, referenced}
 use Rattle.wcv_types.specs.Identity.{Identity, of_node, of_reference, identity_at, same_identity}
 use Rattle.wcv_types.specs.Positions.{position_of, is_there}
+use Rattle.wcv_types.specs.CoreText.{core_type_text, group_text, item_text, item_ids, group_first, group_at, older_ids}
+pub use Rattle.wcv_types.specs.Quoting.{listed}
 use Rattle.wcv_types.specs.Quoting.{quoted}
 
--- which nodes have a line and which resources have a number, in order, and the text so far
+-- the table of core types, which core groups and which nodes have a line and which resources have a number, in order, and the text so far
 pub record Written : Type 0 where
+  pub core : List Group
+  -- by their first ids
+  pub groups : List ℕ
   pub nodes : List Identity
   pub resources : List Name
   pub text : Text
 
 -- the beginning
-abbrev pub nothing_written : Written
-nothing_written = record { nodes = []; resources = []; text = [] }
+abbrev pub nothing_written : List Group → Written
+nothing_written gs = record { core = gs; groups = []; nodes = []; resources = []; text = [] }
 
 -- the name of a primitive type
 abbrev pub primitive_name : PrimitiveValType → Text
@@ -56,6 +63,10 @@ mention_head w (func i b) = node_number w (of_node i)
 mention_head w (instance i own) = node_number w (of_node i)
 mention_head w (component i ins outs) = node_number w (of_node i)
 mention_head w type_entity = []
+mention_head w (core_module i n) = node_number w (of_node i)
+mention_head w (core_instance i n) = node_number w (of_node i)
+mention_head w (core_type i) = core_type_text w.core w.groups i
+mention_head w (core_item e) = item_text w.core w.groups e
 
 -- a tree as a line mentions it
 abbrev pub mention : Written → Tree Name Name → Text
@@ -67,6 +78,7 @@ entity_text w (func i b) t = codes "func " ++ mention w t
 entity_text w type_entity t = codes "type " ++ mention w (created t) ++ codes " of " ++ mention w (referenced t)
 entity_text w (instance i own) t = codes "instance " ++ mention w t
 entity_text w (component i ins outs) t = codes "component " ++ mention w t
+entity_text w (core_module i n) t = codes "module " ++ mention w t
 entity_text w h t = codes "value " ++ mention w t
 
 -- a text that a name says beside it, behind a word, where it is there
@@ -93,11 +105,6 @@ path_text w word r path = word ++ resource_number w r ++ codes " [" ++ positions
 
 -- ## Lists in braces
 
--- texts one after another, the first behind `before`, each further one behind a comma and a space
-abbrev pub listed : Text → List Text → Text
-listed before [] = []
-listed before (x ∷ xs) = before ++ x ++ listed (codes ", ") xs
-
 -- a parameter or a field, behind what separates it
 abbrev pub param_text : Text → Text → Text → Text
 param_text before n v = before ++ quoted n ++ codes " " ++ v
@@ -109,6 +116,8 @@ params_text w before (part (label n) t ps) = param_text before n (mention w t) +
 params_text w before (part here t ps) = codes "} -> " ++ mention w t
 params_text w before (part (import n) t ps) = []
 params_text w before (part (export n) t ps) = []
+params_text w before (part (core_import m n) t ps) = []
+params_text w before (part (core_export n) t ps) = []
 
 -- the type of a case, behind a space, where it has one
 abbrev pub payload_text : Written → Head Name Name → Text
@@ -143,6 +152,8 @@ entry_texts w (part (import n) t ps) = entry_text w (codes "import ") n t ∷ en
 entry_texts w (part (export n) t ps) = entry_text w (codes "export ") n t ∷ entry_texts w ps
 entry_texts w (part (label n) t ps) = entry_texts w ps
 entry_texts w (part here t ps) = entry_texts w ps
+entry_texts w (part (core_import m n) t ps) = (codes "import " ++ quoted m ++ codes " " ++ quoted n ++ codes " " ++ mention w t) ∷ entry_texts w ps
+entry_texts w (part (core_export n) t ps) = (codes "export " ++ quoted n ++ codes " " ++ mention w t) ∷ entry_texts w ps
 
 -- resources and their paths
 abbrev pub path_texts : Written → Text → List (Name × List ℕ) → List Text
@@ -191,6 +202,10 @@ abbrev pub component_text : Written → List (Name × List ℕ) → List (Name �
 component_text w ins outs ps =
     codes "component {" ++ listed [] (entry_texts w ps ++ path_texts w (codes "imported ") ins ++ path_texts w (codes "defined ") outs) ++ codes "}"
 
+-- a core module, from what it imports and exports
+abbrev pub core_module_text : Written → Parts Name Name → Text
+core_module_text w ps = codes "module {" ++ listed [] (entry_texts w ps) ++ codes "}"
+
 -- the form of a node
 abbrev pub form_text : Written → Head Name Name → Parts Name Name → Text
 form_text w (resource r s) ps = codes "resource " ++ resource_number w r
@@ -198,6 +213,7 @@ form_text w (defined i k) ps = defined_text w k ps
 form_text w (func i b) ps = func_text w b ps
 form_text w (instance i own) ps = instance_text w own ps
 form_text w (component i ins outs) ps = component_text w ins outs ps
+form_text w (core_module i n) ps = core_module_text w ps
 form_text w h ps = []
 
 -- ## Lines
@@ -235,9 +251,36 @@ func_line w async ps = line_text (length w.nodes) (func_text w async ps)
 abbrev pub with_line : Written → Identity → Head Name Name → Parts Name Name → Written
 with_line w i h ps = record w { nodes = w.nodes ++ i ∷ []; text = w.text ++ line_text (length w.nodes) (form_text w h ps) }
 
--- a line where there is an identity
+-- the core group that the type stands in has a line
+abbrev pub has_group : Written → ℕ → Bool
+has_group w i = is_there eqb (group_first w.core i) w.groups
+
+-- its line
+abbrev pub with_group : Written → ℕ → Written
+with_group w i = record w { groups = w.groups ++ group_first w.core i ∷ []; text = w.text ++ codes "g" ++ line_text (length w.groups) (group_text w.core w.groups (group_at w.core i)) }
+
+-- its line, where it has none
+abbrev pub with_new_group : Written → ℕ → Written
+with_new_group w i = cond (has_group w i) w (with_group w i)
+
+-- Lines for the core group that the type stands in and, before it, for the older ones that it names, where they have none yet. The types of older groups have smaller ids; k is more than i.
+abbrev pub write_group : ℕ → Written → ℕ → Written
+write_group zero w i = w
+write_group (suc k) w i = cond (has_group w i) w (with_new_group (fold (write_group k) w (older_ids w.core i)) i)
+
+-- so for each of these types
+abbrev pub write_groups : Written → List ℕ → Written
+write_groups w is = fold (λ v i. write_group (suc i) v i) w is
+
+-- those that a core item names
+abbrev pub write_core : Written → Head Name Name → Written
+write_core w (core_item e) = write_groups w (item_ids e)
+write_core w (core_type i) = write_groups w (i ∷ [])
+write_core w h = w
+
+-- a line where there is an identity, and those of core groups where a core item stands
 abbrev pub line_if : Written → Option Identity → Head Name Name → Parts Name Name → Written
-line_if w None h ps = w
+line_if w None h ps = write_core w h
 line_if w (Some i) h ps = with_line (with_resources w h) i h ps
 
 -- the identity has a line
@@ -267,6 +310,8 @@ write_entries w (part (import n) t ps) = write_entries (entry_line (write w t) (
 write_entries w (part (export n) t ps) = write_entries (entry_line (write w t) (codes "export ") n t) ps
 write_entries w (part (label n) t ps) = write_entries w ps
 write_entries w (part here t ps) = write_entries w ps
+write_entries w (part (core_import m n) t ps) = write_entries w ps
+write_entries w (part (core_export n) t ps) = write_entries w ps
 
 -- a line of the whole text for a resource and its path
 abbrev pub path_line : Written → Text → Name → List ℕ → Written
@@ -278,10 +323,10 @@ write_paths word w [] = w
 write_paths word w (p ∷ ps) = write_paths word (path_line (with_resource w p.0) word p.0 p.1) ps
 
 -- entries, then imported resources, then defined ones
-abbrev pub write_component : Head Name Name → Parts Name Name → Written
-write_component (component i ins outs) ps = write_paths (codes "defined ") (write_paths (codes "imported ") (write_entries nothing_written ps) ins) outs
-write_component h ps = nothing_written
+abbrev pub write_component : List Group → Head Name Name → Parts Name Name → Written
+write_component gs (component i ins outs) ps = write_paths (codes "defined ") (write_paths (codes "imported ") (write_entries (nothing_written gs) ps) ins) outs
+write_component gs h ps = nothing_written gs
 
--- the text of a component type
-abbrev pub type_text : Tree Name Name → Text
-type_text (node h ps) = (write_component h ps).text
+-- the text of a component type, over a table of core types
+abbrev pub type_text : List Group → Tree Name Name → Text
+type_text gs (node h ps) = (write_component gs h ps).text

@@ -1,5 +1,6 @@
 -- Type trees of components. R is the type of resources, I that of identities and stamps.
 use Rattle.std.specs.Prelude.{ℕ, List, [], ◌∷◌, Bool, Option, None}
+use Rattle.wcv_core.specs.declared.core_types.EntityType.{EntityType}
 use Rattle.wcv_core.specs.declared.primitive.PrimitiveValType.{PrimitiveValType}
 
 -- the bytes of a text
@@ -44,6 +45,14 @@ pub data Head (R I : Type 0) : Type 0 where
   component : I → List (R × List ℕ) → List (R × List ℕ) → Head R I
   -- a type entity: its parts are the created and the referenced node
   type_entity : Head R I
+  -- the type of a core module, and its size, since what a core function counts is read in the table of core types
+  core_module : I → ℕ → Head R I
+  -- that of a core instance
+  core_instance : I → ℕ → Head R I
+  -- a core type, by its id in the table
+  core_type : ℕ → Head R I
+  -- what a core module imports or exports
+  core_item : EntityType → Head R I
 
 -- what a part is to its node
 pub data Role : Type 0 where
@@ -52,6 +61,9 @@ pub data Role : Type 0 where
   -- a field, a case or a parameter
   label : Text → Role
   import export : Extern_name → Role
+  -- of a core module: under the name of a module and a name in it, and under a name
+  core_import : Text → Text → Role
+  core_export : Text → Role
 
 -- a node and its parts, each in its role
 mutual
@@ -102,11 +114,30 @@ instance_type i owned es = node (instance i owned) (entries export es none)
 abbrev pub component_type : {R I : Type 0} → I → List (R × List ℕ) → List (R × List ℕ) → List (Extern_name × Tree R I) → List (Extern_name × Tree R I) → Tree R I
 component_type i imported made ins outs = node (component i imported made) (entries import ins (entries export outs none))
 
+-- what a core module imports, before other parts
+abbrev pub core_imports : {R I : Type 0} → List ((Text × Text) × EntityType) → Parts R I → Parts R I
+core_imports [] rest = rest
+core_imports (i ∷ is) rest = part (core_import i.0.0 i.0.1) (node (core_item i.1) none) (core_imports is rest)
+
+-- what it exports, before other parts
+abbrev pub core_exports : {R I : Type 0} → List (Text × EntityType) → Parts R I → Parts R I
+core_exports [] rest = rest
+core_exports (e ∷ es) rest = part (core_export e.0) (node (core_item e.1) none) (core_exports es rest)
+
+-- a core module, from its size, its imports and its exports
+abbrev pub module_type : {R I : Type 0} → I → ℕ → List ((Text × Text) × EntityType) → List (Text × EntityType) → Tree R I
+module_type i n ins outs = node (core_module i n) (core_imports ins (core_exports outs none))
+
+-- a core type
+abbrev pub sub_type : {R I : Type 0} → ℕ → Tree R I
+sub_type i = node (core_type i) none
+
 -- ## Views
 
 -- what a tree can be
 pub data Sort : Type 0 where
   is_nothing is_value is_resource is_func is_instance is_component is_type : Sort
+  is_module is_core_instance is_core_type is_core_item : Sort
 
 -- the root of the tree, without its parts
 abbrev pub head : {R I : Type 0} → Tree R I → Head R I
@@ -126,6 +157,10 @@ sort_at (func i b) = is_func
 sort_at (instance i owned) = is_instance
 sort_at (component i ins outs) = is_component
 sort_at type_entity = is_type
+sort_at (core_module i n) = is_module
+sort_at (core_instance i n) = is_core_instance
+sort_at (core_type i) = is_core_type
+sort_at (core_item e) = is_core_item
 
 -- the sort of the tree
 abbrev pub sort : {R I : Type 0} → Tree R I → Sort

@@ -1,18 +1,28 @@
 -- The tree that a node of the arena stands for.
 use Rattle.std.specs.Prelude.{ℕ, suc, min, ◌≡◌, Bool, true, false, List, [], ◌∷◌, ◌++◌, map, length, slice_get, slice_index_or, Option, Some, None}
 use Rattle.wcv_core.specs.Names.{Name, number, stamp}
+use Rattle.wcv_core.specs.declared.core_types.EntityType.{EntityType}
 use Rattle.wcv_core.specs.declared.primitive.PrimitiveValType.{PrimitiveValType}
-use Rattle.wcv_types.specs.Tree.{Text, Former, named, record_of, variant_of, list_of, map_of, tuple_of, option_of, result_of, own_of, borrow_of, future_of, stream_of, fixed_list_of, flags_of, enum_of, Head, nothing, defined, func, Role, here, label, Tree, node, Parts, none, part, primitive_type, resource_type, type_of}
+use Rattle.wcv_types.specs.Tree.{Text, Extern_name, Former, named, record_of, variant_of, list_of, map_of, tuple_of, option_of, result_of, own_of, borrow_of, future_of, stream_of, fixed_list_of, flags_of, enum_of, Head, nothing, defined, func, instance, component, core_module, core_instance, core_item, Role, here, label, import, export, core_import, core_export, Tree, node, Parts, none, part, primitive_type, resource_type, sub_type, type_of}
 use Rattle.wcv_types.specs.Measure.{size, depth}
 use Rattle.wcv_types.specs.Arena.{Arena}
 use Rattle.wcv_types.specs.declared.arena.Node.{Node}
 use Rattle.wcv_types.specs.declared.arena.Node.TheVariants as n
 use Rattle.wcv_types.specs.declared.ids.AliasableResourceId.{AliasableResourceId}
+use Rattle.wcv_types.specs.declared.core_shapes.CoreInstanceTypeKind.{CoreInstanceTypeKind}
+use Rattle.wcv_types.specs.declared.core_shapes.CoreInstanceTypeKind.TheVariants as kind
+use Rattle.wcv_types.specs.declared.core_shapes.ModuleType.{ModuleType}
+use Rattle.wcv_types.specs.declared.ids.ComponentAnyTypeId.{ComponentAnyTypeId}
+use Rattle.wcv_types.specs.declared.ids.ComponentAnyTypeId.TheVariants as any
 use Rattle.wcv_types.specs.declared.ids.Part.{Part}
 use Rattle.wcv_types.specs.declared.ids.Part.TheVariants as p
+use Rattle.wcv_types.specs.declared.ids.ResourceId.{ResourceId}
 use Rattle.wcv_types.specs.declared.info.TypeInfo.{TypeInfo}
+use Rattle.wcv_types.specs.declared.item_map.ComponentItem.{ComponentItem}
 use Rattle.wcv_types.specs.declared.shapes.ComponentDefinedType.{ComponentDefinedType}
 use Rattle.wcv_types.specs.declared.shapes.ComponentDefinedType.TheVariants as d
+use Rattle.wcv_types.specs.declared.shapes.ComponentEntityType.{ComponentEntityType}
+use Rattle.wcv_types.specs.declared.shapes.ComponentEntityType.TheVariants as entity
 use Rattle.wcv_types.specs.declared.shapes.ComponentValType.{ComponentValType}
 use Rattle.wcv_types.specs.declared.shapes.ComponentValType.TheVariants as v
 
@@ -62,6 +72,8 @@ pub data Slot : Type 0 where
   at : Part → Slot
   -- a type entity, from its created and its referenced part
   both : Part → Part → Slot
+  -- what a core module imports or exports. The core types that it names are no parts: nothing takes their place
+  core : EntityType → Slot
 
 -- what stands among the parts, each in its role
 abbrev pub Slots : Type 0
@@ -133,21 +145,81 @@ defined_slots (d.Own r) = (here, at (p.Resource r)) ∷ []
 defined_slots (d.Borrow r) = (here, at (p.Resource r)) ∷ []
 defined_slots s = value_slots (value_parts s)
 
+-- ## Entities
+
+abbrev pub any_part : ComponentAnyTypeId → Part
+any_part (any.Resource r) = p.Resource r
+any_part (any.Defined i) = p.Defined i
+any_part (any.Func i) = p.Func i
+any_part (any.Instance i) = p.Instance i
+any_part (any.Component i) = p.Component i
+
+-- what stands where an entity stands
+abbrev pub entity_slot : ComponentEntityType → Slot
+entity_slot (entity.Module i) = at (p.Module i)
+entity_slot (entity.Func i) = at (p.Func i)
+entity_slot (entity.Value v) = value_slot v
+entity_slot (entity.Ty c r) = both (any_part c) (any_part r)
+entity_slot (entity.Instance i) = at (p.Instance i)
+entity_slot (entity.Component i) = at (p.Component i)
+
+-- the whole name of an entry
+abbrev pub entry_name : Text × ComponentItem → Extern_name
+entry_name e = record { name = e.0; implements = e.1.implements; version_suffix = e.1.version_suffix; external_id = e.1.external_id }
+
+-- imports or exports
+abbrev pub entry_slots : (Extern_name → Role) → List (Text × ComponentItem) → Slots
+entry_slots role es = map (λ e. (role (entry_name e), entity_slot e.1.ty)) es
+
+abbrev pub resource_names : List ResourceId → List Name
+resource_names rs = map (λ r. number r.index) rs
+
+-- a resource and the place where it stands
+abbrev pub resource_path : ResourceId × List ℕ → Name × List ℕ
+resource_path r = (number r.0.index, r.1)
+
+-- ## Core modules and core instances
+
+abbrev pub core_import_slots : List ((Text × Text) × EntityType) → Slots
+core_import_slots is = map (λ i. (core_import i.0.0 i.0.1, core i.1)) is
+
+abbrev pub core_export_slots : List (Text × EntityType) → Slots
+core_export_slots es = map (λ e. (core_export e.0, core e.1)) es
+
+abbrev pub module_slots : ModuleType → Slots
+module_slots s = core_import_slots s.imports ++ core_export_slots s.exports
+
+-- one that was made of a module has it as its part
+abbrev pub kind_slots : CoreInstanceTypeKind → Slots
+kind_slots (kind.Instantiated m) = (here, at (p.Module m)) ∷ []
+kind_slots (kind.Exports es) = core_export_slots es
+
+-- ## Nodes
+
 -- the node at the place k, without its parts
 abbrev pub head_of : ℕ → Node → Head Name Name
 head_of k (n.Defined s) = defined (number k) (former_of s)
 head_of k (n.Func s) = func (number k) s.async_
+head_of k (n.Instance s) = instance (number k) (resource_names s.defined_resources)
+head_of k (n.Component s) = component (number k) (map resource_path s.imported_resources) (map resource_path s.defined_resources)
+head_of k (n.Module s) = core_module (number k) s.info.size
+head_of k (n.CoreInstance s) = core_instance (number k) s.info.size
 
 -- what the node is made of
 abbrev pub slots_of : Node → Slots
 slots_of (n.Defined s) = defined_slots s
 slots_of (n.Func s) = field_slots s.params.items ((here, option_slot s.result) ∷ [])
+slots_of (n.Instance s) = entry_slots export s.exports
+slots_of (n.Component s) = entry_slots import s.imports ++ entry_slots export s.exports
+slots_of (n.Module s) = module_slots s
+slots_of (n.CoreInstance s) = kind_slots s.kind
 
 -- the parts that a slot names
 abbrev pub slot_refs : Slot → List Part
 slot_refs (leaf o) = []
 slot_refs (at q) = q ∷ []
 slot_refs (both c r) = c ∷ r ∷ []
+slot_refs (core e) = []
 
 -- the parts that the slots name, in order
 abbrev pub parts_in : Slots → List Part
@@ -194,10 +266,10 @@ leaf_tree (Some q) = primitive_type q
 abbrev pub tree_in : List Type_tree → ℕ → Type_tree
 tree_in ts k = slice_index_or ts k left_out
 
--- the tree of a part, over the trees of the nodes; core types are not unfolded yet
+-- the tree of a part, over the trees of the nodes
 abbrev pub part_tree : List Type_tree → Part → Type_tree
 part_tree ts (p.Resource r) = reference r
-part_tree ts (p.Core i) = left_out
+part_tree ts (p.Core i) = sub_type i.index
 part_tree ts q = tree_in ts (place q)
 
 -- the tree of what stands at a place among the parts
@@ -205,6 +277,7 @@ abbrev pub slot_tree : List Type_tree → Slot → Type_tree
 slot_tree ts (leaf o) = leaf_tree o
 slot_tree ts (at q) = part_tree ts q
 slot_tree ts (both c r) = type_of (part_tree ts c) (part_tree ts r)
+slot_tree ts (core e) = node (core_item e) none
 
 -- the trees of the slots, in their roles
 abbrev pub slot_parts : List Type_tree → Slots → Parts Name Name
@@ -238,6 +311,10 @@ unfolded a k x = node (head_of k x) (slot_parts (trees a.nodes) (slots_of x))
 abbrev pub info_of : Node → Option TypeInfo
 info_of (n.Defined s) = None
 info_of (n.Func s) = Some s.info
+info_of (n.Instance s) = Some s.info
+info_of (n.Component s) = Some s.info
+info_of (n.Module s) = Some s.info
+info_of (n.CoreInstance s) = Some s.info
 
 -- a number as an info keeps it
 abbrev pub capped : ℕ → ℕ

@@ -9,7 +9,7 @@ use std::alloc::Global;
 use wcv_core::{OutOfMemory, Text};
 
 /// A copy of the text.
-fn copy_text(alloc: Global, text: &Text) -> Result<Text, OutOfMemory>
+pub fn copy_text(alloc: Global, text: &Text) -> Result<Text, OutOfMemory>
     ensures { IfOk result (λ t. t ≡ text.now) }
 {
     Text::new(alloc, text.as_str())

@@ -1,5 +1,5 @@
 // The arena of types.
-ghost use Rattle.std.specs.Prelude.{◌≡◌, suc, ◌+◌, ◌<◌, List, [], ◌∷◌, length, slice_get, Some, All, OnOk, OnErr, IfOk};
+ghost use Rattle.std.specs.Prelude.{◌≡◌, ℕ, suc, ◌+◌, ◌<◌, List, [], ◌∷◌, length, slice_get, Some, All, OnOk, OnErr, IfOk};
 ghost use Rattle.wcv_types.specs.Abi.{IsAbiOf};
 ghost use Rattle.wcv_types.specs.Entities.{SlotStands};
 ghost use Rattle.wcv_types.specs.Facts.{IsFactsOf};
@@ -12,30 +12,38 @@ ghost use Rattle.wcv_types.specs.Unfold.{place, rank, parts_of, slot_tree, tree_
 ghost use Rattle.wcv_types.specs.Standing.{Stands, StandsBefore, Fits, KeepsTrees, with_node};
 
 use crate::abi::AbiInfo;
+use crate::component_type::ComponentType;
+use crate::core_shapes::{InstanceType, ModuleType};
 use crate::defined_facts::value_facts;
 use crate::facts::Facts;
 use crate::ids::{AliasableResourceId, ComponentFuncTypeId, ResourceId};
+use crate::instance_type::ComponentInstanceType;
 use crate::nodes::Nodes;
 use crate::shapes::{ComponentDefinedType, ComponentFuncType, ComponentValType};
 use crate::sorts::NodeSort;
 use std::alloc::Global;
 use std::marker::Model;
-use wcv_core::{OutOfMemory, WasmFeatures};
+use wcv_core::{CoreTypes, OutOfMemory, WasmFeatures};
 
 /// A node of the arena.
 #[derive(Drop)]
 pub enum Node {
     Defined(ComponentDefinedType),
     Func(ComponentFuncType),
+    Instance(ComponentInstanceType),
+    Component(ComponentType),
+    Module(ModuleType),
+    CoreInstance(InstanceType),
 }
 
-/// An arena of types, in which parts stand before the whole. Contracts see it as its nodes and the
-/// numbers of resources and of stamps that it gave.
+/// An arena of types, in which parts stand before the whole. Contracts see it as its nodes, the numbers of
+/// resources and of stamps that it gave, and its table of core types.
 #[derive(Drop)]
 pub struct TypeAlloc {
     pub(crate) nodes: Nodes,
     resources: Vec<ResourceId>,
     stamps: Vec<ResourceId>,
+    pub(crate) core: CoreTypes,
     features: WasmFeatures,
     alloc: Global,
 }
@@ -47,20 +55,21 @@ impl Model for TypeAlloc {
 
     ghost Value = { Arena };
 
-    ghost view = { λ a. record { nodes = a.nodes; resources = length a.resources.items; stamps = length a.stamps.items } };
+    ghost view = { λ a. record { nodes = a.nodes; resources = length a.resources.items; stamps = length a.stamps.items; core = a.core } };
 
-    ghost invariant = { λ a. AllFit (record { nodes = a.nodes; resources = length a.resources.items; stamps = length a.stamps.items }) };
+    ghost invariant = { λ a. AllFit (record { nodes = a.nodes; resources = length a.resources.items; stamps = length a.stamps.items; core = a.core }) };
 }
 
 impl TypeAlloc {
     /// An arena with no node.
     pub fn new(alloc: Global, features: WasmFeatures) -> TypeAlloc
-        ensures { result ≡ record { nodes = []; resources = 0; stamps = 0 } }
+        ensures { result ≡ record { nodes = []; resources = 0; stamps = 0; core = [] } }
     {
         TypeAlloc {
             nodes: Nodes::new(alloc),
             resources: Vec::new(alloc),
             stamps: Vec::new(alloc),
+            core: CoreTypes::new(alloc),
             features,
             alloc,
         }
@@ -100,6 +109,13 @@ impl TypeAlloc {
     /// The names in the types of the arena are those that it gave. It does nothing.
     pub fn names_given(&self)
         ensures { AllNamesGiven self.now }
+    {
+        let _ = &self.nodes;
+    }
+
+    /// What is in the arena fits it: it could be added once more. It does nothing.
+    pub(crate) fn nodes_fit(&self)
+        ensures { (k : ℕ) (x : Node) → slice_get self.now.nodes k ≡ Some x → Fits self.now x }
     {
         let _ = &self.nodes;
     }

@@ -1,5 +1,6 @@
 // The resources that are free in types.
 ghost use Rattle.std.specs.Prelude.{◌≡◌, All, OnOk, OnErr};
+ghost use Rattle.wcv_core.specs.Names.{Name};
 ghost use Rattle.wcv_types.specs.Entities.{any_part, entity_tree, entry_trees, EntityStands, EntryStands, SlotStands};
 ghost use Rattle.wcv_types.specs.Gathering.{Gains, Continues, FreeAmong, AllGathered};
 ghost use Rattle.wcv_types.specs.Resources.{Free};
@@ -8,12 +9,16 @@ ghost use Rattle.wcv_types.specs.Unfold.{option_slot, slot_tree, tree_at, trees}
 ghost use Rattle.wcv_types.specs.declared.ids.Part.TheVariants as part;
 
 use crate::arena::TypeAlloc;
-use crate::ids::{ComponentAnyTypeId, ComponentDefinedTypeId, ComponentFuncTypeId};
-use crate::item_map::ItemMap;
+use crate::ids::{
+    ComponentAnyTypeId, ComponentCoreModuleTypeId, ComponentDefinedTypeId, ComponentFuncTypeId,
+    ComponentInstanceTypeId, ComponentTypeId,
+};
+use crate::item_map::{ComponentItem, ItemMap};
 use crate::resource_set::ResourceSet;
 use crate::shapes::{ComponentEntityType, ComponentValType, node_of};
 use crate::type_set::TypeSet;
-use wcv_core::OutOfMemory;
+use crate::unowned::{free_outside, owned_resources};
+use wcv_core::{OutOfMemory, Text};
 
 /// What is free in the value type joins the set, unless the type was seen. From then on it was.
 fn free_in_value(
@@ -78,7 +83,76 @@ fn free_in_func(
     Ok(())
 }
 
+/// Nothing is free in the type of a core module. It does nothing.
+fn closed_module(types: &TypeAlloc, id: ComponentCoreModuleTypeId)
+    requires { Stands types.now (part.Module id) }
+    ensures { (r : Name) → Free r (tree_at types.now (part.Module id)) → ⊥ }
+{
+    let _ = types.get(id);
+}
+
+/// So of an instance type: what is free in its exports, and is not its own.
+#[cycle(free_below)]
+fn free_in_instance(
+    types: &TypeAlloc,
+    id: ComponentInstanceTypeId,
+    seen: &mut TypeSet,
+    free: &mut ResourceSet,
+) -> Result<(), OutOfMemory>
+    requires stands { Stands types.now (part.Instance id) }
+    requires gathered { AllGathered types.now seen.old free.old }
+    ensures ok { OnOk result (Gains (λ r. Free r (tree_at types.now (part.Instance id))) free.old free.new) }
+    ensures gathered { OnOk result (AllGathered types.now seen.new free.new) }
+    ensures err { OnErr result (Continues free.old free.new) }
+{
+    if !types.refers(id.index) {
+        return Ok(());
+    }
+    if seen.contains(&ComponentAnyTypeId::Instance(id)) {
+        return Ok(());
+    }
+    let shape = types.get(id);
+    let mut within = TypeSet::new(types.allocator());
+    let mut inside = ResourceSet::new(types.allocator());
+    free_in_entries(types, shape.exports.as_slice(), &mut within, &mut inside)?;
+    free_outside(&inside, &shape.defined_resources, free)?;
+    seen.push(ComponentAnyTypeId::Instance(id))?;
+    Ok(())
+}
+
+/// So of a component type: what is free in its imports and its exports, and is not its own.
+#[cycle(free_below)]
+fn free_in_component(
+    types: &TypeAlloc,
+    id: ComponentTypeId,
+    seen: &mut TypeSet,
+    free: &mut ResourceSet,
+) -> Result<(), OutOfMemory>
+    requires stands { Stands types.now (part.Component id) }
+    requires gathered { AllGathered types.now seen.old free.old }
+    ensures ok { OnOk result (Gains (λ r. Free r (tree_at types.now (part.Component id))) free.old free.new) }
+    ensures gathered { OnOk result (AllGathered types.now seen.new free.new) }
+    ensures err { OnErr result (Continues free.old free.new) }
+{
+    if !types.refers(id.index) {
+        return Ok(());
+    }
+    if seen.contains(&ComponentAnyTypeId::Component(id)) {
+        return Ok(());
+    }
+    let shape = types.get(id);
+    let owned = owned_resources(shape, types.allocator())?;
+    let mut within = TypeSet::new(types.allocator());
+    let mut inside = ResourceSet::new(types.allocator());
+    free_in_entries(types, shape.imports.as_slice(), &mut within, &mut inside)?;
+    free_in_entries(types, shape.exports.as_slice(), &mut within, &mut inside)?;
+    free_outside(&inside, &owned, free)?;
+    seen.push(ComponentAnyTypeId::Component(id))?;
+    Ok(())
+}
+
 /// So of a type.
+#[cycle(free_below)]
 fn free_in_type(
     types: &TypeAlloc,
     id: ComponentAnyTypeId,
@@ -100,11 +174,13 @@ fn free_in_type(
             free_in_value(types, Some(ComponentValType::Ty(id)), seen, free)
         }
         ComponentAnyTypeId::Func(id) => free_in_func(types, id, seen, free),
-        ComponentAnyTypeId::Instance(_) | ComponentAnyTypeId::Component(_) => unreachable!(),
+        ComponentAnyTypeId::Instance(id) => free_in_instance(types, id, seen, free),
+        ComponentAnyTypeId::Component(id) => free_in_component(types, id, seen, free),
     }
 }
 
 /// So of the type of what is imported or exported.
+#[cycle(free_below)]
 fn free_in_entity(
     types: &TypeAlloc,
     ty: ComponentEntityType,
@@ -118,6 +194,10 @@ fn free_in_entity(
     ensures err { OnErr result (Continues free.old free.new) }
 {
     match ty {
+        ComponentEntityType::Module(id) => {
+            closed_module(types, id);
+            Ok(())
+        }
         ComponentEntityType::Func(id) => free_in_func(types, id, seen, free),
         ComponentEntityType::Value(ty) => free_in_value(types, Some(ty), seen, free),
         ComponentEntityType::Ty {
@@ -128,10 +208,29 @@ fn free_in_entity(
             free_in_type(types, referenced, seen, free)?;
             Ok(())
         }
-        ComponentEntityType::Module(_)
-        | ComponentEntityType::Instance(_)
-        | ComponentEntityType::Component(_) => unreachable!(),
+        ComponentEntityType::Instance(id) => free_in_instance(types, id, seen, free),
+        ComponentEntityType::Component(id) => free_in_component(types, id, seen, free),
     }
+}
+
+/// So of all imports or exports.
+#[cycle(free_below)]
+fn free_in_entries(
+    types: &TypeAlloc,
+    entries: &[(Text, ComponentItem)],
+    seen: &mut TypeSet,
+    free: &mut ResourceSet,
+) -> Result<(), OutOfMemory>
+    requires stand { All (EntryStands types.now) entries.now }
+    requires gathered { AllGathered types.now seen.old free.old }
+    ensures ok { OnOk result (Gains (FreeAmong (entry_trees (trees types.now.nodes) entries.now)) free.old free.new) }
+    ensures gathered { OnOk result (AllGathered types.now seen.new free.new) }
+    ensures err { OnErr result (Continues free.old free.new) }
+{
+    for entry in entries {
+        free_in_entity(types, entry.1.ty, seen, free)?;
+    }
+    Ok(())
 }
 
 impl TypeAlloc {
@@ -174,9 +273,6 @@ impl TypeAlloc {
         ensures err { OnErr result (Continues free.old free.new) }
     {
         let mut seen = TypeSet::new(self.allocator());
-        for item in items.as_slice() {
-            free_in_entity(self, item.1.ty, &mut seen, free)?;
-        }
-        Ok(())
+        free_in_entries(self, items.as_slice(), &mut seen, free)
     }
 }

@@ -4,17 +4,30 @@
 mod abi;
 mod again;
 mod arena;
+mod component_sort;
 mod component_type;
+mod core_calls;
+mod core_instance_sort;
+mod core_maps;
+mod core_shapes;
+mod core_sort;
 mod defined_facts;
 mod defined_sort;
+mod entries_again;
+mod entry_facts;
+mod entry_parts;
+mod explicit_paths;
 mod facts;
 mod free_variables;
 mod func_facts;
 mod func_sort;
 mod ids;
 mod info;
+mod instance_sort;
+mod instance_type;
 mod item_map;
 mod layout;
+mod module_sort;
 mod named_contents;
 mod named_types;
 mod nodes;
@@ -29,8 +42,10 @@ mod sorts;
 mod store;
 mod sum;
 mod type_set;
+mod unowned;
 
 ghost use Rattle.std.specs.Prelude.{◌≡◌, ◌⊎◌, ℕ, List, Contains, true, false, Some, None};
+ghost use Rattle.wcv_core.specs.CoreForm.{Group};
 ghost use Rattle.wcv_core.specs.Names.{Name, number};
 ghost use Rattle.wcv_types.specs.Arena.{Arena};
 ghost use Rattle.wcv_types.specs.Identity.{Identity, of_node};
@@ -52,12 +67,15 @@ ghost use Rattle.wcv_types.specs.declared.ids.Part.{Part};
 pub use abi::AbiInfo;
 pub use arena::{Node, TypeAlloc};
 pub use component_type::{ComponentType, Paths};
+pub use core_maps::{ExportMap, ImportMap};
+pub use core_shapes::{CoreInstanceTypeKind, InstanceType, ModuleType};
 pub use ids::{
     AliasableResourceId, ComponentAnyTypeId, ComponentCoreInstanceTypeId,
     ComponentCoreModuleTypeId, ComponentCoreTypeId, ComponentDefinedTypeId, ComponentFuncTypeId,
     ComponentInstanceTypeId, ComponentTypeId, Part, ResourceId,
 };
 pub use info::TypeInfo;
+pub use instance_type::ComponentInstanceType;
 pub use item_map::{ComponentItem, ItemMap};
 pub use parts::Parts;
 pub use resource_set::ResourceSet;
@@ -69,7 +87,7 @@ pub use type_set::TypeSet;
 /// Types that are equal up to renaming of resources and of identities have one text.
 #[tactic(auto, using(crate::proofs::SameText::same_text))]
 pub fn equal_types_have_one_text()
-    ensures { (s t : Tree Name Name) → UpToRenaming s t → type_text s ≡ type_text t }
+    ensures { (gs : List Group) (s t : Tree Name Name) → UpToRenaming s t → type_text gs s ≡ type_text gs t }
 {}
 
 /// Each type is equal to itself up to renaming.

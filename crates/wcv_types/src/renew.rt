@@ -8,6 +8,7 @@ ghost use Rattle.wcv_types.specs.Standing.{Stands};
 use crate::arena::TypeAlloc;
 use crate::ids::{
     AliasableResourceId, ComponentAnyTypeId, ComponentDefinedTypeId, ComponentFuncTypeId,
+    ComponentInstanceTypeId, ComponentTypeId,
 };
 use wcv_core::OutOfMemory;
 
@@ -35,7 +36,14 @@ impl TypeAlloc {
                 let index = self.add_again(id.index)?;
                 Ok(ComponentAnyTypeId::Func(ComponentFuncTypeId { index }))
             }
-            ComponentAnyTypeId::Instance(_) | ComponentAnyTypeId::Component(_) => unreachable!(),
+            ComponentAnyTypeId::Instance(id) => {
+                let index = self.add_again(id.index)?;
+                Ok(ComponentAnyTypeId::Instance(ComponentInstanceTypeId { index }))
+            }
+            ComponentAnyTypeId::Component(id) => {
+                let index = self.add_again(id.index)?;
+                Ok(ComponentAnyTypeId::Component(ComponentTypeId { index }))
+            }
         }
     }
 }

@@ -1,6 +1,7 @@
 // Sets of resources.
-ghost use Rattle.std.specs.Prelude.{◌≡◌, [], length, slice_get, option_copied, OnOk, OnErr};
-ghost use Rattle.wcv_types.specs.Sets.{has_resource, with_resource};
+ghost use Rattle.std.specs.Prelude.{◌≡◌, [], length, slice_get, option_copied, IfOk, OnOk, OnErr};
+ghost use Rattle.std.specs.List.{IsDistinct};
+ghost use Rattle.wcv_types.specs.Sets.{same_resource, has_resource, with_resource};
 
 use crate::ids::ResourceId;
 use indexmap::IndexSet;
@@ -44,9 +45,10 @@ impl ResourceSet {
         }
     }
 
-    /// How many there are.
+    /// How many there are. No two of them are one.
     pub fn len(&self) -> usize
-        ensures { result ≡ length self.now }
+        ensures value { result ≡ length self.now }
+        ensures unique { IsDistinct same_resource self.now }
     {
         self.ids.len()
     }
@@ -63,5 +65,18 @@ impl ResourceSet {
         ensures { result ≡ has_resource self.now entry.now }
     {
         self.ids.contains(entry)
+    }
+
+    /// An equal set.
+    pub fn copy(&self, alloc: Global) -> Result<ResourceSet, OutOfMemory>
+        ensures { IfOk result (λ copied. copied ≡ self.now) }
+    {
+        let mut copied = ResourceSet::new(alloc);
+        let ids = self.ids.as_slice();
+        for id in ids {
+            let entry = *id;
+            copied.push(entry)?;
+        }
+        Ok(copied)
     }
 }

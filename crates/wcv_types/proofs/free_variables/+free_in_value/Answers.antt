@@ -7,7 +7,8 @@ use Rattle.wcv_types.specs.declared.ids.ComponentAnyTypeId.{ComponentAnyTypeId}
 use Rattle.wcv_types.specs.declared.ids.ComponentAnyTypeId.TheVariants as any
 use Rattle.wcv_types.specs.declared.ids.Part.TheVariants as p
 use Rattle.wcv_types.specs.declared.shapes.ComponentValType.TheVariants as v
-use Rattle.wcv_types.proofs.Gathered.{closed, gains_held, gains_node, gains_handle, gains_value, gains_values, seen_gathered, gathered_kept, gathered_push}
+use Rattle.wcv_types.proofs.Gaining.{gains_held}
+use Rattle.wcv_types.proofs.Gathered.{closed, gains_node, gains_handle, gains_value, gains_values, seen_gathered, gathered_kept, gathered_push}
 use Rattle.wcv_types.proofs.NamedBySet.{value_rank, value_before, is_node}
 use Rattle.wcv_types.proofs.free_variables.+free_in_value.Goals as goal
 

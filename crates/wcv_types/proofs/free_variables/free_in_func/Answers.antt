@@ -8,7 +8,8 @@ use Rattle.wcv_types.specs.declared.ids.ComponentAnyTypeId.{ComponentAnyTypeId}
 use Rattle.wcv_types.specs.declared.ids.ComponentAnyTypeId.TheVariants as any
 use Rattle.wcv_types.specs.declared.ids.Part.TheVariants as p
 use Rattle.wcv_types.specs.declared.shapes.ComponentValType.{ComponentValType}
-use Rattle.wcv_types.proofs.Gathered.{closed, gains_held, gains_param, gains_result, seen_gathered, gathered_push, param_before, result_before}
+use Rattle.wcv_types.proofs.Gaining.{gains_held}
+use Rattle.wcv_types.proofs.Gathered.{closed, gains_param, gains_result, seen_gathered, gathered_push, param_before, result_before}
 use Rattle.wcv_types.proofs.free_variables.free_in_func.Goals as goal
 
 pub returns-then-not-refers-clause-ok : goal.returns-then-not-refers-clause-ok

@@ -1,18 +1,18 @@
-use Rattle.std.proofs.Common.{rules, length, ◌≤◌}
+use Rattle.std.proofs.Common.{rules, length, ◌≤◌, refl}
 use Rattle.wcv_types.specs.Arena.{Arena}
-use Rattle.wcv_types.proofs.Grown.{all_fit_more}
+use Rattle.wcv_types.proofs.Grown.{all_fit_more, more_given}
 use Rattle.wcv_types.proofs.arena.TypeAlloc.add_stamp.Goals as goal
 
 pub invariant_of-self : goal.invariant_of-self
 invariant_of-self c =
-    let a : Arena = record { nodes = c.self.inside.nodes; resources = length c.self.inside.resources.items; stamps = length c.self.inside.stamps.items } in
+    let a : Arena = record { nodes = c.self.inside.nodes; resources = length c.self.inside.resources.items; stamps = length c.self.inside.stamps.items; core = c.self.inside.core } in
     let l : length c.self.inside.resources.items ≤ length c.self.inside.resources.items = search rules in
     let m : length c.self.inside.stamps.items ≤ length c.push.new.self.items = search rules in
-    all_fit_more a (length c.self.inside.resources.items) (length c.push.new.self.items) l m c.self.invariant
+    all_fit_more a _ (more_given a (length c.self.inside.resources.items) (length c.push.new.self.items) l m) refl c.self.invariant
 
 pub invariant_of-self-2 : goal.invariant_of-self-2
 invariant_of-self-2 c =
-    let a : Arena = record { nodes = c.self.inside.nodes; resources = length c.self.inside.resources.items; stamps = length c.self.inside.stamps.items } in
+    let a : Arena = record { nodes = c.self.inside.nodes; resources = length c.self.inside.resources.items; stamps = length c.self.inside.stamps.items; core = c.self.inside.core } in
     let l : length c.self.inside.resources.items ≤ length c.self.inside.resources.items = search rules in
     let m : length c.self.inside.stamps.items ≤ length c.push.new.self.items = search rules in
-    all_fit_more a (length c.self.inside.resources.items) (length c.push.new.self.items) l m c.self.invariant
+    all_fit_more a _ (more_given a (length c.self.inside.resources.items) (length c.push.new.self.items) l m) refl c.self.invariant

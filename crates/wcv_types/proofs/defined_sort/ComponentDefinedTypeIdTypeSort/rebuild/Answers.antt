@@ -1,4 +1,8 @@
 use Rattle.std.proofs.Common.{◌∙◌, subst, sym, ap}
+use Rattle.std.proofs.lemmas.List.Elements.{All-nil}
+use Rattle.wcv_core.specs.CoreGroups.{total}
+use Rattle.wcv_core.specs.CoreSizes.{IsEntityWithin}
+use Rattle.wcv_types.specs.Standing.{GaveResource}
 use Rattle.wcv_types.specs.Rebuild.{SameSorts, Fills, refill}
 use Rattle.wcv_types.specs.Unfold.{parts_in, defined_slots, slots_if}
 use Rattle.wcv_types.proofs.Rebuilding.{fills_sorts, refilled_stand, defined_made}
@@ -16,6 +20,10 @@ store-requires c =
       parts = refilled_stand c.args.types.now (defined_slots c.node.result.now) (defined_slots c.in_ok-shape.shape) c.args.parts.now sorts c.requires.refits.stand
           (c.in_ok-shape.ensures.slots ∙ ap (refill (defined_slots c.node.result.now)) c.new-left.ensures);
       info = tt;
+      owned = All-nil (GaveResource c.args.types.now);
+      led = tt;
+      within = All-nil (IsEntityWithin (total c.args.types.now.core));
+      stated = tt;
     }
 
 pub returns-clause-ok : goal.returns-clause-ok

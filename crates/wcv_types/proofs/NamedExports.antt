@@ -1,0 +1,272 @@
+-- Whether exports pass in order, where the set of what is named grows.
+use Rattle.std.proofs.Common.{◌≡◌, ℕ, suc, ◌+◌, ◌<◌, ◌≤◌, List, [], ◌∷◌, ◌++◌, length, drop, get_or, refl, sym, ◌∙◌, ap, subst, Bool, true, false, ◌&&◌, ◌||◌, cond, eqb, Some, None, drop-cons, add-one}
+use Rattle.std.specs.Prelude.{Option}
+use Rattle.std.proofs.lemmas.Bool.{false≢true, eqb-true}
+use Rattle.std.proofs.lemmas.List.Elements.{All-nil, All-cons, All-append}
+use Rattle.std.proofs.Math.ListN.{drop_of_length-le}
+use Rattle.wcv_core.specs.Names.{Name, number, stamp}
+use Rattle.wcv_types.specs.Arena.{Arena}
+use Rattle.wcv_types.specs.Entities.{any_part, entity_tree, EntityStands}
+use Rattle.wcv_types.specs.Identity.{Identity, of_node, of_reference, identity_at, same_identity}
+use Rattle.wcv_types.specs.Named.{is_in, named_by_itself, is_named, are_named, with_identity, with_created, passes, all_pass, created_passes}
+use Rattle.wcv_types.specs.NamedBySet.{with_created_type}
+use Rattle.wcv_types.specs.Sets.{same_type, has_type, with_type, AllStand, identities}
+use Rattle.wcv_types.specs.Standing.{Stands, identity_of}
+use Rattle.wcv_types.specs.Tree.{Text, export, Head, nothing, primitive, resource, defined, func, instance, component, type_entity, core_module, core_instance, core_type, core_item, Tree, node, Parts, none, part, head, parts, sort, created, is_type, is_module, is_value, is_func, is_instance, is_component}
+use Rattle.wcv_types.specs.Unfold.{Type_tree, entry_slots, head_of, slot_parts, trees, tree_at}
+use Rattle.wcv_types.specs.declared.arena.Node.TheVariants as n
+use Rattle.wcv_types.specs.declared.ids.ComponentAnyTypeId.{ComponentAnyTypeId}
+use Rattle.wcv_types.specs.declared.ids.ComponentAnyTypeId.TheVariants as any
+use Rattle.wcv_types.specs.declared.ids.ComponentCoreModuleTypeId.{ComponentCoreModuleTypeId}
+use Rattle.wcv_types.specs.declared.ids.ComponentTypeId.{ComponentTypeId}
+use Rattle.wcv_types.specs.declared.ids.Part.TheVariants as p
+use Rattle.wcv_types.specs.declared.item_map.ComponentItem.{ComponentItem}
+use Rattle.wcv_types.specs.declared.shapes.ComponentEntityType.{ComponentEntityType}
+use Rattle.wcv_types.specs.declared.shapes.ComponentEntityType.TheVariants as entity
+use Rattle.wcv_types.specs.declared.shapes.ComponentValType.TheVariants as v
+use Rattle.wcv_types.proofs.Unfolding.{head_in, sort_stands, known_any}
+
+-- ## Lists with the same members
+
+abbrev pub SameMembers : List Identity → List Identity → Type 0
+SameMembers xs ys = (i : Identity) → is_in xs i ≡ is_in ys i
+
+with_identity_by : (xs ys : List Identity) (o : Option Identity) → SameMembers xs ys → SameMembers (with_identity o xs) (with_identity o ys)
+with_identity_by xs ys None h = h
+with_identity_by xs ys (Some j) h = λ i. ap (λ (b : Bool). same_identity i j || b) (h i)
+
+with_created_by : (xs ys : List Identity) (t : Tree Name Name) → SameMembers xs ys → SameMembers (with_created xs t) (with_created ys t)
+with_created_by xs ys (node nothing ps) h = h
+with_created_by xs ys (node (primitive p) ps) h = h
+with_created_by xs ys (node (resource r s) ps) h = h
+with_created_by xs ys (node (defined i x) ps) h = h
+with_created_by xs ys (node (func i b) ps) h = h
+with_created_by xs ys (node (instance i own) ps) h = h
+with_created_by xs ys (node (component i ins outs) ps) h = h
+with_created_by xs ys (node type_entity ps) h = with_identity_by xs ys (identity_at (head (created (node type_entity ps)))) h
+with_created_by xs ys (node (core_module i n) ps) h = h
+with_created_by xs ys (node (core_instance i n) ps) h = h
+with_created_by xs ys (node (core_type c) ps) h = h
+with_created_by xs ys (node (core_item x) ps) h = h
+
+mutual
+  is_named_by : (xs ys : List Identity) (t : Tree Name Name) → SameMembers xs ys → is_named xs t ≡ is_named ys t
+  is_named_by xs ys (node nothing ps) h = refl
+  is_named_by xs ys (node (primitive p) ps) h = refl
+  is_named_by xs ys (node (resource r s) ps) h = h (of_reference r s)
+  is_named_by xs ys (node (defined i x) ps) h =
+      let a : is_in xs (of_node i) ≡ is_in ys (of_node i) = h (of_node i) in
+      let b : are_named xs ps ≡ are_named ys ps = are_named_by xs ys ps h in
+      λ j. named_by_itself x (a j) (b j)
+  is_named_by xs ys (node (func i b) ps) h = refl
+  is_named_by xs ys (node (instance i own) ps) h = refl
+  is_named_by xs ys (node (component i ins outs) ps) h = refl
+  is_named_by xs ys (node type_entity ps) h = refl
+  is_named_by xs ys (node (core_module i n) ps) h = refl
+  is_named_by xs ys (node (core_instance i n) ps) h = refl
+  is_named_by xs ys (node (core_type c) ps) h = refl
+  is_named_by xs ys (node (core_item x) ps) h = refl
+
+  are_named_by : (xs ys : List Identity) (ps : Parts Name Name) → SameMembers xs ys → are_named xs ps ≡ are_named ys ps
+  are_named_by xs ys none h = refl
+  are_named_by xs ys (part l t ps) h =
+      let a : is_named xs t ≡ is_named ys t = is_named_by xs ys t h in
+      let b : are_named xs ps ≡ are_named ys ps = are_named_by xs ys ps h in
+      λ j. a j && b j
+
+-- by such lists the same exports pass
+mutual
+  passes_by : (xs ys : List Identity) (t : Tree Name Name) → SameMembers xs ys → passes xs t ≡ passes ys t
+  passes_by xs ys (node nothing ps) h = refl
+  passes_by xs ys (node (primitive p) ps) h = refl
+  passes_by xs ys (node (resource r s) ps) h = refl
+  passes_by xs ys (node (defined i x) ps) h = are_named_by xs ys ps h
+  passes_by xs ys (node (func i b) ps) h = are_named_by xs ys ps h
+  passes_by xs ys (node (instance i own) ps) h = all_pass_by xs ys ps h
+  passes_by xs ys (node (component i ins outs) ps) h = refl
+  passes_by xs ys (node type_entity ps) h = created_passes_by xs ys ps h
+  passes_by xs ys (node (core_module i n) ps) h = refl
+  passes_by xs ys (node (core_instance i n) ps) h = refl
+  passes_by xs ys (node (core_type c) ps) h = refl
+  passes_by xs ys (node (core_item x) ps) h = refl
+
+  all_pass_by : (xs ys : List Identity) (ps : Parts Name Name) → SameMembers xs ys → all_pass xs ps ≡ all_pass ys ps
+  all_pass_by xs ys none h = refl
+  all_pass_by xs ys (part l t ps) h =
+      let a : passes xs t ≡ passes ys t = passes_by xs ys t h in
+      let b : all_pass (with_created xs t) ps ≡ all_pass (with_created ys t) ps = all_pass_by (with_created xs t) (with_created ys t) ps (with_created_by xs ys t h) in
+      λ j. a j && b j
+
+  created_passes_by : (xs ys : List Identity) (ps : Parts Name Name) → SameMembers xs ys → created_passes xs ps ≡ created_passes ys ps
+  created_passes_by xs ys none h = refl
+  created_passes_by xs ys (part l t ps) h = passes_by xs ys t h
+
+-- ## A set with one more type
+
+both_true : (b c : Bool) → (b && c) ≡ true → (b ≡ true) × (c ≡ true)
+both_true true c e = (refl, e)
+both_true false c e = absurd (false≢true e)
+
+or_true : (b : Bool) → (b || true) ≡ true
+or_true true = refl
+or_true false = refl
+
+or_swap : (a b c : Bool) → (a || (b || c)) ≡ (b || (a || c))
+or_swap true true c = refl
+or_swap true false c = refl
+or_swap false true c = refl
+or_swap false false c = refl
+
+same_identities : (x y : ComponentAnyTypeId) → same_type x y ≡ true → identity_of (any_part x) ≡ identity_of (any_part y)
+same_identities (any.Resource q) (any.Resource r) e =
+    let w = both_true (eqb q.resource.index r.resource.index) (eqb q.stamp r.stamp) e in
+    let x : q.resource.index ≡ r.resource.index = eqb-true q.resource.index r.resource.index w.0 in
+    let y : q.stamp ≡ r.stamp = eqb-true q.stamp r.stamp w.1 in
+    λ j. of_reference (number (x j)) (stamp (y j))
+same_identities (any.Resource i) (any.Defined j) e = absurd (false≢true e)
+same_identities (any.Resource i) (any.Func j) e = absurd (false≢true e)
+same_identities (any.Resource i) (any.Instance j) e = absurd (false≢true e)
+same_identities (any.Resource i) (any.Component j) e = absurd (false≢true e)
+same_identities (any.Defined i) (any.Resource j) e = absurd (false≢true e)
+same_identities (any.Defined i) (any.Defined j) e = ap (λ (k : ℕ). of_node (number k)) (eqb-true i.index j.index e)
+same_identities (any.Defined i) (any.Func j) e = absurd (false≢true e)
+same_identities (any.Defined i) (any.Instance j) e = absurd (false≢true e)
+same_identities (any.Defined i) (any.Component j) e = absurd (false≢true e)
+same_identities (any.Func i) (any.Resource j) e = absurd (false≢true e)
+same_identities (any.Func i) (any.Defined j) e = absurd (false≢true e)
+same_identities (any.Func i) (any.Func j) e = ap (λ (k : ℕ). of_node (number k)) (eqb-true i.index j.index e)
+same_identities (any.Func i) (any.Instance j) e = absurd (false≢true e)
+same_identities (any.Func i) (any.Component j) e = absurd (false≢true e)
+same_identities (any.Instance i) (any.Resource j) e = absurd (false≢true e)
+same_identities (any.Instance i) (any.Defined j) e = absurd (false≢true e)
+same_identities (any.Instance i) (any.Func j) e = absurd (false≢true e)
+same_identities (any.Instance i) (any.Instance j) e = ap (λ (k : ℕ). of_node (number k)) (eqb-true i.index j.index e)
+same_identities (any.Instance i) (any.Component j) e = absurd (false≢true e)
+same_identities (any.Component i) (any.Resource j) e = absurd (false≢true e)
+same_identities (any.Component i) (any.Defined j) e = absurd (false≢true e)
+same_identities (any.Component i) (any.Func j) e = absurd (false≢true e)
+same_identities (any.Component i) (any.Instance j) e = absurd (false≢true e)
+same_identities (any.Component i) (any.Component j) e = ap (λ (k : ℕ). of_node (number k)) (eqb-true i.index j.index e)
+
+identity_in : (ids : List ComponentAnyTypeId) (c : ComponentAnyTypeId) (i : Identity) → has_type ids c ≡ true → same_identity i (identity_of (any_part c)) ≡ true → is_in (identities ids) i ≡ true
+identity_in [] c i h e = absurd (false≢true h)
+identity_in (x ∷ ids) c i h e = go (same_type c x) (λ w. identity_in ids c i w e) refl
+  where
+    go : (b : Bool) → (has_type ids c ≡ true → is_in (identities ids) i ≡ true) → same_type c x ≡ b → is_in (identities (x ∷ ids)) i ≡ true
+    go true f s =
+        let w : same_identity i (identity_of (any_part x)) ≡ true = ap (same_identity i) (sym (same_identities c x s)) ∙ e in
+        ap (λ (b : Bool). b || is_in (identities ids) i) w
+    go false f s =
+        let w : is_in (identities ids) i ≡ true = f (sym (ap (λ (b : Bool). b || has_type ids c) s) ∙ h) in
+        ap (λ (b : Bool). same_identity i (identity_of (any_part x)) || b) w ∙ or_true (same_identity i (identity_of (any_part x)))
+
+members_pushed : (ids : List ComponentAnyTypeId) (c : ComponentAnyTypeId) → SameMembers (identities (ids ++ c ∷ [])) (identity_of (any_part c) ∷ identities ids)
+members_pushed [] c i = refl
+members_pushed (x ∷ ids) c i =
+    ap (λ (b : Bool). same_identity i (identity_of (any_part x)) || b) (members_pushed ids c i) ∙
+    or_swap (same_identity i (identity_of (any_part x))) (same_identity i (identity_of (any_part c))) (is_in (identities ids) i)
+
+with_type_members : (ids : List ComponentAnyTypeId) (c : ComponentAnyTypeId) → SameMembers (identities (with_type ids c)) (identity_of (any_part c) ∷ identities ids)
+with_type_members ids c i = go (has_type ids c) refl
+  where
+    held : (b : Bool) → same_identity i (identity_of (any_part c)) ≡ b → has_type ids c ≡ true → is_in (identities ids) i ≡ (b || is_in (identities ids) i)
+    held true s e = identity_in ids c i e s
+    held false s e = refl
+
+    go : (b : Bool) → has_type ids c ≡ b → is_in (identities (cond b ids (ids ++ c ∷ []))) i ≡ is_in (identity_of (any_part c) ∷ identities ids) i
+    go true e = held (same_identity i (identity_of (any_part c))) refl e
+    go false e = members_pushed ids c i
+
+module _ (a : Arena) where
+  with_type_stands : (ids : List ComponentAnyTypeId) (c : ComponentAnyTypeId) → AllStand a ids → Stands a (any_part c) → AllStand a (with_type ids c)
+  with_type_stands ids c h s = go (has_type ids c)
+    where
+      go : (b : Bool) → AllStand a (cond b ids (ids ++ c ∷ []))
+      go true = h
+      go false = All-append (λ id. Stands a (any_part id)) ids (c ∷ []) h (All-cons (λ id. Stands a (any_part id)) c [] s (All-nil (λ id. Stands a (any_part id))))
+
+  -- ## A set with what a type entity creates
+
+  created_stands : (ids : List ComponentAnyTypeId) (ty : ComponentEntityType) → AllStand a ids → EntityStands a ty → AllStand a (with_created_type ids ty)
+  created_stands ids (entity.Ty c r) h s = with_type_stands ids c h s.0
+  created_stands ids (entity.Module i) h s = h
+  created_stands ids (entity.Func i) h s = h
+  created_stands ids (entity.Value x) h s = h
+  created_stands ids (entity.Instance i) h s = h
+  created_stands ids (entity.Component i) h s = h
+
+  no_entity : (ids : List Identity) (t : Tree Name Name) → (sort t ≡ is_type → ⊥) → with_created ids t ≡ ids
+  no_entity ids (node nothing ps) h = refl
+  no_entity ids (node (primitive p) ps) h = refl
+  no_entity ids (node (resource r s) ps) h = refl
+  no_entity ids (node (defined i x) ps) h = refl
+  no_entity ids (node (func i b) ps) h = refl
+  no_entity ids (node (instance i own) ps) h = refl
+  no_entity ids (node (component i ins outs) ps) h = refl
+  no_entity ids (node type_entity ps) h = absurd (h refl)
+  no_entity ids (node (core_module i n) ps) h = refl
+  no_entity ids (node (core_instance i n) ps) h = refl
+  no_entity ids (node (core_type c) ps) h = refl
+  no_entity ids (node (core_item x) ps) h = refl
+
+  same_list : (xs ys : List Identity) → ys ≡ xs → SameMembers xs ys
+  same_list xs ys e i = ap (λ (zs : List Identity). is_in zs i) (sym e)
+
+  created_members : (ids : List ComponentAnyTypeId) (ty : ComponentEntityType) → EntityStands a ty → SameMembers (identities (with_created_type ids ty)) (with_created (identities ids) (entity_tree (trees a.nodes) ty))
+  created_members ids (entity.Ty c r) s = λ i. with_type_members ids c i ∙ ap (λ (o : Option Identity). is_in (with_identity o (identities ids)) i) (sym (known_any a c s.0))
+  created_members ids (entity.Module i) s = same_list (identities ids) (with_created (identities ids) (tree_at a (p.Module i)))
+      (no_entity (identities ids) (tree_at a (p.Module i)) (λ e. let w : is_module ≡ is_type = sym (sort_stands a (p.Module i) s) ∙ e in cc))
+  created_members ids (entity.Func i) s = same_list (identities ids) (with_created (identities ids) (tree_at a (p.Func i)))
+      (no_entity (identities ids) (tree_at a (p.Func i)) (λ e. let w : is_func ≡ is_type = sym (sort_stands a (p.Func i) s) ∙ e in cc))
+  created_members ids (entity.Value (v.Primitive q)) s = λ i. refl
+  created_members ids (entity.Value (v.Ty i)) s = same_list (identities ids) (with_created (identities ids) (tree_at a (p.Defined i)))
+      (no_entity (identities ids) (tree_at a (p.Defined i)) (λ e. let w : is_value ≡ is_type = sym (sort_stands a (p.Defined i) s) ∙ e in cc))
+  created_members ids (entity.Instance i) s = same_list (identities ids) (with_created (identities ids) (tree_at a (p.Instance i)))
+      (no_entity (identities ids) (tree_at a (p.Instance i)) (λ e. let w : is_instance ≡ is_type = sym (sort_stands a (p.Instance i) s) ∙ e in cc))
+  created_members ids (entity.Component i) s = same_list (identities ids) (with_created (identities ids) (tree_at a (p.Component i)))
+      (no_entity (identities ids) (tree_at a (p.Component i)) (λ e. let w : is_component ≡ is_type = sym (sort_stands a (p.Component i) s) ∙ e in cc))
+
+  -- ## One export after another
+
+  abbrev exports_pass : List ComponentAnyTypeId → List (Text × ComponentItem) → Bool
+  exports_pass ids es = all_pass (identities ids) (slot_parts (trees a.nodes) (entry_slots export es))
+
+  -- those before the k-th pass, where this is named by then
+  pub record PassedTo (set known : List ComponentAnyTypeId) (es : List (Text × ComponentItem)) (k : ℕ) : Type 0 where
+    pub stand : AllStand a known
+    pub rest : all_pass (identities set) (slot_parts (trees a.nodes) (entry_slots export es)) ≡ all_pass (identities known) (slot_parts (trees a.nodes) (entry_slots export (drop k es)))
+
+  pub none_passed : (set known : List ComponentAnyTypeId) (es : List (Text × ComponentItem)) → AllStand a set → known ≡ set → PassedTo set known es 0
+  none_passed set known es h e = record {
+    stand = subst (AllStand a) (sym e) h;
+    rest = ap (λ (ids : List ComponentAnyTypeId). exports_pass ids es) (sym e);
+  }
+
+  module _ (set known : List ComponentAnyTypeId) (es : List (Text × ComponentItem)) (k : ℕ) (e : Text × ComponentItem) (within : k < length es) (is : e ≡ get_or es k e) (so : PassedTo set known es k) where
+    split : exports_pass set es ≡ (passes (identities known) (entity_tree (trees a.nodes) e.1.ty) && all_pass (with_created (identities known) (entity_tree (trees a.nodes) e.1.ty)) (slot_parts (trees a.nodes) (entry_slots export (drop (suc k) es))))
+    split = so.rest ∙ ap (exports_pass known) (drop-cons es k e within ∙ ap (λ (d : Text × ComponentItem). d ∷ drop (suc k) es) (sym is))
+
+    pub one_fails : passes (identities known) (entity_tree (trees a.nodes) e.1.ty) ≡ false → all_pass (identities set) (slot_parts (trees a.nodes) (entry_slots export es)) ≡ false
+    one_fails f = split ∙ ap (λ (b : Bool). b && all_pass (with_created (identities known) (entity_tree (trees a.nodes) e.1.ty)) (slot_parts (trees a.nodes) (entry_slots export (drop (suc k) es)))) f
+
+    pub one_passed : (more : List ComponentAnyTypeId) → EntityStands a e.1.ty → passes (identities known) (entity_tree (trees a.nodes) e.1.ty) ≡ true → more ≡ with_created_type known e.1.ty → PassedTo set more es (k + 1)
+    one_passed more s t m =
+        subst (λ (ids : List ComponentAnyTypeId). PassedTo set ids es (k + 1)) (sym m) (subst (λ (j : ℕ). PassedTo set (with_created_type known e.1.ty) es j) (sym (add-one k)) record {
+          stand = created_stands known e.1.ty so.stand s;
+          rest = split ∙ ap (λ (b : Bool). b && all_pass (with_created (identities known) (entity_tree (trees a.nodes) e.1.ty)) (slot_parts (trees a.nodes) (entry_slots export (drop (suc k) es)))) t ∙
+              sym (all_pass_by (identities (with_created_type known e.1.ty)) (with_created (identities known) (entity_tree (trees a.nodes) e.1.ty)) (slot_parts (trees a.nodes) (entry_slots export (drop (suc k) es))) (created_members known e.1.ty s));
+        })
+
+  pub all_passed : (set known : List ComponentAnyTypeId) (es : List (Text × ComponentItem)) (k : ℕ) → length es ≤ k → PassedTo set known es k → all_pass (identities set) (slot_parts (trees a.nodes) (entry_slots export es)) ≡ true
+  all_passed set known es k w so = so.rest ∙ ap (exports_pass known) (drop_of_length-le es w)
+
+  -- ## Types and entities
+
+  at_head : (ids : List Identity) (t : Type_tree) (h : Head Name Name) → head t ≡ h → passes ids t ≡ passes ids (node h (parts t))
+  at_head ids (node x ps) h e = ap (λ (y : Head Name Name). passes ids (node y ps)) e
+
+  pub module_passes : (ids : List Identity) (i : ComponentCoreModuleTypeId) → Stands a (p.Module i) → passes ids (tree_at a (p.Module i)) ≡ true
+  module_passes ids i s = at_head ids (tree_at a (p.Module i)) (head_of i.index (n.Module s.0)) (head_in a.nodes i.index (n.Module s.0) s.1)
+
+  pub component_passes : (ids : List Identity) (i : ComponentTypeId) → Stands a (p.Component i) → passes ids (tree_at a (p.Component i)) ≡ true
+  component_passes ids i s = at_head ids (tree_at a (p.Component i)) (head_of i.index (n.Component s.0)) (head_in a.nodes i.index (n.Component s.0) s.1)

@@ -1,0 +1,29 @@
+use Rattle.std.proofs.Common.{◌≡◌, List, ◌++◌, sym, ◌∙◌, ap, subst, None}
+use Rattle.std.specs.Prelude.{ℕ, Some, slice_get, option_copied}
+use Rattle.std.specs.Map.{lookup}
+use Rattle.wcv_core.specs.Names.{number}
+use Rattle.wcv_types.specs.Entities.{entry_trees}
+use Rattle.wcv_types.specs.ExplicitPaths.{with_path}
+use Rattle.wcv_types.specs.FirstPath.{first_path}
+use Rattle.wcv_types.specs.Sets.{same_resource}
+use Rattle.wcv_types.specs.Unfold.{trees}
+use Rattle.wcv_types.specs.declared.ids.ResourceId.{ResourceId}
+use Rattle.wcv_types.proofs.Leading.{paths_next, not_before}
+use Rattle.wcv_types.proofs.arena.TypeAlloc.explicit_resource_paths.Goals as goal
+
+pub loop-k-preserved : goal.loop-k-preserved
+loop-k-preserved c =
+    let es = entry_trees (trees c.args.self.now.nodes) c.args.exports.now in
+    let r : ResourceId = c.in-Some.id.now in
+    let found : slice_get c.args.ids.now c.loop-k.k ≡ Some r = sym c.get_index.ensures ∙ ap option_copied c.in-Some.is in
+    c.in_ok-push_path-in-Some.ensures ∙ ap (λ (ps : List (ResourceId × List ℕ)). ps ++ with_path r (first_path (number r.index) es)) c.loop-k.invariant ∙ sym (paths_next c.args.ids.now c.loop-k.k r es found)
+
+pub push_path-requires : goal.push_path-requires
+push_path-requires c =
+    let es = entry_trees (trees c.args.self.now.nodes) c.args.exports.now in
+    let r : ResourceId = c.in-Some.id.now in
+    let found : slice_get c.args.ids.now c.loop-k.k ≡ Some r = sym c.get_index.ensures ∙ ap option_copied c.in-Some.is in
+    record {
+      stand = c.requires;
+      new = subst (λ (ps : List (ResourceId × List ℕ)). lookup (same_resource r) ps ≡ None) (sym c.loop-k.invariant) (not_before c.args.ids.now c.loop-k.k r es c.len-k-end.ensures.unique found);
+    }

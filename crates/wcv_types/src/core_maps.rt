@@ -1,0 +1,145 @@
+// Imports and exports of a core module by name.
+ghost use Rattle.std.specs.Prelude.{◌≡◌, List, [], ◌∷◌, ◌++◌, length, take, slice_get, option_copied, IfOk, OnOk, OnErr};
+
+use std::alloc::Global;
+use std::marker::Model;
+use wcv_core::{EntityType, OutOfMemory, Text};
+
+/// Imports by the names of a module and of an item in it, in order. Contracts see it as the list of its pairs.
+#[derive(Debug, Drop)]
+pub struct ImportMap {
+    entries: Vec<((Text, Text), EntityType)>,
+}
+
+impl Model for ImportMap {
+    ghost use Rattle.std.specs.Prelude.{List};
+    ghost use Rattle.wcv_core.specs.declared.core_types.EntityType.{EntityType};
+    ghost use Rattle.wcv_types.specs.Tree.{Text};
+
+    ghost Value = { List ((Text × Text) × EntityType) };
+
+    ghost view = { λ m. m.entries.items };
+}
+
+impl ImportMap {
+    /// A map with no pair. It takes no memory.
+    pub fn new(alloc: Global) -> ImportMap
+        ensures { result ≡ [] }
+    {
+        ImportMap {
+            entries: Vec::new(alloc),
+        }
+    }
+
+    /// Appends a pair.
+    pub fn push(&mut self, entry: ((Text, Text), EntityType)) -> Result<(), OutOfMemory>
+        ensures ok { OnOk result (self.new ≡ self.old ++ entry ∷ []) }
+        ensures err { OnErr result (self.new ≡ self.old) }
+    {
+        self.entries.push(entry)?;
+        Ok(())
+    }
+
+    /// How many pairs there are.
+    pub fn len(&self) -> usize
+        ensures { result ≡ length self.now }
+    {
+        self.entries.len()
+    }
+
+    /// The pair at this position.
+    pub fn get_index(&self, k: usize) -> Option<&((Text, Text), EntityType)>
+        ensures { option_copied result ≡ slice_get self.now k }
+    {
+        self.entries.get(k)
+    }
+
+    /// An equal map.
+    pub fn copy(&self, alloc: Global) -> Result<ImportMap, OutOfMemory>
+        ensures { IfOk result (λ copied. copied ≡ self.now) }
+    {
+        let mut copied = ImportMap::new(alloc);
+        let entries = self.as_slice();
+        for entry in entries {
+            let module = Text::new(alloc, entry.0.0.as_str())?;
+            let name = Text::new(alloc, entry.0.1.as_str())?;
+            copied.push(((module, name), entry.1))?;
+        }
+        Ok(copied)
+    }
+
+    /// All pairs, lent.
+    pub fn as_slice(&self) -> &[((Text, Text), EntityType)]
+        ensures { result.now ≡ self.now }
+    {
+        self.entries.as_slice()
+    }
+}
+
+/// Exports by name, in order. Contracts see it as the list of its pairs.
+#[derive(Debug, Drop)]
+pub struct ExportMap {
+    entries: Vec<(Text, EntityType)>,
+}
+
+impl Model for ExportMap {
+    ghost use Rattle.std.specs.Prelude.{List};
+    ghost use Rattle.wcv_core.specs.declared.core_types.EntityType.{EntityType};
+    ghost use Rattle.wcv_types.specs.Tree.{Text};
+
+    ghost Value = { List (Text × EntityType) };
+
+    ghost view = { λ m. m.entries.items };
+}
+
+impl ExportMap {
+    /// A map with no pair. It takes no memory.
+    pub fn new(alloc: Global) -> ExportMap
+        ensures { result ≡ [] }
+    {
+        ExportMap {
+            entries: Vec::new(alloc),
+        }
+    }
+
+    /// Appends a pair.
+    pub fn push(&mut self, entry: (Text, EntityType)) -> Result<(), OutOfMemory>
+        ensures ok { OnOk result (self.new ≡ self.old ++ entry ∷ []) }
+        ensures err { OnErr result (self.new ≡ self.old) }
+    {
+        self.entries.push(entry)?;
+        Ok(())
+    }
+
+    /// How many pairs there are.
+    pub fn len(&self) -> usize
+        ensures { result ≡ length self.now }
+    {
+        self.entries.len()
+    }
+
+    /// The pair at this position.
+    pub fn get_index(&self, k: usize) -> Option<&(Text, EntityType)>
+        ensures { option_copied result ≡ slice_get self.now k }
+    {
+        self.entries.get(k)
+    }
+
+    /// An equal map.
+    pub fn copy(&self, alloc: Global) -> Result<ExportMap, OutOfMemory>
+        ensures { IfOk result (λ copied. copied ≡ self.now) }
+    {
+        let mut copied = ExportMap::new(alloc);
+        for entry in &self.entries {
+            copied.push((Text::new(alloc, entry.0.as_str())?, entry.1))?;
+        }
+        Ok(copied)
+    }
+
+    /// Lets go of all pairs behind the first ones.
+    pub fn truncate(&mut self, len: usize)
+        ensures { self.new ≡ take len self.old }
+    {
+        self.entries.truncate(len);
+    }
+}

@@ -1,0 +1,79 @@
+// Imports, exports and resources of a node, copied for a node with other parts.
+ghost use Rattle.std.specs.Prelude.{◌≡◌, IfOk, OnOk};
+ghost use Rattle.wcv_types.specs.Rebuild.{FillsSlot, Fills, after_slot, refill_slot, refill, after};
+ghost use Rattle.wcv_types.specs.Tree.{Role, Extern_name};
+ghost use Rattle.wcv_types.specs.Unfold.{entity_slot, entry_slots};
+
+use crate::again::copy_text;
+use crate::component_type::Paths;
+use crate::item_map::{ComponentItem, ItemMap};
+use crate::refill::Refill;
+use std::alloc::Global;
+use wcv_core::{OutOfMemory, Place, Text};
+
+/// A copy of the text, where it is there.
+fn copy_option(alloc: Global, text: &Option<Text>) -> Result<Option<Text>, OutOfMemory>
+    ensures { IfOk result (λ t. t ≡ text.now) }
+{
+    match text {
+        None => Ok(None),
+        Some(text) => Ok(Some(copy_text(alloc, text)?)),
+    }
+}
+
+/// The entry with other parts.
+fn item_again(
+    alloc: Global,
+    item: &ComponentItem,
+    parts: &mut Refill<'_>,
+) -> Result<ComponentItem, OutOfMemory>
+    requires { FillsSlot (entity_slot item.now.ty) parts.old }
+    ensures slot { IfOk result (λ i. entity_slot i.ty ≡ refill_slot (entity_slot item.now.ty) parts.old) }
+    ensures left { OnOk result (parts.new ≡ after_slot (entity_slot item.now.ty) parts.old) }
+    ensures implements { IfOk result (λ i. i.implements ≡ item.now.implements) }
+    ensures suffix { IfOk result (λ i. i.version_suffix ≡ item.now.version_suffix) }
+    ensures external { IfOk result (λ i. i.external_id ≡ item.now.external_id) }
+{
+    let ty = parts.entity(item.ty);
+    Ok(ComponentItem {
+        ty,
+        implements: copy_option(alloc, &item.implements)?,
+        version_suffix: copy_option(alloc, &item.version_suffix)?,
+        external_id: copy_option(alloc, &item.external_id)?,
+    })
+}
+
+/// The entries with other parts.
+#[tactic(auto, using(crate::proofs::EntriesRefilled::none_yet, crate::proofs::EntriesRefilled::all_made))]
+pub fn entries_again(
+    alloc: Global,
+    entries: &[(Text, ComponentItem)],
+    parts: &mut Refill<'_>,
+) -> Result<ItemMap, OutOfMemory>
+    requires { (role : Extern_name → Role) → Fills (entry_slots role entries.now) parts.old }
+    ensures slots { IfOk result (λ es. (role : Extern_name → Role) → entry_slots role es ≡ refill (entry_slots role entries.now) parts.old) }
+    ensures left { OnOk result ((role : Extern_name → Role) → parts.new ≡ after (entry_slots role entries.now) parts.old) }
+{
+    let mut again = ItemMap::new(alloc);
+    for entry in entries {
+        let item = item_again(alloc, &entry.1, parts)?;
+        again.push((copy_text(alloc, &entry.0)?, item))?;
+    }
+    Ok(again)
+}
+
+/// A copy of resources and the places where they stand.
+pub fn copy_paths(alloc: Global, paths: &Paths) -> Result<Paths, OutOfMemory>
+    ensures { IfOk result (λ copied. copied ≡ paths.now) }
+{
+    let mut copied = Paths::new(alloc);
+    for k in 0..paths.len() {
+        match paths.get_index(k) {
+            Some((resource, place)) => {
+                copied.insert(*resource, Place::new(alloc, place.positions())?)?;
+            }
+            None => unreachable!(),
+        }
+    }
+    Ok(copied)
+}
