@@ -7,7 +7,7 @@ use Rattle.wcv_core.specs.declared.error.ErrorKind.TheVariants as kind
 use Rattle.wcv_core.specs.declared.features.WasmFeatures.{WasmFeatures}
 use Rattle.wcv_syntax.specs.ExternName.{Form, item, constructor, method, static, interface}
 use Rattle.wcv_syntax.specs.FormOf.{form_of}
-use Rattle.wcv_types.specs.Tree.{Text, Extern_name, nothing, primitive, resource, defined, func, instance, component, type_entity, node}
+use Rattle.wcv_types.specs.Tree.{Text, Extern_name, nothing, primitive, resource, defined, func, instance, component, type_entity, core_module, core_instance, core_type, core_item, node}
 use Rattle.wcv_types.specs.Unfold.{Type_tree}
 use Rattle.wcv_names.specs.Externs.{breaks_rule, conflicts, entry_names, is_instance_tree, name_checks}
 use Rattle.wcv_names.specs.ResourceNames.{Reference, Resource_names}
@@ -37,6 +37,10 @@ module _ (rs : List (Reference × Text)) (ns ms : List Text) (same : (t : Text) 
   fits-same f (node (instance i own) ps) = refl
   fits-same f (node (component i ins outs) ps) = refl
   fits-same f (node type_entity ps) = refl
+  fits-same f (node (core_module i n) ps) = refl
+  fits-same f (node (core_instance i n) ps) = refl
+  fits-same f (node (core_type k) ps) = refl
+  fits-same f (node (core_item e) ps) = refl
 
   breaks-same : (es : Entries) (o : Option Form) (t : Type_tree) → breaks_rule N es o t ≡ breaks_rule M es o t
   breaks-same es None t = refl

@@ -8,7 +8,7 @@ use Rattle.wcv_syntax.proofs.Formed.{complete}
 use Rattle.wcv_types.specs.Alike.{Alike}
 use Rattle.wcv_types.specs.Arena.{Arena}
 use Rattle.wcv_types.specs.Entities.{entity_tree, entry_trees, EntityStands}
-use Rattle.wcv_types.specs.Tree.{Text, func, resource, defined, nothing, primitive, instance, component, type_entity, node, sort, is_value, is_func}
+use Rattle.wcv_types.specs.Tree.{Text, func, resource, defined, nothing, primitive, instance, component, type_entity, core_module, core_instance, core_type, core_item, node, Sort, sort, is_instance}
 use Rattle.wcv_types.specs.Unfold.{Type_tree, tree_at, trees}
 use Rattle.wcv_types.specs.declared.ids.ComponentFuncTypeId.{ComponentFuncTypeId}
 use Rattle.wcv_types.specs.declared.ids.Part.TheVariants as p
@@ -19,7 +19,7 @@ use Rattle.wcv_types.specs.declared.shapes.ComponentFuncType.{ComponentFuncType}
 use Rattle.wcv_types.specs.declared.shapes.ComponentValType.TheVariants as v
 use Rattle.wcv_types.proofs.Unfolding.{sort_stands}
 use Rattle.wcv_names.specs.Externs.{is_set, is_instance_tree}
-use Rattle.wcv_names.specs.FuncTrees.{IsFunction, func_part, names_in}
+use Rattle.wcv_names.specs.FuncTrees.{IsFunction, func_part, is_instance_id, names_in}
 use Rattle.wcv_names.specs.KeySet.{Key_set, HasKeys, is_getter}
 use Rattle.wcv_names.specs.Places.{position_of}
 use Rattle.wcv_names.specs.ResourceNames.{Resource_names}
@@ -100,31 +100,34 @@ module _ (a : Arena) (x : ComponentEntityType) (ns : Resource_names) (es : Entri
 
 -- ## Instances
 
-value_none : (t : Type_tree) → sort t ≡ is_value → false ≡ is_instance_tree t
-value_none (node (func i b) ps) h = refl
-value_none (node nothing ps) h = refl
-value_none (node (primitive q) ps) h = refl
-value_none (node (resource r s) ps) h = refl
-value_none (node (defined i k) ps) h = refl
-value_none (node (instance i own) ps) h = cc h
-value_none (node (component i x y) ps) h = refl
-value_none (node type_entity ps) h = refl
+-- the sort is that of instances
+abbrev is_of_instance : Sort → Bool
+is_of_instance is_instance = true
+is_of_instance _ = false
 
-func_none : (t : Type_tree) → sort t ≡ is_func → false ≡ is_instance_tree t
-func_none (node (func i b) ps) h = refl
-func_none (node nothing ps) h = refl
-func_none (node (primitive q) ps) h = refl
-func_none (node (resource r s) ps) h = refl
-func_none (node (defined i k) ps) h = refl
-func_none (node (instance i own) ps) h = cc h
-func_none (node (component i x y) ps) h = refl
-func_none (node type_entity ps) h = refl
+instance_sorted : (t : Type_tree) → is_instance_tree t ≡ is_of_instance (sort t)
+instance_sorted (node (func i b) ps) = refl
+instance_sorted (node nothing ps) = refl
+instance_sorted (node (primitive q) ps) = refl
+instance_sorted (node (resource r s) ps) = refl
+instance_sorted (node (defined i k) ps) = refl
+instance_sorted (node (instance i own) ps) = refl
+instance_sorted (node (component i x y) ps) = refl
+instance_sorted (node type_entity ps) = refl
+instance_sorted (node (core_module i k) ps) = refl
+instance_sorted (node (core_instance i k) ps) = refl
+instance_sorted (node (core_type k) ps) = refl
+instance_sorted (node (core_item e) ps) = refl
 
-pub no_instance : (a : Arena) (x : ComponentEntityType) → EntityStands a x → false ≡ is_instance_tree (entity_tree (trees a.nodes) x)
-no_instance a (entity.Func i) h = func_none (tree_at a (p.Func i)) (sort_stands a (p.Func i) h)
-no_instance a (entity.Module i) h = absurd h
-no_instance a (entity.Value (v.Primitive q)) h = refl
-no_instance a (entity.Value (v.Ty i)) h = value_none (tree_at a (p.Defined i)) (sort_stands a (p.Defined i) h)
-no_instance a (entity.Ty c r) h = refl
-no_instance a (entity.Instance i) h = absurd h
-no_instance a (entity.Component i) h = absurd h
+-- an entity is an instance where its id is one
+pub entity_instance : (a : Arena) (x : ComponentEntityType) → EntityStands a x → is_instance_id x ≡ is_instance_tree (entity_tree (trees a.nodes) x)
+entity_instance a x h = go x h ∙ sym (instance_sorted (entity_tree (trees a.nodes) x))
+  where
+    go : (x : ComponentEntityType) → EntityStands a x → is_instance_id x ≡ is_of_instance (sort (entity_tree (trees a.nodes) x))
+    go (entity.Func i) h = sym (ap is_of_instance (sort_stands a (p.Func i) h))
+    go (entity.Module i) h = sym (ap is_of_instance (sort_stands a (p.Module i) h))
+    go (entity.Value (v.Primitive q)) h = refl
+    go (entity.Value (v.Ty i)) h = sym (ap is_of_instance (sort_stands a (p.Defined i) h))
+    go (entity.Ty c r) h = refl
+    go (entity.Instance i) h = sym (ap is_of_instance (sort_stands a (p.Instance i) h))
+    go (entity.Component i) h = sym (ap is_of_instance (sort_stands a (p.Component i) h))

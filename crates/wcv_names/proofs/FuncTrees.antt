@@ -1,12 +1,12 @@
 -- Functions and entities of an arena, as names speak of them.
-use Rattle.std.proofs.Common.{true, ◌≡◌, ℕ, List, [], ◌∷◌, Option, Some, None, refl, sym, ap, ◌∙◌, subst}
+use Rattle.std.proofs.Common.{Bool, true, false, ◌≡◌, ℕ, List, [], ◌∷◌, Option, Some, None, refl, sym, ap, ◌∙◌, subst}
 use Rattle.std.specs.Prelude.{All}
 use Rattle.std.proofs.lemmas.List.Elements.{All-cons, All-nil, All-head, All-tail}
 use Rattle.wcv_syntax.specs.ExternName.{Form, access_of, getter_of, written}
 use Rattle.wcv_types.specs.Arena.{Arena}
 use Rattle.wcv_types.specs.Entities.{entity_tree, EntityStands, SlotStands}
 use Rattle.wcv_types.specs.Standing.{Stands, StandsBefore}
-use Rattle.wcv_types.specs.Tree.{Text, here, func, resource, defined, nothing, primitive, instance, component, type_entity, node, sort, is_value}
+use Rattle.wcv_types.specs.Tree.{Text, here, func, resource, defined, nothing, primitive, instance, component, type_entity, core_module, core_instance, core_type, core_item, node, Sort, sort, is_func}
 use Rattle.wcv_types.specs.Unfold.{Type_tree, Slot, Slots, rank, left_out, value_slot, option_slot, field_slots, slot_refs, slot_tree, slot_parts, parts_in, parts_of, place, tree_at, unfolded, trees}
 use Rattle.wcv_types.specs.declared.arena.Node.TheVariants as n
 use Rattle.wcv_types.specs.declared.ids.ComponentFuncTypeId.{ComponentFuncTypeId}
@@ -89,62 +89,71 @@ function_pairs a t s es f h =
 
 -- ## What is no function
 
-value_free : (t : Type_tree) (ns : Resource_names) (f : Form) → sort t ≡ is_value → fits ns f t ≡ is_free f
-value_free (node (func i b) ps) ns f h = cc h
-value_free (node nothing ps) ns f h = refl
-value_free (node (primitive q) ps) ns f h = refl
-value_free (node (resource r s) ps) ns f h = refl
-value_free (node (defined i k) ps) ns f h = refl
-value_free (node (instance i own) ps) ns f h = refl
-value_free (node (component i x y) ps) ns f h = refl
-value_free (node type_entity ps) ns f h = refl
+-- the sort is that of functions
+abbrev is_of_func : Sort → Bool
+is_of_func is_func = true
+is_of_func _ = false
 
-value_gives : (t : Type_tree) → sort t ≡ is_value → left_out ≡ gotten t
-value_gives (node (func i b) ps) h = cc h
-value_gives (node nothing ps) h = refl
-value_gives (node (primitive q) ps) h = refl
-value_gives (node (resource r s) ps) h = refl
-value_gives (node (defined i k) ps) h = refl
-value_gives (node (instance i own) ps) h = refl
-value_gives (node (component i x y) ps) h = refl
-value_gives (node type_entity ps) h = refl
+other_free : (t : Type_tree) (ns : Resource_names) (f : Form) → is_of_func (sort t) ≡ false → fits ns f t ≡ is_free f
+other_free (node (func i b) ps) ns f h = cc h
+other_free (node nothing ps) ns f h = refl
+other_free (node (primitive q) ps) ns f h = refl
+other_free (node (resource r s) ps) ns f h = refl
+other_free (node (defined i k) ps) ns f h = refl
+other_free (node (instance i own) ps) ns f h = refl
+other_free (node (component i x y) ps) ns f h = refl
+other_free (node type_entity ps) ns f h = refl
+other_free (node (core_module i k) ps) ns f h = refl
+other_free (node (core_instance i k) ps) ns f h = refl
+other_free (node (core_type k) ps) ns f h = refl
+other_free (node (core_item e) ps) ns f h = refl
 
-value_pairs : (t : Type_tree) (es : Entries) (f : Form) → sort t ≡ is_value → is_paired es f t ≡ true
-value_pairs (node (func i b) ps) es f h = cc h
-value_pairs (node nothing ps) es f h = refl
-value_pairs (node (primitive q) ps) es f h = refl
-value_pairs (node (resource r s) ps) es f h = refl
-value_pairs (node (defined i k) ps) es f h = refl
-value_pairs (node (instance i own) ps) es f h = refl
-value_pairs (node (component i x y) ps) es f h = refl
-value_pairs (node type_entity ps) es f h = refl
+none_gotten : (t : Type_tree) → is_of_func (sort t) ≡ false → left_out ≡ gotten t
+none_gotten (node (func i b) ps) h = cc h
+none_gotten (node nothing ps) h = refl
+none_gotten (node (primitive q) ps) h = refl
+none_gotten (node (resource r s) ps) h = refl
+none_gotten (node (defined i k) ps) h = refl
+none_gotten (node (instance i own) ps) h = refl
+none_gotten (node (component i x y) ps) h = refl
+none_gotten (node type_entity ps) h = refl
+none_gotten (node (core_module i k) ps) h = refl
+none_gotten (node (core_instance i k) ps) h = refl
+none_gotten (node (core_type k) ps) h = refl
+none_gotten (node (core_item e) ps) h = refl
+
+other_paired : (t : Type_tree) (es : Entries) (f : Form) → is_of_func (sort t) ≡ false → is_paired es f t ≡ true
+other_paired (node (func i b) ps) es f h = cc h
+other_paired (node nothing ps) es f h = refl
+other_paired (node (primitive q) ps) es f h = refl
+other_paired (node (resource r s) ps) es f h = refl
+other_paired (node (defined i k) ps) es f h = refl
+other_paired (node (instance i own) ps) es f h = refl
+other_paired (node (component i x y) ps) es f h = refl
+other_paired (node type_entity ps) es f h = refl
+other_paired (node (core_module i k) ps) es f h = refl
+other_paired (node (core_instance i k) ps) es f h = refl
+other_paired (node (core_type k) ps) es f h = refl
+other_paired (node (core_item e) ps) es f h = refl
+
+-- what is no function has another sort
+other_sort : (a : Arena) (x : ComponentEntityType) → EntityStands a x → func_part x ≡ None → is_of_func (sort (entity_tree (trees a.nodes) x)) ≡ false
+other_sort a (entity.Func i) h e = cc e
+other_sort a (entity.Module i) h e = ap is_of_func (sort_stands a (p.Module i) h)
+other_sort a (entity.Value (v.Primitive q)) h e = refl
+other_sort a (entity.Value (v.Ty i)) h e = ap is_of_func (sort_stands a (p.Defined i) h)
+other_sort a (entity.Ty c r) h e = refl
+other_sort a (entity.Instance i) h e = ap is_of_func (sort_stands a (p.Instance i) h)
+other_sort a (entity.Component i) h e = ap is_of_func (sort_stands a (p.Component i) h)
 
 pub other_looks : (a : Arena) (x : ComponentEntityType) (ns : Resource_names) (f : Form) → EntityStands a x → func_part x ≡ None → fits ns f (entity_tree (trees a.nodes) x) ≡ is_free f
-other_looks a (entity.Func i) ns f h e = cc e
-other_looks a (entity.Module i) ns f h e = absurd h
-other_looks a (entity.Value (v.Primitive q)) ns f h e = refl
-other_looks a (entity.Value (v.Ty i)) ns f h e = value_free (tree_at a (p.Defined i)) ns f (sort_stands a (p.Defined i) h)
-other_looks a (entity.Ty c r) ns f h e = refl
-other_looks a (entity.Instance i) ns f h e = absurd h
-other_looks a (entity.Component i) ns f h e = absurd h
+other_looks a x ns f h e = other_free (entity_tree (trees a.nodes) x) ns f (other_sort a x h e)
 
 pub other_gives : (a : Arena) (x : ComponentEntityType) → EntityStands a x → func_part x ≡ None → left_out ≡ gotten (entity_tree (trees a.nodes) x)
-other_gives a (entity.Func i) h e = cc e
-other_gives a (entity.Module i) h e = absurd h
-other_gives a (entity.Value (v.Primitive q)) h e = refl
-other_gives a (entity.Value (v.Ty i)) h e = value_gives (tree_at a (p.Defined i)) (sort_stands a (p.Defined i) h)
-other_gives a (entity.Ty c r) h e = refl
-other_gives a (entity.Instance i) h e = absurd h
-other_gives a (entity.Component i) h e = absurd h
+other_gives a x h e = none_gotten (entity_tree (trees a.nodes) x) (other_sort a x h e)
 
 pub other_pairs : (a : Arena) (x : ComponentEntityType) (es : Entries) (f : Form) → EntityStands a x → func_part x ≡ None → is_paired es f (entity_tree (trees a.nodes) x) ≡ true
-other_pairs a (entity.Func i) es f h e = cc e
-other_pairs a (entity.Module i) es f h e = absurd h
-other_pairs a (entity.Value (v.Primitive q)) es f h e = refl
-other_pairs a (entity.Value (v.Ty i)) es f h e = value_pairs (tree_at a (p.Defined i)) es f (sort_stands a (p.Defined i) h)
-other_pairs a (entity.Ty c r) es f h e = refl
-other_pairs a (entity.Instance i) es f h e = absurd h
-other_pairs a (entity.Component i) es f h e = absurd h
+other_pairs a x es f h e = other_paired (entity_tree (trees a.nodes) x) es f (other_sort a x h e)
 
 -- ## Parts of entities
 

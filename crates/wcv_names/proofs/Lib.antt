@@ -5,6 +5,7 @@ pub mod Shaping
 pub mod NameRules
 pub mod KeySets
 pub mod FuncTrees
+pub mod SameItems
 pub mod SameTrees
 pub mod Renamed
 pub mod Nearest

@@ -6,7 +6,7 @@ use Rattle.wcv_types.specs.Alike.{Alike}
 use Rattle.wcv_types.specs.Rename.{rename_paths, rename_head, rename, rename_parts}
 use Rattle.wcv_types.specs.Resources.{owns}
 use Rattle.wcv_types.specs.Seen.{Within, outer, inner, under, seen_defined, seen_head, seen, seen_parts}
-use Rattle.wcv_types.specs.Tree.{Former, named, Head, nothing, primitive, resource, defined, func, instance, component, type_entity, Tree, node, Parts, none, part}
+use Rattle.wcv_types.specs.Tree.{Former, named, Head, nothing, primitive, resource, defined, func, instance, component, type_entity, core_module, core_instance, core_type, core_item, Tree, node, Parts, none, part}
 use Rattle.wcv_types.specs.Unfold.{Type_tree}
 use Rattle.wcv_types.proofs.Commute.{owns-renamed}
 use Rattle.wcv_types.proofs.Lists.{map-map}
@@ -47,6 +47,10 @@ module _ (f back : Name → Name) (g : Name → Name) (is_back : (r : Name) → 
       let e' : rename_paths inner (rename_paths f outs) ≡ rename_paths (within f) (rename_paths inner outs) = paths-seen f outs in
       λ j. component tt (e j) (e' j)
   head-seen u v p type_entity = refl
+  head-seen u v p (core_module i n) = refl
+  head-seen u v p (core_instance i n) = refl
+  head-seen u v p (core_type k) = refl
+  head-seen u v p (core_item e) = refl
 
   owns-same : (h : Head Name Name) (r : Name) → owns (rename_head f g h) (f r) ≡ owns h r
   owns-same h r = owns-renamed f back g (λ i. Unit {0}) h r (each-always (λ (q : Name). back (f q) ≡ q) (λ (i : Name). Unit {0}) is_back (λ i. tt) (node h none)).0 (is_back r)

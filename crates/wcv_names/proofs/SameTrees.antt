@@ -12,9 +12,10 @@ use Rattle.wcv_core.specs.declared.primitive.PrimitiveValType.TheVariants as pri
 use Rattle.wcv_core.proofs.Names.{and_left, and_right, same-true, same-refl}
 use Rattle.wcv_types.specs.Alike.{Alike, form_number, form_primitive, form_length, form_names}
 use Rattle.wcv_types.specs.Seen.{Within, outer, inner, seen}
-use Rattle.wcv_types.specs.Tree.{Text, Former, Extern_name, Head, nothing, primitive, resource, defined, func, instance, component, type_entity, Role, here, label, import, export, Tree, node, Parts, none, part}
+use Rattle.wcv_types.specs.Tree.{Text, Former, Extern_name, Head, nothing, primitive, resource, defined, func, instance, component, type_entity, core_module, core_instance, core_type, core_item, Role, here, label, import, export, core_import, core_export, Tree, node, Parts, none, part}
 use Rattle.wcv_types.specs.Unfold.{Type_tree}
 use Rattle.wcv_types.proofs.SameTypes as types
+use Rattle.wcv_names.proofs.SameItems.{item-true, item-refl}
 use Rattle.wcv_names.specs.SameValues.{primitive_number, same_primitive, same_within, same_former, same_listed, same_head, same_name, same_role, same_tree, same_parts, alike}
 
 both_true : (a b : Bool) → a ≡ true → b ≡ true → (a && b) ≡ true
@@ -150,6 +151,10 @@ head-true (component i ins outs) (component l sins souts) h =
     let f : outs ≡ souts = list-true same_listed listed-decides outs souts (and_right _ _ h) in
     (λ j. component tt (e j) (f j))
 head-true type_entity type_entity h = refl
+head-true (core_module i m) (core_module l n) h = ap (core_module tt) (eqb-true m n h)
+head-true (core_instance i m) (core_instance l n) h = ap (core_instance tt) (eqb-true m n h)
+head-true (core_type m) (core_type n) h = ap core_type (eqb-true m n h)
+head-true (core_item e) (core_item d) h = ap core_item (item-true e d h)
 head-true _ _ h = cc
 
 head-refl : (h : Head (Within Name) (Unit {0})) → same_head h h ≡ true
@@ -161,6 +166,10 @@ head-refl (func i b) = bool-refl b
 head-refl (instance i own) = list-refl same_within within-decides own
 head-refl (component i ins outs) = both_true _ _ (list-refl same_listed listed-decides ins) (list-refl same_listed listed-decides outs)
 head-refl type_entity = refl
+head-refl (core_module i n) = eq-eqb n n refl
+head-refl (core_instance i n) = eq-eqb n n refl
+head-refl (core_type n) = eq-eqb n n refl
+head-refl (core_item e) = item-refl e
 
 -- ## Roles
 
@@ -185,6 +194,11 @@ role-true here here h = refl
 role-true (label l) (label m) h = ap label ((bytes_eq-Decides l m).0 h)
 role-true (import m) (import n) h = ap import (name-true m n h)
 role-true (export m) (export n) h = ap export (name-true m n h)
+role-true (core_import l m) (core_import k n) h =
+    let a : l ≡ k = (bytes_eq-Decides l k).0 (and_left _ _ h) in
+    let b : m ≡ n = (bytes_eq-Decides m n).0 (and_right _ _ h) in
+    (λ j. core_import (a j) (b j))
+role-true (core_export m) (core_export n) h = ap core_export ((bytes_eq-Decides m n).0 h)
 role-true _ _ h = cc
 
 role-refl : (r : Role) → same_role r r ≡ true
@@ -192,6 +206,8 @@ role-refl here = refl
 role-refl (label l) = text-refl l
 role-refl (import n) = name-refl n
 role-refl (export n) = name-refl n
+role-refl (core_import m n) = both_true _ _ (text-refl m) (text-refl n)
+role-refl (core_export n) = text-refl n
 
 -- ## Trees
 

@@ -1,5 +1,5 @@
 -- Functions and entities of an arena, as names speak of them.
-use Rattle.std.specs.Prelude.{ℕ, List, [], ◌∷◌, map, ◌≡◌, Option, Some, None}
+use Rattle.std.specs.Prelude.{ℕ, List, [], ◌∷◌, map, ◌≡◌, Bool, true, false, Option, Some, None}
 use Rattle.wcv_core.specs.Names.{number}
 use Rattle.wcv_types.specs.Arena.{Arena}
 use Rattle.wcv_types.specs.Tree.{Text, here, func, node}
@@ -17,6 +17,10 @@ IsFunction a t s = (k : ℕ) × (t ≡ node (func (number k) s.async_) (slot_par
 abbrev pub func_part : ComponentEntityType → Option ComponentFuncTypeId
 func_part (entity.Func i) = Some i
 func_part x = None
+
+abbrev pub is_instance_id : ComponentEntityType → Bool
+is_instance_id (entity.Instance i) = true
+is_instance_id x = false
 
 -- the names of entries
 abbrev pub names_in : List (Text × ComponentItem) → List Text

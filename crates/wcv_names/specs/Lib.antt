@@ -1,5 +1,6 @@
 pub mod Places
 pub mod ResourceNames
+pub mod SameItems
 pub mod SameValues
 pub mod Rules
 pub mod Shapes

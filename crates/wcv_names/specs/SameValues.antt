@@ -8,8 +8,9 @@ use Rattle.wcv_core.specs.declared.primitive.PrimitiveValType.{PrimitiveValType}
 use Rattle.wcv_core.specs.declared.primitive.PrimitiveValType.TheVariants as prim
 use Rattle.wcv_types.specs.Alike.{form_number, form_primitive, form_length, form_names}
 use Rattle.wcv_types.specs.Seen.{Within, outer, inner, seen}
-use Rattle.wcv_types.specs.Tree.{Former, Extern_name, Head, nothing, primitive, resource, defined, func, instance, component, type_entity, Role, here, label, import, export, Tree, node, Parts, none, part}
+use Rattle.wcv_types.specs.Tree.{Former, Extern_name, Head, nothing, primitive, resource, defined, func, instance, component, type_entity, core_module, core_instance, core_type, core_item, Role, here, label, import, export, core_import, core_export, Tree, node, Parts, none, part}
 use Rattle.wcv_types.specs.Unfold.{Type_tree}
+use Rattle.wcv_names.specs.SameItems.{same_item}
 
 -- ## Heads, as they are seen
 
@@ -55,6 +56,10 @@ same_head (func i a) (func l b) = beq a b
 same_head (instance i own) (instance l others) = pointwise same_within own others
 same_head (component i ins outs) (component l sins souts) = pointwise same_listed ins sins && pointwise same_listed outs souts
 same_head type_entity type_entity = true
+same_head (core_module i m) (core_module l n) = eqb m n
+same_head (core_instance i m) (core_instance l n) = eqb m n
+same_head (core_type m) (core_type n) = eqb m n
+same_head (core_item e) (core_item d) = same_item e d
 same_head _ _ = false
 
 -- ## Roles
@@ -69,6 +74,8 @@ same_role here here = true
 same_role (label l) (label m) = bytes_eq l m
 same_role (import m) (import n) = same_name m n
 same_role (export m) (export n) = same_name m n
+same_role (core_import l m) (core_import k n) = bytes_eq l k && bytes_eq m n
+same_role (core_export m) (core_export n) = bytes_eq m n
 same_role _ _ = false
 
 -- ## Trees

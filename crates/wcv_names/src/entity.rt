@@ -4,6 +4,7 @@ ghost use Rattle.wcv_core.specs.Checks.{IsFree, MemoryOrCausedBy};
 ghost use Rattle.wcv_types.specs.Entities.{entity_tree, EntityStands, any_part};
 ghost use Rattle.wcv_types.specs.Standing.{Stands};
 ghost use Rattle.wcv_types.specs.Unfold.{tree_at, trees, IsInfoOf};
+ghost use Rattle.wcv_names.specs.FuncTrees as trees_of;
 ghost use Rattle.wcv_names.specs.Externs.{is_instance_tree, too_large_with, with_entry};
 
 use wcv_core::Error;
@@ -11,15 +12,23 @@ use wcv_types::{
     ComponentAnyTypeId, ComponentEntityType, ComponentValType, TypeAlloc, TypeInfo, TypeSort,
 };
 
-/// Whether the entity is an instance. No arena holds one yet.
-#[tactic(auto, using(crate::proofs::Following::no_instance))]
+fn is_instance_id(ty: &ComponentEntityType) -> bool
+    ensures { result ≡ trees_of.is_instance_id ty.now }
+{
+    match ty {
+        ComponentEntityType::Instance(_) => true,
+        _ => false,
+    }
+}
+
+/// Whether the entity is an instance.
+#[tactic(auto, using(crate::proofs::Following::entity_instance))]
 pub fn is_instance(ty: &ComponentEntityType, types: &TypeAlloc) -> bool
     requires { EntityStands types.now ty.now }
     ensures { result ≡ is_instance_tree (entity_tree (trees types.now.nodes) ty.now) }
 {
-    let _ = ty;
     let _ = types;
-    false
+    is_instance_id(ty)
 }
 
 /// The size and the depth of a type of any sort.
@@ -31,8 +40,8 @@ fn any_info(id: ComponentAnyTypeId, types: &TypeAlloc) -> TypeInfo
         ComponentAnyTypeId::Resource(_) => TypeInfo { size: 1, depth: 1 },
         ComponentAnyTypeId::Defined(id) => id.info(types),
         ComponentAnyTypeId::Func(id) => id.info(types),
-        ComponentAnyTypeId::Instance(_) => unreachable!(),
-        ComponentAnyTypeId::Component(_) => unreachable!(),
+        ComponentAnyTypeId::Instance(id) => id.info(types),
+        ComponentAnyTypeId::Component(id) => id.info(types),
     }
 }
 
@@ -49,9 +58,9 @@ fn entity_info(ty: &ComponentEntityType, types: &TypeAlloc) -> TypeInfo
         },
         ComponentEntityType::Value(ComponentValType::Ty(id)) => id.info(types),
         ComponentEntityType::Ty { created, .. } => any_info(*created, types),
-        ComponentEntityType::Module(_) => unreachable!(),
-        ComponentEntityType::Instance(_) => unreachable!(),
-        ComponentEntityType::Component(_) => unreachable!(),
+        ComponentEntityType::Module(id) => id.info(types),
+        ComponentEntityType::Instance(id) => id.info(types),
+        ComponentEntityType::Component(id) => id.info(types),
     }
 }
 
