@@ -22,8 +22,10 @@ use Rattle.wcv_core.specs.declared.core_types.HeapType.TheVariants as heap
 use Rattle.wcv_core.specs.declared.core_types.ValType.{ValType}
 use Rattle.wcv_core.specs.declared.core_types.ValType.TheVariants as val
 use Rattle.wcv_core.specs.declared.features.WasmFeatures.{WasmFeatures}
-use Rattle.wcv_module.specs.Kept.{Grows, module_items, entity_sizes, IsCounted}
-use Rattle.wcv_module.proofs.Growing.{grows_with, known_named, total_grows}
+use Rattle.wcv_types.specs.Standing.{entity_sizes}
+use Rattle.wcv_types.proofs.CoreGrown.{within_more, sizes_stay, grown_by}
+use Rattle.wcv_module.specs.Kept.{module_items, IsCounted}
+use Rattle.wcv_module.proofs.Growing.{Grows, known_named}
 use Rattle.wcv_module.proofs.Indices.{known_at, none_past}
 use Rattle.wcv_syntax.specs.CoreItems.{type_entries, ref_checks, entity_of, element_checks, sharing_checks, closed_table, closed_global}
 use Rattle.wcv_syntax.specs.Model.{Text, Module_decl, module_type, module_import, module_export, module_outer}
@@ -33,57 +35,11 @@ use Rattle.wcv_syntax.specs.declared.core_section.TypeRef.TheVariants as ref
 
 -- ## A larger table
 
-heap_more : (n m : ℕ) (h : HeapType) → n ≤ m → IsHeapWithin n 0 h → IsHeapWithin m 0 h
-heap_more n m (heap.Abstract a) l w = tt
-heap_more n m (heap.Index k) l w = w
-heap_more n m (heap.Id i) l w = omega (arith, l, w)
-
-val_more : (n m : ℕ) (v : ValType) → n ≤ m → IsValWithin n 0 v → IsValWithin m 0 v
-val_more n m (val.Ref r) l w = heap_more n m r.heap l w
-val_more n m val.I32 l w = tt
-val_more n m val.I64 l w = tt
-val_more n m val.F32 l w = tt
-val_more n m val.F64 l w = tt
-val_more n m val.V128 l w = tt
-
-entity_more : (n m : ℕ) (e : EntityType) → n ≤ m → IsEntityWithin n e → IsEntityWithin m e
-entity_more n m (entity.Func t) l w = omega (arith, l, w)
-entity_more n m (entity.Tag t) l w = omega (arith, l, w)
-entity_more n m (entity.Table t) l w = heap_more n m t.element_type.heap l w
-entity_more n m (entity.Memory t) l w = tt
-entity_more n m (entity.Global g) l w = val_more n m g.content_type l w
-
-types-joined : (gs more : List Group) → types_of (gs ++ more) ≡ types_of gs ++ types_of more
-types-joined [] more = refl
-types-joined (g ∷ gs) more = ap (λ (ts : List SubForm). g ++ ts) (types-joined gs more) ∙ sym (append_assoc g (types_of gs) (types_of more))
-
-length-types : (gs : List Group) → length (types_of gs) ≡ total gs
-length-types [] = refl
-length-types (g ∷ gs) = length-append g (types_of gs) ∙ ap (λ (n : ℕ). length g + n) (length-types gs)
-
-type_kept : (gs more : List Group) (i : ℕ) → i < total gs → type_at (gs ++ more) i ≡ type_at gs i
-type_kept gs more i h =
-    ap (λ (ts : List SubForm). get_or ts i no_type) (types-joined gs more) ∙ get_or_append_left (types_of gs) (types_of more) no_type i (omega (arith, length-types gs))
-
-size_kept : (gs more : List Group) (e : EntityType) → IsEntityWithin (total gs) e → entity_size (gs ++ more) e ≡ entity_size gs e
-size_kept gs more (entity.Func t) w = ap (λ (s : SubForm). form_size s.inner) (type_kept gs more t.index w)
-size_kept gs more (entity.Tag t) w = ap (λ (s : SubForm). form_size s.inner) (type_kept gs more t.index w)
-size_kept gs more (entity.Table t) w = refl
-size_kept gs more (entity.Memory t) w = refl
-size_kept gs more (entity.Global g) w = refl
-
-sizes_kept : (gs more : List Group) (es : List EntityType) → All (IsEntityWithin (total gs)) es → entity_sizes (gs ++ more) es ≡ entity_sizes gs es
-sizes_kept gs more [] a = refl
-sizes_kept gs more (e ∷ es) a = λ j. size_kept gs more e (a zero e (omega arith)) j + sizes_kept gs more es (λ k d l. a (suc k) d (omega arith)) j
-
-counted_more : (gs more : List Group) (m : Module_type) → total gs ≤ total (gs ++ more) → IsCounted gs m → IsCounted (gs ++ more) m
-counted_more gs more m h s = record {
-  within = λ k d l. entity_more (total gs) (total (gs ++ more)) (get_or (module_items m) k d) h (s.within k d l);
-  size = s.size ∙ ap suc (sym (sizes_kept gs more (module_items m) s.within));
-}
+counted_more : (gs more : List Group) (m : Module_type) → IsCounted gs m → IsCounted (gs ++ more) m
+counted_more gs more m s = record { within = within_more gs more (module_items m) s.within; size = s.size ∙ ap suc (sym (sizes_stay gs more (module_items m) s.within)) }
 
 pub counted_grows : (gs hs : List Group) (m : Module_type) → Grows gs hs → IsCounted gs m → IsCounted hs m
-counted_grows gs hs m (more, e) s = subst (λ (xs : List Group). IsCounted xs m) (sym e) (counted_more gs more m (total_grows gs (gs ++ more) (more, refl)) s)
+counted_grows gs hs m (more, e) s = subst (λ (xs : List Group). IsCounted xs m) (sym e) (counted_more gs more m s)
 
 -- ## What a written type comes to is of the table
 
@@ -199,7 +155,7 @@ pub decl_counted : (outers : List (List Core_entry)) (gs hs : List Group) (m p :
     → All (IsKnown (total gs)) (module_entries m) → IsFree (decl_checks outers gs m d) → declared outers gs m d ≡ Some (hs, p) → IsCounted gs m → IsCounted hs p
 decl_counted outers gs hs m p (module_type w) known f e s =
     let g : Group = closed_group (module_entries m) (written_group w) in
-    reached gs hs p (with_group_of gs m (written_group w)) e (counted_types (grown gs g) m (group_ids gs g) (counted_grows gs (grown gs g) m (grows_with gs g) s))
+    reached gs hs p (with_group_of gs m (written_group w)) e (counted_types (grown gs g) m (group_ids gs g) (counted_grows gs (grown gs g) m (grown_by gs g) s))
 decl_counted outers gs hs m p (module_import i) known f e s =
     mapped gs hs p (with_import gs m (i.module, i.name)) (entity_of m.types i.ty)
     (λ t is. counted_import gs m (i.module, i.name) t (entity_within m.features gs m.types i.ty t known (free_left (ref_checks m.features gs m.types i.ty) (if_entity (import_checks gs m) (entity_of m.types i.ty)) f) is) s) e

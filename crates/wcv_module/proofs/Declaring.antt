@@ -11,9 +11,9 @@ use Rattle.wcv_core.specs.declared.core_types.RecGroup.{RecGroup}
 use Rattle.wcv_core.specs.declared.core_types.SubType.{SubType}
 use Rattle.wcv_core.specs.declared.error.Error.{Error}
 use Rattle.wcv_core.specs.declared.features.WasmFeatures.{WasmFeatures}
-use Rattle.wcv_module.specs.Kept.{Grows, IsCounted}
+use Rattle.wcv_module.specs.Kept.{IsCounted}
 use Rattle.wcv_module.proofs.Counting.{decl_counted}
-use Rattle.wcv_module.proofs.Growing.{grows_not, grows_on, all_known_grows}
+use Rattle.wcv_module.proofs.Growing.{Grows, all_known_grows}
 use Rattle.wcv_syntax.specs.Model.{Module_decl}
 use Rattle.wcv_syntax.specs.ModuleTypes.{Module_type, module_entries, Made, and_then, on_made, core_form, core_sub, written_group, with_group_of, group_joins, empty_module, decl_checks, declared, all_declared, module_checks}
 use Rattle.wcv_syntax.specs.View.{composite_view, sub_view, rec_view, module_decl_view}
@@ -54,7 +54,6 @@ pub record IsSoFar (outers : List (List Core_entry)) (gs hs : List Group) (m n :
   pub caused : (offset : ℕ) (e : Error) → MemoryOrCausedBy (module_checks outers hs n rest) offset e → MemoryOrCausedBy (module_checks outers gs m ds) offset e
   pub known : All (IsKnown (total hs)) (module_entries n)
   pub around : All (All (IsKnown (total hs))) outers
-  pub grows : Grows gs hs
   pub counted : IsCounted hs n
 
 pub decl_caused : (outers : List (List Core_entry)) (gs hs : List Group) (m n : Module_type) (ds : List Module_decl) (d : Module_decl) (rest : List Module_decl) (offset : ℕ) (e : Error)
@@ -74,7 +73,6 @@ decl_next outers gs hs is m n p ds d rest s made free known grows =
       caused = λ offset e c. s.caused offset e (then_second (decl_checks outers hs n d) after offset e free (subst (λ cs. MemoryOrCausedBy cs offset e) (sym later) c));
       known = known;
       around = all_known_grows hs is outers grows s.around;
-      grows = grows_on gs hs is s.grows grows;
       counted = decl_counted outers hs is n p d s.known free made s.counted;
     }
 
@@ -87,6 +85,5 @@ decl_none outers gs fs m ds e around =
       caused = λ offset x c. c;
       known = λ k d l. Prim.absurd (omega arith);
       around = around;
-      grows = grows_not gs;
       counted = record { within = λ k d l. Prim.absurd (omega arith); size = refl };
     })

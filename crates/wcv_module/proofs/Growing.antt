@@ -1,56 +1,52 @@
 -- The table of core types only grows.
 use Rattle.std.proofs.Common.{◌≡◌, ℕ, zero, suc, ◌+◌, ◌<◌, ◌≤◌, List, [], ◌∷◌, ◌++◌, length, refl, sym, ◌∙◌, ap, arith, subst, Option, Some, None, Result, Ok, Err, OnOk, OnErr, All, get_or, append_assoc, inl, inr, slice_get}
-use Rattle.std.proofs.lemmas.List.{append-nil}
 use Rattle.std.proofs.lemmas.Option.{slice_get_within, get_or_from_slice_get}
 use Rattle.std.proofs.lemmas.List.Elements.{All-get_or}
 use Rattle.std.specs.Option.{option_map}
 use Rattle.wcv_core.proofs.Kept.{map-append}
 use Rattle.wcv_core.proofs.Ranges.{known_push, known_more}
 use Rattle.wcv_core.specs.CoreForm.{Group}
-use Rattle.wcv_core.specs.CoreGroups.{total, id_of}
-use Rattle.wcv_core.specs.CoreJoining.{IsLeft, grown}
-use Rattle.wcv_core.specs.CoreTable.{joined_to}
+use Rattle.wcv_core.specs.CoreGroups.{total}
+use Rattle.wcv_core.specs.CoreJoining.{IsLeft}
 use Rattle.wcv_core.specs.CoreWritten.{Core_entry, sub_entry, module_entry, IsKnown}
 use Rattle.wcv_core.specs.declared.error.Error.{Error}
-use Rattle.wcv_module.specs.Kept.{Grows, IsUndone}
+use Rattle.wcv_module.specs.Kept.{IsUndone}
 use Rattle.wcv_syntax.specs.CoreItems.{type_entry}
 use Rattle.wcv_syntax.specs.ModuleTypes.{Module_type, module_entries, with_type, at_index, on_entry, aliased}
+use Rattle.wcv_types.specs.Arena.{Arena}
+use Rattle.wcv_types.specs.CoreCalls.{with_core}
+use Rattle.wcv_types.specs.Standing.{Extends, KeepsTrees}
+use Rattle.wcv_types.proofs.CoreGrown.{total_more}
+use Rattle.wcv_types.proofs.Grown.{extends_refl, keeps_trees}
 
 -- ## Tables
 
-pub grows_not : (gs : List Group) → Grows gs gs
-grows_not gs = ([], sym (append-nil gs))
+-- the table of core types only grew
+abbrev pub Grows : List Group → List Group → Type 0
+Grows gs hs = (more : List Group) × (hs ≡ gs ++ more)
 
-pub grows_on : (gs hs is : List Group) → Grows gs hs → Grows hs is → Grows gs is
-grows_on gs hs is (a, e) (b, f) = (a ++ b, f ∙ (ap (λ xs. xs ++ b) e ∙ append_assoc gs a b))
-
-pub grows_with : (gs : List Group) (g : Group) → Grows gs (grown gs g)
-grows_with gs [] = grows_not gs
-grows_with gs (s ∷ ss) = go (id_of gs (s ∷ ss))
-  where
-    go : (o : Option ℕ) → Grows gs (joined_to o gs (s ∷ ss))
-    go None = ((s ∷ ss) ∷ [], refl)
-    go (Some i) = grows_not gs
-
-pub grows_left : (m n : Module_type) (gs hs : List Group) (g : Group) (e : Error) → IsLeft with_type (λ x. x) m n gs hs g e → Grows gs hs
-grows_left m n gs hs g e (inl s) = subst (Grows gs) (sym s.1) (grows_not gs)
-grows_left m n gs hs g e (inr s) = subst (Grows gs) (sym s.1.0) (grows_with gs g)
+pub extended : (a b : Arena) → Extends a b → Grows a.core b.core
+extended a b g = (g.groups, g.core)
 
 pub undone_left : (m n : Module_type) (gs hs : List Group) (g : Group) (e : Error) → IsLeft with_type (λ x. x) m n gs hs g e → IsUndone m n gs hs e
 undone_left m n gs hs g e (inl s) = inl s
 undone_left m n gs hs g e (inr s) = inr s.0
 
-pub total-joined : (gs more : List Group) → total (gs ++ more) ≡ total gs + total more
-total-joined [] more = omega arith
-total-joined (g ∷ gs) more = omega (arith, total-joined gs more)
+-- ## Arenas of which the table alone grew
 
-pub total_grows : (gs hs : List Group) → Grows gs hs → total gs ≤ total hs
-total_grows gs hs (more, e) = omega (arith, total-joined gs more, ap total e)
+pub core_same : (a : Arena) → a ≡ with_core a a.core
+core_same a = refl
+
+pub core_on : (a b c : Arena) → b ≡ with_core a b.core → c ≡ with_core b c.core → c ≡ with_core a c.core
+core_on a b c e f = f ∙ ap (λ (x : Arena). with_core x c.core) e
+
+pub keeps_same : (a : Arena) → KeepsTrees a a
+keeps_same a = keeps_trees a a (extends_refl a)
 
 -- ## Entries
 
 pub known_grows : (gs hs : List Group) (es : List Core_entry) → Grows gs hs → All (IsKnown (total gs)) es → All (IsKnown (total hs)) es
-known_grows gs hs es w a = known_more (total gs) (total hs) es (total_grows gs hs w) a
+known_grows gs hs es w a = known_more (total gs) (total hs) es (total_more gs w.0 hs w.1) a
 
 pub all_known_grows : (gs hs : List Group) (outers : List (List Core_entry)) → Grows gs hs → All (All (IsKnown (total gs))) outers → All (All (IsKnown (total hs))) outers
 all_known_grows gs hs outers w a k d l = known_grows gs hs (get_or outers k d) w (a k d l)

@@ -1,5 +1,6 @@
 pub mod Counting
 pub mod Declaring
+pub mod Fitting
 pub mod Growing
 pub mod Indices
 pub mod Joins

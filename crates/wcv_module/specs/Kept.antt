@@ -2,7 +2,7 @@
 use Rattle.std.specs.Prelude.{◌≡◌, ◌⊎◌, ℕ, suc, ◌+◌, ◌<◌, ◌≤◌, ◌^◌, ◌++◌, List, [], ◌∷◌, length, map, All}
 use Rattle.wcv_core.specs.CoreForm.{Group}
 use Rattle.wcv_core.specs.CoreGroups.{total}
-use Rattle.wcv_core.specs.CoreSizes.{IsEntityWithin, entity_size}
+use Rattle.wcv_core.specs.CoreSizes.{IsEntityWithin}
 use Rattle.wcv_core.specs.Label.{is_among}
 use Rattle.wcv_core.specs.Refusal.{error_kind}
 use Rattle.wcv_core.specs.declared.core_types.CoreTypeId.{CoreTypeId}
@@ -11,7 +11,8 @@ use Rattle.wcv_core.specs.declared.core_types.EntityType.TheVariants as entity
 use Rattle.wcv_core.specs.declared.error.Error.{Error}
 use Rattle.wcv_core.specs.declared.error.ErrorKind.TheVariants as kind
 use Rattle.wcv_syntax.specs.Model.{Text}
-use Rattle.wcv_syntax.specs.ModuleTypes.{Core_export, Module_type, export_names, max_module_size}
+use Rattle.wcv_types.specs.Standing.{entity_sizes}
+use Rattle.wcv_syntax.specs.ModuleTypes.{Core_import, Core_export, Module_type, export_names, max_module_size}
 
 -- the names of exports are those of the set, the types can be counted, and the size is within its limit
 pub record IsKept (types : List CoreTypeId) (exports : List Core_export) (names : List Text) (size : ℕ) : Type 0 where
@@ -25,10 +26,6 @@ IsEntityKnown n (entity.Func t) = t.index < n
 IsEntityKnown n (entity.Tag t) = t.index < n
 IsEntityKnown n _ = Unit {0}
 
--- the table of core types only grew
-abbrev pub Grows : List Group → List Group → Type 0
-Grows gs hs = (more : List Group) × (hs ≡ gs ++ more)
-
 -- after a refusal module and table are as before; out of memory nothing is said of them
 abbrev pub IsUndone : Module_type → Module_type → List Group → List Group → Error → Type 0
 IsUndone m n gs hs e = ((n ≡ m) × (hs ≡ gs)) ⊎ (error_kind e ≡ kind.OutOfMemory)
@@ -37,9 +34,11 @@ IsUndone m n gs hs e = ((n ≡ m) × (hs ≡ gs)) ⊎ (error_kind e ≡ kind.Out
 abbrev pub module_items : Module_type → List EntityType
 module_items m = map (λ i. i.1) m.imports ++ map (λ e. e.1) m.exports
 
-abbrev pub entity_sizes : List Group → List EntityType → ℕ
-entity_sizes gs [] = 0
-entity_sizes gs (e ∷ es) = entity_size gs e + entity_sizes gs es
+-- how deep its type is: 1 without entries, else 2
+abbrev pub module_depth : List Core_import → List Core_export → ℕ
+module_depth [] [] = 1
+module_depth [] (e ∷ es) = 2
+module_depth (i ∷ is) es = 2
 
 -- what it names is of the table, and its size is 1 and those of its items
 pub record IsCounted (gs : List Group) (m : Module_type) : Type 0 where

@@ -6,14 +6,17 @@ ghost use Rattle.wcv_core.specs.CoreSizes.{IsEntityWithin};
 ghost use Rattle.wcv_core.specs.CoreWritten.{IsKnown};
 ghost use Rattle.wcv_syntax.specs.ModuleTypes.{module_entries, empty_module, decl_checks, declared, all_declared, module_checks};
 ghost use Rattle.wcv_syntax.specs.View.{module_decl_view};
-ghost use Rattle.wcv_module.specs.Kept.{Grows, IsUndone, module_items, entity_sizes};
+ghost use Rattle.wcv_module.specs.Kept.{IsUndone, module_items};
+ghost use Rattle.wcv_types.specs.CoreCalls.{with_core};
+ghost use Rattle.wcv_types.specs.Standing.{Extends, KeepsTrees, entity_sizes};
 
 use crate::limits::{check_group, check_import_names, check_name};
 use crate::module::Module;
 use crate::outer::OuterTypes;
 use std::alloc::Global;
-use wcv_core::{CoreTypes, Error, WasmFeatures};
+use wcv_core::{Error, WasmFeatures};
 use wcv_syntax::{ModuleDecl, ModuleTypeDeclaration};
+use wcv_types::TypeAlloc;
 
 /// A declaration of a core module or of its type.
 pub trait ModuleDeclaration: Drop {
@@ -61,11 +64,7 @@ impl ModuleDeclaration for ModuleDecl {
     ghost form = { code_decl_view };
 
     fn into_type_declaration(self) -> ModuleTypeDeclaration {
-        match self {
-            ModuleDecl::Ty(rec) => ModuleTypeDeclaration::Ty(rec),
-            ModuleDecl::Import(import) => ModuleTypeDeclaration::Import(import),
-            ModuleDecl::Export { name, ty } => ModuleTypeDeclaration::Export { name, ty },
-        }
+        self.in_module_type()
     }
 
     fn check_limits(&self, offset: u64) -> Result<(), Error> {
@@ -78,28 +77,33 @@ impl ModuleDeclaration for ModuleDecl {
 }
 
 impl Module {
-    /// Adds a declaration behind the others.
+    /// Adds a declaration behind the others. Of the arena the table of core types alone grows.
+    #[tactic(auto, using(wcv_types::proofs::Grown::extends_refl, crate::proofs::Growing::keeps_same))]
     pub fn add_declaration<O: OuterTypes>(
         &mut self,
         decl: ModuleTypeDeclaration,
         outers: &O,
-        core: &mut CoreTypes,
+        types: &mut TypeAlloc,
         offset: u64,
     ) -> Result<(), Error>
-        requires known { All (IsKnown (total core.old)) (module_entries self.old) }
-        requires around { All (All (IsKnown (total core.old))) (O.spaces outers.now) }
-        ensures ok { OnOk result (declared (O.spaces outers.now) core.old self.old (module_decl_view decl) ≡ Some (core.new, self.new)) }
-        ensures free { OnOk result (IsFree (decl_checks (O.spaces outers.now) core.old self.old (module_decl_view decl))) }
-        ensures known { All (IsKnown (total core.new)) (module_entries self.new) }
-        ensures grows { Grows core.old core.new }
-        ensures cause { IfErr result (MemoryOrCausedBy (decl_checks (O.spaces outers.now) core.old self.old (module_decl_view decl)) offset) }
-        ensures err { IfErr result (IsUndone self.old self.new core.old core.new) }
+        requires known { All (IsKnown (total types.old.core)) (module_entries self.old) }
+        requires around { All (All (IsKnown (total types.old.core))) (O.spaces outers.now) }
+        ensures ok { OnOk result (declared (O.spaces outers.now) types.old.core self.old (module_decl_view decl) ≡ Some (types.new.core, self.new)) }
+        ensures free { OnOk result (IsFree (decl_checks (O.spaces outers.now) types.old.core self.old (module_decl_view decl))) }
+        ensures known { All (IsKnown (total types.new.core)) (module_entries self.new) }
+        ensures cause { IfErr result (MemoryOrCausedBy (decl_checks (O.spaces outers.now) types.old.core self.old (module_decl_view decl)) offset) }
+        ensures err { IfErr result (IsUndone self.old self.new types.old.core types.new.core) }
+        ensures rest { types.new ≡ with_core types.old types.new.core }
+        ensures grown { Extends types.old types.new }
+        ensures stay { KeepsTrees types.old types.new }
     {
         match decl {
-            ModuleTypeDeclaration::Ty(rec) => self.add_types(rec, core, offset),
-            ModuleTypeDeclaration::Import(import) => self.add_import(import, core, offset),
+            ModuleTypeDeclaration::Ty(rec) => self.add_types(rec, types, offset),
+            ModuleTypeDeclaration::Import(import) => {
+                self.add_import(import, types.core_types(), offset)
+            }
             ModuleTypeDeclaration::Export { name, ty } => {
-                self.add_written_export(name.as_str(), &ty, core, offset)
+                self.add_written_export(name.as_str(), &ty, types.core_types(), offset)
             }
             ModuleTypeDeclaration::OuterAlias { count, index } => {
                 self.add_outer_alias(outers, count, index, offset)
@@ -108,26 +112,29 @@ impl Module {
     }
 
     /// The module that declarations make, where they have no cause of a refusal. All of them stand at one offset.
+    /// Of the arena the table of core types alone grows, whatever is answered.
     pub fn declare<D: ModuleDeclaration, O: OuterTypes>(
         alloc: Global,
         features: WasmFeatures,
         decls: Vec<D>,
         outers: &O,
-        core: &mut CoreTypes,
+        types: &mut TypeAlloc,
         offset: u64,
     ) -> Result<Module, Error>
-        requires around { All (All (IsKnown (total core.old))) (O.spaces outers.now) }
-        ensures ok { IfOk result (λ made. all_declared (O.spaces outers.now) core.old (empty_module features) (map D.form decls.items) ≡ Some (core.new, made)) }
-        ensures free { OnOk result (IsFree (module_checks (O.spaces outers.now) core.old (empty_module features) (map D.form decls.items))) }
-        ensures known { IfOk result (λ made. All (IsKnown (total core.new)) (module_entries made)) }
-        ensures within { IfOk result (λ made. All (IsEntityWithin (total core.new)) (module_items made)) }
-        ensures size { IfOk result (λ made. made.size ≡ suc (entity_sizes core.new (module_items made))) }
-        ensures grows { Grows core.old core.new }
-        ensures cause { IfErr result (MemoryOrCausedBy (module_checks (O.spaces outers.now) core.old (empty_module features) (map D.form decls.items)) offset) }
+        requires around { All (All (IsKnown (total types.old.core))) (O.spaces outers.now) }
+        ensures ok { IfOk result (λ made. all_declared (O.spaces outers.now) types.old.core (empty_module features) (map D.form decls.items) ≡ Some (types.new.core, made)) }
+        ensures free { OnOk result (IsFree (module_checks (O.spaces outers.now) types.old.core (empty_module features) (map D.form decls.items))) }
+        ensures known { IfOk result (λ made. All (IsKnown (total types.new.core)) (module_entries made)) }
+        ensures within { IfOk result (λ made. All (IsEntityWithin (total types.new.core)) (module_items made)) }
+        ensures size { IfOk result (λ made. made.size ≡ suc (entity_sizes types.new.core (module_items made))) }
+        ensures cause { IfErr result (MemoryOrCausedBy (module_checks (O.spaces outers.now) types.old.core (empty_module features) (map D.form decls.items)) offset) }
+        ensures rest { types.new ≡ with_core types.old types.new.core }
+        ensures grown { Extends types.old types.new }
+        ensures stay { KeepsTrees types.old types.new }
     {
         let mut made = Module::new(alloc, features);
         for decl in decls {
-            made.add_declaration(decl.into_type_declaration(), outers, core, offset)?;
+            made.add_declaration(decl.into_type_declaration(), outers, types, offset)?;
         }
         made.check_whole(offset)?;
         Ok(made)

@@ -1,28 +1,32 @@
 // The type of a core module, as its declarations make it.
-ghost use Rattle.std.specs.Prelude.{◌≡◌, ◌⊎◌, ℕ, ◌+◌, ◌<◌, ◌≤◌, ◌^◌, ◌++◌, ◌∷◌, List, [], length, map, slice_get, Some, All, IfOk, OnOk, OnErr, IfErr};
+ghost use Rattle.std.specs.Prelude.{◌≡◌, ◌⊎◌, ℕ, suc, ◌+◌, ◌<◌, ◌≤◌, ◌^◌, ◌++◌, ◌∷◌, List, [], length, map, slice_get, Some, All, IfOk, OnOk, OnErr, IfErr};
 ghost use Rattle.std.specs.Option.{option_map};
 ghost use Rattle.wcv_core.specs.Checks.{IsFree, CausedBy, MemoryOrCausedBy, too_many};
 ghost use Rattle.wcv_core.specs.CoreForm.{group_form};
 ghost use Rattle.wcv_core.specs.CoreGroups.{total};
 ghost use Rattle.wcv_core.specs.CoreJoining.{IsLeft};
 ghost use Rattle.wcv_core.specs.CoreMatching.{type_at};
+ghost use Rattle.wcv_core.specs.CoreSizes.{IsEntityWithin};
 ghost use Rattle.wcv_core.specs.CoreWritten.{IsKnown, closed_group};
 ghost use Rattle.wcv_core.specs.Refusal.{error_kind, error_offset};
-ghost use Rattle.wcv_module.specs.Kept.{IsEntityKnown, Grows};
+ghost use Rattle.wcv_module.specs.Kept.{IsEntityKnown, module_items};
 ghost use Rattle.wcv_syntax.specs.CoreItems.{ref_checks, entity_of, entity_size, form_size};
 ghost use Rattle.wcv_syntax.specs.ModuleTypes.{Module_type, empty_module, module_entries, with_type, with_import, with_export, max_module_entries, max_module_size, types_checks, size_checks, import_checks, export_checks, import_joins, group_joins, with_group_of, whole_checks};
+ghost use Rattle.wcv_types.specs.CoreCalls.{with_core};
+ghost use Rattle.wcv_types.specs.Standing.{Extends, KeepsTrees, Fits, entity_sizes};
+ghost use Rattle.wcv_types.specs.declared.arena.Node.TheVariants as node;
 
-use crate::maps::{ExportMap, ImportMap};
 use crate::pairs::check_pairs;
 use crate::types::{type_id_at, written};
+use crate::typing::depth_of;
 use std::alloc::Global;
 use std::marker::Model;
 use wcv_core::{
     CompositeInnerType, CoreTypeId, CoreTypes, EntityType, Error, ErrorKind, Excerpt,
     InternRecGroup, LabelSet, OutOfMemory, RecGroup, Text, WasmFeatures,
-    canonicalize_and_intern_rec_group,
 };
 use wcv_syntax::{Import, TypeRef};
+use wcv_types::{ExportMap, ImportMap, ModuleType, TypeAlloc, TypeInfo};
 
 /// How many types a module may have, and so of imports and of exports.
 const MAX_ENTRIES: usize = 1_000_000;
@@ -196,6 +200,28 @@ impl Module {
         written(&self.features, self.types.as_slice(), core, ty, offset)
     }
 
+    /// The type that the module is. It may join the arena.
+    pub fn into_type(self, types: &TypeAlloc) -> ModuleType
+        requires within { All (IsEntityWithin (total types.now.core)) (module_items self) }
+        requires size { self.size ≡ suc (entity_sizes types.now.core (module_items self)) }
+        ensures size { result.info.size ≡ self.size }
+        ensures imports { result.imports ≡ self.imports }
+        ensures exports { result.exports ≡ self.exports }
+        ensures fits { Fits types.now (node.Module result) }
+    {
+        let _ = types;
+        let depth = depth_of(&self.imports, &self.exports);
+        ModuleType {
+            info: TypeInfo {
+                size: self.size as u32,
+                depth,
+            },
+            imports: self.imports,
+            exports: self.exports,
+            types: self.types,
+        }
+    }
+
     /// Whether no two imports have one pair of names, as the type of a module asks.
     pub fn check_whole(&self, offset: u64) -> Result<(), Error>
         ensures free { OnOk result (IsFree (whole_checks self.now)) }
@@ -214,23 +240,27 @@ impl Module {
         Ok(self.imports.copy(self.alloc)?)
     }
 
-    /// Adds a group of types behind the others: puts it into closed form and interns it.
+    /// Adds a group of types behind the others: puts it into closed form and interns it. Of the arena the table
+    /// of core types alone grows.
+    #[tactic(auto, using(wcv_types::proofs::Grown::extends_refl, crate::proofs::Growing::keeps_same))]
     pub fn add_types(
         &mut self,
         rec: RecGroup,
-        core: &mut CoreTypes,
+        types: &mut TypeAlloc,
         offset: u64,
     ) -> Result<(), Error>
-        requires known { All (IsKnown (total core.old)) (module_entries self.old) }
-        ensures ok { OnOk result ((core.new, self.new) ≡ with_group_of core.old self.old (group_form rec)) }
-        ensures free { OnOk result (IsFree (group_joins core.old self.old (group_form rec))) }
-        ensures known { All (IsKnown (total core.new)) (module_entries self.new) }
-        ensures grows { Grows core.old core.new }
-        ensures cause { IfErr result (MemoryOrCausedBy (group_joins core.old self.old (group_form rec)) offset) }
-        ensures err { IfErr result (IsLeft with_type (λ m. m) self.old self.new core.old core.new (closed_group (module_entries self.old) (group_form rec))) }
+        requires known { All (IsKnown (total types.old.core)) (module_entries self.old) }
+        ensures ok { OnOk result ((types.new.core, self.new) ≡ with_group_of types.old.core self.old (group_form rec)) }
+        ensures free { OnOk result (IsFree (group_joins types.old.core self.old (group_form rec))) }
+        ensures known { All (IsKnown (total types.new.core)) (module_entries self.new) }
+        ensures cause { IfErr result (MemoryOrCausedBy (group_joins types.old.core self.old (group_form rec)) offset) }
+        ensures err { IfErr result (IsLeft with_type (λ m. m) self.old self.new types.old.core types.new.core (closed_group (module_entries self.old) (group_form rec))) }
+        ensures rest { types.new ≡ with_core types.old types.new.core }
+        ensures grown { Extends types.old types.new }
+        ensures stay { KeepsTrees types.old types.new }
     {
         check_room(self.types.len(), rec.types.len(), "types", offset)?;
-        match canonicalize_and_intern_rec_group(self, core, rec, offset) {
+        match types.intern_rec_group(self, rec, offset) {
             Ok(()) => Ok(()),
             Err(err) => Err(err),
         }

@@ -40,6 +40,7 @@ fn past(depth: u32, len: usize, offset: u64) -> Error
 }
 
 /// Nothing is open around a module.
+#[derive(Drop)]
 pub struct NoOuter;
 
 impl OuterTypes for NoOuter {
@@ -54,6 +55,7 @@ impl OuterTypes for NoOuter {
 }
 
 /// What is open around a module, the outermost first.
+#[derive(Drop)]
 pub struct Enclosing<'a, G> {
     pub groups: &'a [G],
 }
