@@ -41,7 +41,7 @@ context-id : (c : Context) → rename_context (λ x. x) (λ x. x) c ≡ c
 context-id c =
     let i : rename_paths (λ (x : Name). x) c.imported ≡ c.imported = map-id c.imported in
     let d : rename_defined (λ x. x) c.defined ≡ c.defined = map-id c.defined in
-    λ j. record c { space = λ k. trees-id (c.space k) j; side = λ s. entries-id (c.side s) j; imported = i j; defined = d j; named = λ s. identities-id (c.named s) j }
+    λ j. record c { core = λ k. trees-id (c.core k) j; space = λ k. trees-id (c.space k) j; side = λ s. entries-id (c.side s) j; imported = i j; defined = d j; named = λ s. identities-id (c.named s) j }
 
 outer-id : (cs : List Context) → map (rename_context (λ x. x) (λ x. x)) cs ≡ cs
 outer-id [] = refl

@@ -14,14 +14,14 @@ use Rattle.wcv_types.specs.Abi.{handle, borrow, abi_size}
 use Rattle.wcv_types.specs.Measure.{size, depth}
 use Rattle.wcv_types.specs.Rename.{rename, rename_parts}
 use Rattle.wcv_types.specs.Tree as tree
-use Rattle.wcv_types.specs.Tree.{Former, nothing, primitive, resource, defined, func, instance, component, type_entity, here, is_resource, sort, node, none, part, Parts}
+use Rattle.wcv_types.specs.Tree.{Former, nothing, primitive, resource, defined, func, instance, component, type_entity, core_module, core_instance, core_type, core_item, here, is_resource, sort, node, none, part, Parts}
 use Rattle.wcv_types.proofs.AbiRenamed.{abi_size-rename, contains-rename}
 use Rattle.wcv_types.proofs.Measure.{size-rename, depth-rename}
 use Rattle.wcv_lower.specs.Checks.{Checks, IsFree, if_found, missing_of, too_many, max_size, max_depth, max_abi_size}
 use Rattle.wcv_lower.specs.Context.{Type_tree, Context}
 use Rattle.wcv_lower.specs.Defined.{former, written_parts, handle_index, made_of, made_checks, defined_tree, own_checks, primitive_of, is_key, is_char, has_borrow, bad_key, bad_map_value, bad_element, simple_content, content_checks, size_checks, defined_checks}
 use Rattle.wcv_lower.specs.Renamed.{rename_context}
-use Rattle.wcv_lower.specs.Values.{type_at, if_sort, resource_at, Written_parts, value_tree, option_tree, parts_checks}
+use Rattle.wcv_lower.specs.Values.{type_at, if_sort, resource_at, Written_parts, value_tree, option_tree}
 use Rattle.wcv_lower.proofs.Laws.{mapped-square}
 use Rattle.wcv_lower.proofs.ValueLaws.{type_at-renamed, sorted-renamed, sorts-renamed, value_tree-renamed, option_tree-renamed, parts_trees-renamed, parts_checks-renamed, found_of, parts_there}
 
@@ -68,6 +68,10 @@ module _ (f g : Name → Name) where
   primitive_of-renamed (node (defined i (tree.flags_of ns)) ps) = refl
   primitive_of-renamed (node (defined i (tree.enum_of ns)) ps) = refl
   primitive_of-renamed (node nothing ps) = refl
+  primitive_of-renamed (node (core_module i n) ps) = refl
+  primitive_of-renamed (node (core_instance i n) ps) = refl
+  primitive_of-renamed (node (core_type i) ps) = refl
+  primitive_of-renamed (node (core_item e) ps) = refl
   primitive_of-renamed (node (resource r s) ps) = refl
   primitive_of-renamed (node (func i b) ps) = refl
   primitive_of-renamed (node (instance i own) ps) = refl

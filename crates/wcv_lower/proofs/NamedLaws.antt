@@ -4,12 +4,11 @@ use Rattle.std.specs.Prelude.{Option}
 use Rattle.std.specs.Option.{option_map}
 use Rattle.wcv_core.specs.Names.{Name}
 use Rattle.wcv_core.specs.declared.error.ErrorKind.TheVariants as kind
-use Rattle.wcv_types.specs.Identity.{Identity, of_node, of_reference, identity_at, rename_identity}
+use Rattle.wcv_types.specs.Identity.{Identity, identity_at, rename_identity}
 use Rattle.wcv_types.specs.Named.{is_named, passes, is_named_entry}
 use Rattle.wcv_types.specs.Rename.{rename, EachName}
-use Rattle.wcv_types.specs.Tree.{nothing, primitive, resource, defined, func, instance, component, type_entity, node, head, referenced}
-use Rattle.wcv_types.proofs.Each.{Each}
-use Rattle.wcv_types.proofs.Identity.{IdentityKept, identity-same}
+use Rattle.wcv_types.specs.Tree.{nothing, primitive, resource, defined, func, instance, component, type_entity, core_module, core_instance, core_type, core_item, node, head, referenced}
+use Rattle.wcv_types.proofs.Identity.{identity-same}
 use Rattle.wcv_types.proofs.Named.{is_in-same, is_named-same, passes-same}
 use Rattle.wcv_types.proofs.Renaming.{each-always}
 use Rattle.wcv_lower.specs.Checks.{asks_names, is_known, is_export_alone, unnamed}
@@ -45,6 +44,10 @@ module _ (w : Renaming) where
   entry-renamed ids (node (func i b) ps) = passes-renamed ids (node (func i b) ps)
   entry-renamed ids (node (instance i own) ps) = passes-renamed ids (node (instance i own) ps)
   entry-renamed ids (node (component i ins outs) ps) = refl
+  entry-renamed ids (node (core_module i n) ps) = refl
+  entry-renamed ids (node (core_instance i n) ps) = refl
+  entry-renamed ids (node (core_type i) ps) = refl
+  entry-renamed ids (node (core_item e) ps) = refl
 
   known-renamed : (ids : List Identity) (o : Option Identity) → is_known (to ids) (option_map (rename_identity f g) o) ≡ is_known ids o
   known-renamed ids None = refl
@@ -71,6 +74,10 @@ module _ (w : Renaming) where
   alone-renamed named importing (node (func i b) ps) = refl
   alone-renamed named importing (node (instance i own) ps) = refl
   alone-renamed named importing (node (component i ins outs) ps) = refl
+  alone-renamed named importing (node (core_module i n) ps) = refl
+  alone-renamed named importing (node (core_instance i n) ps) = refl
+  alone-renamed named importing (node (core_type i) ps) = refl
+  alone-renamed named importing (node (core_item e) ps) = refl
   alone-renamed named exporting t = refl
 
   pub unnamed-renamed : (k : Kind) (named : Side → List Identity) (s : Side) (t : Type_tree) → unnamed k (λ d. map (rename_identity w.resources.to w.identities.to) (named d)) s (rename w.resources.to w.identities.to t) ≡ unnamed k named s t

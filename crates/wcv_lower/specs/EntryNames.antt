@@ -1,6 +1,5 @@
 -- Names of imports and exports in a context.
 use Rattle.std.specs.Prelude.{List, [], ◌∷◌, ◌++◌, map, Option, Some}
-use Rattle.wcv_core.specs.Names.{Name}
 use Rattle.wcv_core.specs.declared.features.WasmFeatures.{WasmFeatures}
 use Rattle.wcv_types.specs.Identity.{Identity, of_reference, identity_at}
 use Rattle.wcv_types.specs.Tree.{Text, Extern_name, Sort, is_type, sort, head, created}
