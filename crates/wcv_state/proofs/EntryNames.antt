@@ -1,15 +1,14 @@
 -- Names of entries by ids, and by trees; what the names of a list are once an entry joined.
-use Rattle.std.proofs.Common.{◌≡◌, ◌≤◌, ℕ, List, [], ◌∷◌, ◌++◌, map, length, Bool, true, false, ◌&&◌, ◌||◌, cond, eqb, Option, Some, None, refl, sym, ap, ◌∙◌, subst, arith, append_assoc, append-nil, inl, inr, ⊎_elim}
+use Rattle.std.proofs.Common.{◌≡◌, ◌≤◌, ℕ, List, [], ◌∷◌, ◌++◌, map, length, Bool, true, false, ◌&&◌, ◌||◌, cond, eqb, Option, Some, None, refl, sym, ap, ◌∙◌, subst, arith, append_assoc, append-nil, inl, ⊎_elim}
 use Rattle.std.specs.Prelude.{All, bytes_eq}
 use Rattle.std.specs.Map.{lookup}
 use Rattle.std.proofs.lemmas.Bool.{ne_eqb, false≢true}
 use Rattle.std.proofs.lemmas.List.{map-append}
 use Rattle.std.proofs.lemmas.List.Elements.{All-head, All-tail, All-weaker}
 use Rattle.std.proofs.Math.Bool.{and-false}
-use Rattle.wcv_core.specs.Names.{Name}
 use Rattle.wcv_core.specs.declared.features.WasmFeatures.{WasmFeatures}
 use Rattle.wcv_types.specs.Arena.{Arena}
-use Rattle.wcv_types.specs.Entities.{any_part, entity_tree, entry_trees, EntityStands, EntryStands}
+use Rattle.wcv_types.specs.Entities.{entity_tree, entry_trees, EntityStands, EntryStands}
 use Rattle.wcv_types.specs.Identity.{Identity}
 use Rattle.wcv_types.specs.Tree.{Text, Extern_name, Sort, sort}
 use Rattle.wcv_types.specs.Unfold.{Type_tree, trees}
@@ -21,7 +20,7 @@ use Rattle.wcv_types.specs.declared.item_map.ComponentItem.{ComponentItem}
 use Rattle.wcv_types.specs.declared.shapes.ComponentEntityType.{ComponentEntityType}
 use Rattle.wcv_types.specs.declared.shapes.ComponentEntityType.TheVariants as entity
 use Rattle.wcv_types.specs.declared.shapes.ComponentValType.TheVariants as val
-use Rattle.wcv_types.proofs.Unfolding.{sort_stands, known_stands}
+use Rattle.wcv_types.proofs.Unfolding.{sort_stands, known_any}
 use Rattle.wcv_core.specs.Refusal.{error_kind}
 use Rattle.wcv_core.specs.declared.error.Error.{Error}
 use Rattle.wcv_core.specs.declared.error.ErrorKind.TheVariants as kind
@@ -30,7 +29,7 @@ use Rattle.wcv_names.specs.Externs as externs
 use Rattle.wcv_names.specs.Externs.{extern_checks}
 use Rattle.wcv_names.specs.FuncTrees.{names_in}
 use Rattle.wcv_names.specs.KeySet.{HasKeys}
-use Rattle.wcv_names.specs.ResourceNames.{Reference, Named_ids, Resource_names, same_reference, reference_of, references_of, name_of, names_of}
+use Rattle.wcv_names.specs.ResourceNames.{Named_ids, same_reference, reference_of, references_of, name_of, names_of}
 use Rattle.wcv_names.proofs.ByNames.{name_checks-same}
 use Rattle.wcv_names.proofs.Entering.{keys_of_joined}
 use Rattle.wcv_lower.specs.Checks.{Checks, IsFree, is_among, max_entries, full_if, no_room}
@@ -40,7 +39,7 @@ use Rattle.wcv_state.specs.Entering.{entry_checks, room_counts}
 use Rattle.wcv_state.specs.Promises.{MemoryOrCausedBy}
 use Rattle.wcv_state.proofs.Calls.{caused_more}
 use Rattle.wcv_state.proofs.Keys.{keys_joined}
-use Rattle.wcv_lower.specs.EntryNames.{references_by, reference_in, named_by, named_references, resource_names, name_checks}
+use Rattle.wcv_lower.specs.EntryNames.{references_by, reference_in, named_references, resource_names, name_checks}
 use Rattle.wcv_state.specs.Contents.{Listed, SpaceLists}
 use Rattle.wcv_state.specs.Inside.{AreKeys, NamesAgree}
 use Rattle.wcv_state.specs.Looking.{created_reference, named_ids, has_name, IsUnnamedIn, entry_of}
@@ -52,16 +51,16 @@ module _ (a : Arena) where
   named_same : (n : Text) (x : ComponentEntityType) → EntityStands a x →
       references_of (map (λ q. (q, n)) (created_reference x)) ≡ map (λ r. (r, n)) (references_by (sort (entity_tree (trees a.nodes) x)) (entity_tree (trees a.nodes) x))
   named_same n (entity.Func i) h = sym (ap (λ (o : Sort). map (λ r. (r, n)) (references_by o (entity_tree (trees a.nodes) (entity.Func i)))) (sort_stands a (part.Func i) h))
-  named_same n (entity.Module i) h = absurd h
+  named_same n (entity.Module i) h = sym (ap (λ (o : Sort). map (λ r. (r, n)) (references_by o (entity_tree (trees a.nodes) (entity.Module i)))) (sort_stands a (part.Module i) h))
   named_same n (entity.Value (val.Primitive q)) h = refl
   named_same n (entity.Value (val.Ty i)) h = sym (ap (λ (o : Sort). map (λ r. (r, n)) (references_by o (entity_tree (trees a.nodes) (entity.Value (val.Ty i))))) (sort_stands a (part.Defined i) h))
   named_same n (entity.Ty (any.Resource q) r) h = refl
-  named_same n (entity.Ty (any.Defined i) r) h = sym (ap (λ (o : Option Identity). map (λ r. (r, n)) (reference_in o)) (known_stands a (part.Defined i) h.0))
-  named_same n (entity.Ty (any.Func i) r) h = sym (ap (λ (o : Option Identity). map (λ r. (r, n)) (reference_in o)) (known_stands a (part.Func i) h.0))
-  named_same n (entity.Ty (any.Instance i) r) h = absurd h.0
-  named_same n (entity.Ty (any.Component i) r) h = absurd h.0
-  named_same n (entity.Instance i) h = absurd h
-  named_same n (entity.Component i) h = absurd h
+  named_same n (entity.Ty (any.Defined i) r) h = sym (ap (λ (o : Option Identity). map (λ r. (r, n)) (reference_in o)) (known_any a (any.Defined i) h.0))
+  named_same n (entity.Ty (any.Func i) r) h = sym (ap (λ (o : Option Identity). map (λ r. (r, n)) (reference_in o)) (known_any a (any.Func i) h.0))
+  named_same n (entity.Ty (any.Instance i) r) h = sym (ap (λ (o : Option Identity). map (λ r. (r, n)) (reference_in o)) (known_any a (any.Instance i) h.0))
+  named_same n (entity.Ty (any.Component i) r) h = sym (ap (λ (o : Option Identity). map (λ r. (r, n)) (reference_in o)) (known_any a (any.Component i) h.0))
+  named_same n (entity.Instance i) h = sym (ap (λ (o : Sort). map (λ r. (r, n)) (references_by o (entity_tree (trees a.nodes) (entity.Instance i)))) (sort_stands a (part.Instance i) h))
+  named_same n (entity.Component i) h = sym (ap (λ (o : Sort). map (λ r. (r, n)) (references_by o (entity_tree (trees a.nodes) (entity.Component i)))) (sort_stands a (part.Component i) h))
 
   references_same : (es : Listed) → All (EntryStands a) es → references_of (named_ids es) ≡ named_references (entry_trees (trees a.nodes) es)
   references_same [] h = refl

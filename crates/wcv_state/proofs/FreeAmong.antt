@@ -6,7 +6,7 @@ use Rattle.wcv_types.specs.Gathering.{Gains, FreeAmong}
 use Rattle.wcv_types.specs.Resources.{is_free}
 use Rattle.wcv_types.specs.Sets.{has_resource, resource_names}
 use Rattle.wcv_types.specs.declared.ids.ResourceId.{ResourceId}
-use Rattle.wcv_types.proofs.Gathered.{has-member}
+use Rattle.wcv_types.proofs.Gaining.{has-member}
 use Rattle.wcv_types.proofs.IsFree.{is_free-free, free-is_free}
 use Rattle.wcv_lower.specs.Context.{Entries}
 use Rattle.wcv_lower.specs.Ending.{is_free_among}

@@ -1,20 +1,19 @@
 -- The names that an arena gives to what an entry makes, at a place.
-use Rattle.std.proofs.Common.{◌≡◌, ℕ, suc, ◌+◌, List, [], ◌∷◌, length, refl, sym, ◌∙◌, ap, subst, arith, Bool, cond, Some, None, length-append}
-use Rattle.std.specs.Prelude.{Option}
+use Rattle.std.proofs.Common.{◌≡◌, suc, ◌+◌, [], ◌∷◌, length, refl, sym, ◌∙◌, ap, arith, Bool, cond, Some, None, length-append}
 use Rattle.wcv_core.specs.Names.{Name, Place, number, stamp}
 use Rattle.wcv_core.proofs.Places.{under-refl}
 use Rattle.wcv_types.specs.Arena.{Arena}
 use Rattle.wcv_types.specs.Entities.{any_part}
 use Rattle.wcv_types.specs.Renewed as arena
 use Rattle.wcv_types.specs.Renewed.{next_name, OneMore, Renewed}
-use Rattle.wcv_types.specs.Standing.{Stands, with_node}
-use Rattle.wcv_types.specs.Tree.{Head, nothing, primitive, resource, defined, func, instance, component, type_entity, node, head, resource_type}
+use Rattle.wcv_types.specs.Standing.{Stands}
+use Rattle.wcv_types.specs.Tree.{Head, node, head, resource_type}
 use Rattle.wcv_types.specs.Unfold.{Type_tree, tree_at, head_of}
 use Rattle.wcv_types.specs.declared.arena.Node.TheVariants as n
 use Rattle.wcv_types.specs.declared.ids.ComponentAnyTypeId.{ComponentAnyTypeId}
 use Rattle.wcv_types.specs.declared.ids.ComponentAnyTypeId.TheVariants as any
 use Rattle.wcv_types.proofs.Unfolding.{head_in}
-use Rattle.wcv_lower.specs.Given.{Given, GivenNames, named, names_of, or_by_place, GivesAt}
+use Rattle.wcv_lower.specs.Given.{GivenNames, named, names_of, or_by_place, GivesAt}
 use Rattle.wcv_lower.specs.Names.{Origin, introduced, stamp_at, Under}
 use Rattle.wcv_lower.specs.NewTypes.{renewed_head, renewed, new_reference}
 use Rattle.wcv_lower.proofs.Given.{same_origin-refl}
@@ -42,8 +41,16 @@ module _ (a b : Arena) (p : Place) where
   again_given (any.Resource r) s w = stamp_given (ap (λ (x : Arena). x.stamps) w)
   again_given (any.Defined i) s w = node_given (ap (λ (x : Arena). length x.nodes) w.added ∙ length-append a.nodes (w.shape ∷ []) ∙ omega arith)
   again_given (any.Func i) s w = node_given (ap (λ (x : Arena). length x.nodes) w.added ∙ length-append a.nodes (w.shape ∷ []) ∙ omega arith)
-  again_given (any.Instance i) s w = absurd s
-  again_given (any.Component i) s w = absurd s
+  again_given (any.Instance i) s w = node_given (ap (λ (x : Arena). length x.nodes) w.added ∙ length-append a.nodes (w.shape ∷ []) ∙ omega arith)
+  again_given (any.Component i) s w = node_given (ap (λ (x : Arena). length x.nodes) w.added ∙ length-append a.nodes (w.shape ∷ []) ∙ omega arith)
+
+-- the table of core types stays
+pub again_core : (a b : Arena) (id : ComponentAnyTypeId) → OneMore a b id → b.core ≡ a.core
+again_core a b (any.Resource r) w = ap (λ (x : Arena). x.core) w
+again_core a b (any.Defined i) w = ap (λ (x : Arena). x.core) w.added
+again_core a b (any.Func i) w = ap (λ (x : Arena). x.core) w.added
+again_core a b (any.Instance i) w = ap (λ (x : Arena). x.core) w.added
+again_core a b (any.Component i) w = ap (λ (x : Arena). x.core) w.added
 
 -- a node under its new identity, by its head
 node_again : (gs : GivenNames) (p : Place) (j : Name) (h : Head Name Name) (t : Type_tree) → head t ≡ h → renewed_head (names_of gs) p h ≡ arena.renewed_head j h → renewed (names_of gs) p t ≡ arena.renewed j t
@@ -64,8 +71,18 @@ renewed_same a (any.Func i) p s =
   where
     head_of_func : Name → Head Name Name
     head_of_func x = arena.renewed_head x (head_of i.index (n.Func s.0))
-renewed_same a (any.Instance i) p s = absurd s
-renewed_same a (any.Component i) p s = absurd s
+renewed_same a (any.Instance i) p s =
+    node_again (again_names a (any.Instance i) p) p (number (length a.nodes)) (head_of i.index (n.Instance s.0)) (tree_at a (any_part (any.Instance i))) (head_in a.nodes i.index (n.Instance s.0) s.1)
+    (ap (λ (x : Name). head_of_instance x) (one_name (introduced p) (number (length a.nodes))))
+  where
+    head_of_instance : Name → Head Name Name
+    head_of_instance x = arena.renewed_head x (head_of i.index (n.Instance s.0))
+renewed_same a (any.Component i) p s =
+    node_again (again_names a (any.Component i) p) p (number (length a.nodes)) (head_of i.index (n.Component s.0)) (tree_at a (any_part (any.Component i))) (head_in a.nodes i.index (n.Component s.0) s.1)
+    (ap (λ (x : Name). head_of_component x) (one_name (introduced p) (number (length a.nodes))))
+  where
+    head_of_component : Name → Head Name Name
+    head_of_component x = arena.renewed_head x (head_of i.index (n.Component s.0))
 
 -- ## A resource that is made
 

@@ -30,7 +30,7 @@ use Rattle.wcv_state.specs.Ending.{with_kept}
 use Rattle.wcv_state.specs.Looking.{has_resource}
 use Rattle.wcv_state.specs.Promises.{MemoryOrCausedBy}
 use Rattle.wcv_state.proofs.Calls.{caused_more}
-use Rattle.wcv_state.proofs.FirstPositions.{drop_found, drop_past}
+use Rattle.wcv_state.proofs.Walks.{drop_found, drop_past}
 
 -- ## One cause
 
@@ -90,11 +90,13 @@ one_kept r es true (Some p) ps qs (Some ks) h =
 one_kept r es false o ps qs None h = refl
 one_kept r es false o ps qs (Some ks) h = ap (λ (xs : Kept). Some (map resource_path xs ++ ks)) (sym (some-inj h))
 
-keep_same : (r : ResourceId) (es : Entries) (b : Bool) (o : Option (List ℕ)) (left : Option (List (Name × List ℕ))) → b ≡ is_free_among (number r.index) es → o ≡ first_path (number r.index) es →
+-- of one that is free the path is the first
+keep_same : (r : ResourceId) (es : Entries) (b : Bool) (o : Option (List ℕ)) (left : Option (List (Name × List ℕ))) → b ≡ is_free_among (number r.index) es → (b ≡ true → o ≡ first_path (number r.index) es) →
     option_and_then (λ ks. cond b (option_map (λ p. (number r.index, p) ∷ ks) o) (Some ks)) left ≡ option_and_then (keep (number r.index) es) left
-keep_same r es b o left e f = λ j. option_and_then (λ ks. cond (e j) (option_map (λ p. (number r.index, p) ∷ ks) (f j)) (Some ks)) left
+keep_same r es true o left e f = λ j. option_and_then (λ ks. cond (e j) (option_map (λ p. (number r.index, p) ∷ ks) (f refl j)) (Some ks)) left
+keep_same r es false o left e f = λ j. option_and_then (λ ks. cond (e j) (option_map (λ p. (number r.index, p) ∷ ks) (first_path (number r.index) es)) (Some ks)) left
 
-pub kept_next : (ds : Defined) (es : Entries) (k : ℕ) (d : ResourceId × Option ValType) (b : Bool) (o : Option (List ℕ)) (ps qs : Kept) → slice_get ds k ≡ Some d → b ≡ is_free_among (number d.0.index) es → o ≡ first_path (number d.0.index) es →
+pub kept_next : (ds : Defined) (es : Entries) (k : ℕ) (d : ResourceId × Option ValType) (b : Bool) (o : Option (List ℕ)) (ps qs : Kept) → slice_get ds k ≡ Some d → b ≡ is_free_among (number d.0.index) es → (b ≡ true → o ≡ first_path (number d.0.index) es) →
     with_kept b d.0 o ps ≡ Some qs → KeptBefore ds es k ps → KeptBefore ds es (k + 1) qs
 kept_next ds es k d b o ps qs h e f q w =
     let left = kept (map defined_resource (drop (k + 1) ds)) es in
@@ -107,7 +109,7 @@ none_kept r true None ps (Some ks) h = refl
 none_kept r true (Some p) ps left h = absurd (false≢true h)
 none_kept r false o ps left h = absurd (false≢true h)
 
-pub kept_none : (ds : Defined) (es : Entries) (k : ℕ) (d : ResourceId × Option ValType) (b : Bool) (o : Option (List ℕ)) (ps : Kept) → slice_get ds k ≡ Some d → b ≡ is_free_among (number d.0.index) es → o ≡ first_path (number d.0.index) es →
+pub kept_none : (ds : Defined) (es : Entries) (k : ℕ) (d : ResourceId × Option ValType) (b : Bool) (o : Option (List ℕ)) (ps : Kept) → slice_get ds k ≡ Some d → b ≡ is_free_among (number d.0.index) es → (b ≡ true → o ≡ first_path (number d.0.index) es) →
     is_none (with_kept b d.0 o ps) ≡ true → KeptBefore ds es k ps → is_none (kept (map defined_resource ds) es) ≡ true
 kept_none ds es k d b o ps h e f q w =
     let left = kept (map defined_resource (drop (k + 1) ds)) es in

@@ -1,28 +1,28 @@
 -- Sets of ids stand for lists of identities.
-use Rattle.std.proofs.Common.{◌≡◌, ◌<◌, List, [], ◌∷◌, ◌++◌, refl, sym, ◌∙◌, ap, subst, arith, Bool, true, false, cond, eqb, Some, ◌||◌}
-use Rattle.std.specs.Prelude.{All, Option, slice_get, not, ◌&&◌, ◌≤◌, ℕ, option_to_list}
+use Rattle.std.proofs.Common.{◌≡◌, List, [], ◌∷◌, ◌++◌, refl, sym, ◌∙◌, ap, arith, Bool, true, false, cond, eqb, Some, ◌||◌}
+use Rattle.std.specs.Prelude.{slice_get, not, ◌&&◌, ◌≤◌, ℕ, option_to_list}
 use Rattle.std.proofs.Math.Bool.{and-false}
 use Rattle.std.proofs.lemmas.Bool.{eqb-true, ne_eqb}
 use Rattle.std.proofs.lemmas.List.Elements.{All-nil, All-head, All-tail, All-push}
 use Rattle.wcv_core.specs.Names.{Name, number, stamp, same}
 use Rattle.wcv_types.specs.Arena.{Arena}
 use Rattle.wcv_types.specs.Entities.{any_part, entity_tree, EntityStands}
-use Rattle.wcv_types.specs.Identity.{Identity, of_reference, identity_at, same_identity}
+use Rattle.wcv_types.specs.Identity.{of_reference, same_identity}
 use Rattle.wcv_types.specs.Named.{is_in}
 use Rattle.wcv_types.specs.Sets.{same_type, has_type, with_type, AllStand, identities}
 use Rattle.wcv_types.specs.Standing.{Stands, identity_of}
-use Rattle.wcv_types.specs.Tree.{Sort, sort, head}
-use Rattle.wcv_types.specs.Unfold.{Type_tree, trees, part_tree}
+use Rattle.wcv_types.specs.Tree.{Sort, sort}
+use Rattle.wcv_types.specs.Unfold.{trees, part_tree}
+use Rattle.wcv_types.specs.declared.arena.Node.{Node}
 use Rattle.wcv_types.specs.declared.arena.Node.TheVariants as n
 use Rattle.wcv_types.specs.declared.ids.ComponentAnyTypeId.{ComponentAnyTypeId}
 use Rattle.wcv_types.specs.declared.ids.ComponentAnyTypeId.TheVariants as any
-use Rattle.wcv_types.specs.declared.ids.ComponentDefinedTypeId.{ComponentDefinedTypeId}
-use Rattle.wcv_types.specs.declared.ids.ComponentFuncTypeId.{ComponentFuncTypeId}
 use Rattle.wcv_types.specs.declared.ids.Part.TheVariants as part
 use Rattle.wcv_types.specs.declared.shapes.ComponentEntityType.{ComponentEntityType}
 use Rattle.wcv_types.specs.declared.shapes.ComponentEntityType.TheVariants as entity
 use Rattle.wcv_types.proofs.Each.{map-push}
-use Rattle.wcv_types.proofs.Unfolding.{sort_stands, known_stands}
+use Rattle.wcv_types.proofs.Lists.{some-inj}
+use Rattle.wcv_types.proofs.Unfolding.{sort_stands, known_any}
 use Rattle.wcv_lower.specs.Context.{joined, with_named}
 use Rattle.wcv_lower.specs.Step.{created_by}
 use Rattle.wcv_state.specs.Looking.{is_built_entity, created_ids, with_created}
@@ -31,38 +31,40 @@ use Rattle.std.proofs.lemmas.Bool.{false≢true}
 -- ## Members
 
 module _ (a : Arena) where
-  apart : (i : ComponentDefinedTypeId) (j : ComponentFuncTypeId) → Stands a (part.Defined i) → Stands a (part.Func j) → false ≡ eqb i.index j.index
-  apart i j s t = go (eqb i.index j.index) refl
+  -- nodes of two sorts have two places
+  apart : (i j : ℕ) (x y : Node) → slice_get a.nodes i ≡ Some x → slice_get a.nodes j ≡ Some y → (x ≡ y → ⊥) → false ≡ eqb i j
+  apart i j x y s t d = go (eqb i j) refl
     where
-      go : (b : Bool) → eqb i.index j.index ≡ b → false ≡ b
+      go : (b : Bool) → eqb i j ≡ b → false ≡ b
       go false e = refl
-      go true e =
-          let both : Some (n.Defined s.0) ≡ Some (n.Func t.0) = sym s.1 ∙ ap (slice_get a.nodes) (eqb-true i.index j.index e) ∙ t.1 in
-          absurd (cc)
-
-  apart_too : (i : ComponentDefinedTypeId) (j : ComponentFuncTypeId) → Stands a (part.Defined i) → Stands a (part.Func j) → false ≡ eqb j.index i.index
-  apart_too i j s t = go (eqb j.index i.index) refl
-    where
-      go : (b : Bool) → eqb j.index i.index ≡ b → false ≡ b
-      go false e = refl
-      go true e =
-          let both : Some (n.Defined s.0) ≡ Some (n.Func t.0) = sym s.1 ∙ ap (slice_get a.nodes) (sym (eqb-true j.index i.index e)) ∙ t.1 in
-          absurd (cc)
+      go true e = absurd (d (some-inj (sym s ∙ ap (slice_get a.nodes) (eqb-true i j e) ∙ t)))
 
   same_here : (x y : ComponentAnyTypeId) → Stands a (any_part x) → Stands a (any_part y) → same_type x y ≡ same_identity (identity_of (any_part x)) (identity_of (any_part y))
   same_here (any.Resource q) (any.Resource r) s t = refl
   same_here (any.Resource q) (any.Defined j) s t = refl
   same_here (any.Resource q) (any.Func j) s t = refl
+  same_here (any.Resource q) (any.Instance j) s t = refl
+  same_here (any.Resource q) (any.Component j) s t = refl
   same_here (any.Defined i) (any.Resource r) s t = refl
   same_here (any.Defined i) (any.Defined j) s t = refl
-  same_here (any.Defined i) (any.Func j) s t = apart i j s t
+  same_here (any.Defined i) (any.Func j) s t = apart i.index j.index (n.Defined s.0) (n.Func t.0) s.1 t.1 (λ e. cc)
+  same_here (any.Defined i) (any.Instance j) s t = apart i.index j.index (n.Defined s.0) (n.Instance t.0) s.1 t.1 (λ e. cc)
+  same_here (any.Defined i) (any.Component j) s t = apart i.index j.index (n.Defined s.0) (n.Component t.0) s.1 t.1 (λ e. cc)
   same_here (any.Func i) (any.Resource r) s t = refl
-  same_here (any.Func i) (any.Defined j) s t = apart_too j i t s
+  same_here (any.Func i) (any.Defined j) s t = apart i.index j.index (n.Func s.0) (n.Defined t.0) s.1 t.1 (λ e. cc)
   same_here (any.Func i) (any.Func j) s t = refl
-  same_here (any.Instance i) y s t = absurd s
-  same_here (any.Component i) y s t = absurd s
-  same_here x (any.Instance j) s t = absurd t
-  same_here x (any.Component j) s t = absurd t
+  same_here (any.Func i) (any.Instance j) s t = apart i.index j.index (n.Func s.0) (n.Instance t.0) s.1 t.1 (λ e. cc)
+  same_here (any.Func i) (any.Component j) s t = apart i.index j.index (n.Func s.0) (n.Component t.0) s.1 t.1 (λ e. cc)
+  same_here (any.Instance i) (any.Resource r) s t = refl
+  same_here (any.Instance i) (any.Defined j) s t = apart i.index j.index (n.Instance s.0) (n.Defined t.0) s.1 t.1 (λ e. cc)
+  same_here (any.Instance i) (any.Func j) s t = apart i.index j.index (n.Instance s.0) (n.Func t.0) s.1 t.1 (λ e. cc)
+  same_here (any.Instance i) (any.Instance j) s t = refl
+  same_here (any.Instance i) (any.Component j) s t = apart i.index j.index (n.Instance s.0) (n.Component t.0) s.1 t.1 (λ e. cc)
+  same_here (any.Component i) (any.Resource r) s t = refl
+  same_here (any.Component i) (any.Defined j) s t = apart i.index j.index (n.Component s.0) (n.Defined t.0) s.1 t.1 (λ e. cc)
+  same_here (any.Component i) (any.Func j) s t = apart i.index j.index (n.Component s.0) (n.Func t.0) s.1 t.1 (λ e. cc)
+  same_here (any.Component i) (any.Instance j) s t = apart i.index j.index (n.Component s.0) (n.Instance t.0) s.1 t.1 (λ e. cc)
+  same_here (any.Component i) (any.Component j) s t = refl
 
   pub in_set : (x : ComponentAnyTypeId) → Stands a (any_part x) → (ids : List ComponentAnyTypeId) → AllStand a ids → has_type ids x ≡ is_in (identities ids) (identity_of (any_part x))
   in_set x s [] h = refl
@@ -102,8 +104,8 @@ module _ (a : Arena) where
 
   pub created_same : (x : ComponentEntityType) → is_built_entity x ≡ true → EntityStands a x → created_by (sort (entity_tree (trees a.nodes) x)) (entity_tree (trees a.nodes) x) ≡ identities (created_ids x)
   created_same (entity.Func i) b h = ap (λ (o : Sort). created_by o (part_tree (trees a.nodes) (part.Func i))) (sort_stands a (part.Func i) h)
-  created_same (entity.Ty c r) b h = ap option_to_list (known_stands a (any_part c) h.0)
-  created_same (entity.Module i) b h = absurd (false≢true b)
+  created_same (entity.Ty c r) b h = ap option_to_list (known_any a c h.0)
+  created_same (entity.Module i) b h = ap (λ (o : Sort). created_by o (part_tree (trees a.nodes) (part.Module i))) (sort_stands a (part.Module i) h)
   created_same (entity.Value v) b h = absurd (false≢true b)
   created_same (entity.Instance i) b h = absurd (false≢true b)
   created_same (entity.Component i) b h = absurd (false≢true b)
@@ -123,5 +125,5 @@ module _ (a : Arena) where
           ap (λ (b : Bool). same r (number q.resource.index) && b) (ne_eqb k q.stamp (λ e. omega (arith, e, s.stamp, w))) ∙ and-false (same r (number q.resource.index))
       go (any.Defined i) s = refl
       go (any.Func i) s = refl
-      go (any.Instance i) s = absurd s
-      go (any.Component i) s = absurd s
+      go (any.Instance i) s = refl
+      go (any.Component i) s = refl

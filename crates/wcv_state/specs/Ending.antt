@@ -1,19 +1,15 @@
 -- The causes at the end of a component, and what is found for its type.
-use Rattle.std.specs.Prelude.{ℕ, List, [], ◌∷◌, ◌++◌, map, Bool, cond, Option, Some, None}
+use Rattle.std.specs.Prelude.{ℕ, List, [], ◌∷◌, ◌++◌, map, Bool, cond, Option, Some}
 use Rattle.std.specs.Map.{lookup}
 use Rattle.std.specs.Option.{option_map}
 use Rattle.wcv_core.specs.declared.core_types.ValType.{ValType}
 use Rattle.wcv_core.specs.declared.error.ErrorKind.TheVariants as kind
 use Rattle.wcv_types.specs.Sets.{same_resource}
-use Rattle.wcv_types.specs.declared.ids.ComponentAnyTypeId.TheVariants as any
 use Rattle.wcv_types.specs.declared.ids.ResourceId.{ResourceId}
-use Rattle.wcv_types.specs.declared.shapes.ComponentEntityType.{ComponentEntityType}
-use Rattle.wcv_types.specs.declared.shapes.ComponentEntityType.TheVariants as entity
 use Rattle.wcv_lower.specs.Checks.{Checks, is_none}
 use Rattle.wcv_lower.specs.Context.{Entries, Context, Scope, importing, exporting}
 use Rattle.wcv_lower.specs.Ending.{any_free, kept}
 use Rattle.wcv_state.specs.Contents.{defined_resource}
-use Rattle.wcv_state.specs.Looking.{has_resource}
 
 -- a defined resource is free in an import, or one that is free in an export has no path there
 abbrev pub end_checks : Scope → Context → Checks
@@ -29,23 +25,11 @@ import_checks ds es = (kind.ResourceScope, any_free (map defined_resource ds) es
 abbrev pub kept_checks : List (ResourceId × Option ValType) → Entries → Checks
 kept_checks ds es = (kind.ResourceScope, is_none (kept (map defined_resource ds) es)) ∷ []
 
--- ## First positions
-
--- the resource of which an entity is a type
-abbrev pub resource_of : ComponentEntityType → Option ResourceId
-resource_of (entity.Ty c (any.Resource q)) = Some q.resource
-resource_of _ = None
-
--- a resource gets a position, where it has none
-abbrev pub with_position : Option ResourceId → ℕ → List (ResourceId × ℕ) → List (ResourceId × ℕ)
-with_position None k ps = ps
-with_position (Some r) k ps = cond (has_resource r ps) ps (ps ++ (r, k) ∷ [])
-
--- the path that its position is
-abbrev pub position_path : ResourceId → List (ResourceId × ℕ) → Option (List ℕ)
-position_path r ps = option_map (λ k. k ∷ []) (lookup (same_resource r) ps)
-
 -- ## What is kept
+
+-- the path of a resource
+abbrev pub path_of : ResourceId → List (ResourceId × List ℕ) → Option (List ℕ)
+path_of r ps = lookup (same_resource r) ps
 
 -- a resource that is free joins the paths with its own, and needs one
 abbrev pub with_kept : Bool → ResourceId → Option (List ℕ) → List (ResourceId × List ℕ) → Option (List (ResourceId × List ℕ))

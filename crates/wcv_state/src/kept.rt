@@ -11,20 +11,14 @@ ghost use Rattle.wcv_types.specs.declared.ids.ResourceId.{ResourceId as AResourc
 ghost use Rattle.wcv_lower.specs.Checks.{is_none};
 ghost use Rattle.wcv_lower.specs.Ending.{is_free_among, any_free, kept};
 ghost use Rattle.wcv_state.specs.Contents.{defined_resource};
-ghost use Rattle.wcv_state.specs.Ending as ending;
-ghost use Rattle.wcv_state.specs.Ending.{import_checks, kept_checks, with_position, position_path, with_kept};
+ghost use Rattle.wcv_state.specs.Ending.{import_checks, kept_checks, path_of, with_kept};
 ghost use Rattle.wcv_state.specs.Looking.{has_resource};
 ghost use Rattle.wcv_state.specs.Promises.{MemoryOrCausedBy};
 
 use crate::resources::Representations;
 use std::alloc::Global;
-use wcv_core::{Error, ErrorKind, Excerpt, IndexMapAppendOnly, OutOfMemory, Place, Text};
-use wcv_types::{
-    ComponentAnyTypeId, ComponentEntityType, ItemMap, Paths, ResourceId, ResourceSet, TypeAlloc,
-};
-
-/// Resources, each with the position of the first item that is a type of it.
-type Positions = IndexMapAppendOnly<ResourceId, u64>;
+use wcv_core::{Error, ErrorKind, Excerpt, OutOfMemory, Place, Text};
+use wcv_types::{ItemMap, Paths, ResourceId, ResourceSet, TypeAlloc};
 
 /// The resources that are free in some of the items.
 fn free_among(types: &TypeAlloc, items: &ItemMap) -> Result<ResourceSet, OutOfMemory>
@@ -124,74 +118,40 @@ pub fn check_imports(
 
 // ## Exports
 
-/// The resource of which the entity is a type.
-fn resource_of(ty: &ComponentEntityType) -> Option<ResourceId>
-    ensures { result ≡ ending.resource_of ty.now }
-{
-    match ty {
-        ComponentEntityType::Ty {
-            referenced: ComponentAnyTypeId::Resource(id),
-            ..
-        } => Some(id.resource),
-        _ => None,
-    }
-}
-
-/// The resource of which the entity is a type gets its position, where it has none. Out of memory nothing changes.
-fn note_position(
-    positions: &mut Positions,
-    ty: &ComponentEntityType,
-    position: u64,
-) -> Result<(), OutOfMemory>
-    ensures ok { OnOk result (positions.new ≡ with_position (ending.resource_of ty.now) position positions.old) }
-    ensures err { OnErr result (positions.new ≡ positions.old) }
-{
-    let resource = match resource_of(ty) {
-        Some(resource) => resource,
-        None => return Ok(()),
-    };
-    match positions.get(&resource) {
-        Some(_) => Ok(()),
-        None => positions.insert(resource, position),
-    }
-}
-
-/// The first positions of resources among the items.
-fn first_positions(types: &TypeAlloc, items: &ItemMap) -> Result<Positions, OutOfMemory>
+#[tactic(auto, using(crate::proofs::ExplicitPaths::path_found))]
+/// Of those resources that an entry leads to, each with the first path there.
+fn first_paths(
+    types: &TypeAlloc,
+    items: &ItemMap,
+    resources: &ResourceSet,
+) -> Result<Paths, OutOfMemory>
     requires { All (EntryStands types.now) items.now }
-    ensures { IfOk result (λ ps. (r : AResource) → position_path r ps ≡ first_path (number r.index) (entry_trees (trees types.now.nodes) items.now)) }
+    ensures { IfOk result (λ ps. (r : AResource) → sets.has_resource resources.now r ≡ true → path_of r ps ≡ first_path (number r.index) (entry_trees (trees types.now.nodes) items.now)) }
 {
-    let mut positions = Positions::new(types.allocator());
-    for k in 0..items.len() {
-        match items.get_index(k) {
-            Some((_, item)) => note_position(&mut positions, &item.ty, k as u64)?,
-            None => unreachable!(),
-        }
-    }
-    Ok(positions)
+    types.explicit_resource_paths(items, resources)
 }
 
-/// A resource that is free joins the paths, with its first position. Refuses one that has none; where it stands
+/// A resource that is free joins the paths, with its first one. Refuses one that has none; where it stands
 /// among those that are defined is for the message.
 fn keep(
     paths: &mut Paths,
     resource: ResourceId,
     free: &ResourceSet,
-    positions: &Positions,
+    first: &Paths,
     position: usize,
     alloc: Global,
     offset: u64,
 ) -> Result<(), Error>
     requires { has_resource resource paths.old ≡ false }
-    ensures ok { OnOk result (with_kept (sets.has_resource free.now resource) resource (position_path resource positions.now) paths.old ≡ Some paths.new) }
-    ensures err { IfErr result (MemoryOrCausedBy ((kind.ResourceScope, is_none (with_kept (sets.has_resource free.now resource) resource (position_path resource positions.now) paths.old)) ∷ []) offset) }
+    ensures ok { OnOk result (with_kept (sets.has_resource free.now resource) resource (path_of resource first.now) paths.old ≡ Some paths.new) }
+    ensures err { IfErr result (MemoryOrCausedBy ((kind.ResourceScope, is_none (with_kept (sets.has_resource free.now resource) resource (path_of resource first.now) paths.old)) ∷ []) offset) }
 {
     if !free.contains(&resource) {
         return Ok(());
     }
-    match positions.get(&resource) {
-        Some(first) => {
-            let place = Place::new(alloc, &[*first])?;
+    match first.get(&resource) {
+        Some(path) => {
+            let place = Place::new(alloc, path.positions())?;
             paths.insert(resource, place)?;
             Ok(())
         }
@@ -225,12 +185,10 @@ pub fn kept_paths(
         return Ok(paths);
     }
     let free = free_among(types, exports)?;
-    let positions = first_positions(types, exports)?;
+    let first = first_paths(types, exports, &free)?;
     for k in 0..defined.len() {
         match defined.get_index(k) {
-            Some((resource, _)) => {
-                keep(&mut paths, *resource, &free, &positions, k, alloc, offset)?
-            }
+            Some((resource, _)) => { keep(&mut paths, *resource, &free, &first, k, alloc, offset)? }
             None => unreachable!(),
         }
     }

@@ -1,5 +1,5 @@
 // Types that imports and exports have to name, and those that they have named.
-ghost use Rattle.std.specs.Prelude.{◌≡◌, ◌⊎◌, [], ◌&&◌, true, OnOk, OnErr, IfErr};
+ghost use Rattle.std.specs.Prelude.{◌≡◌, ◌⊎◌, [], ◌&&◌, true, IfOk, OnOk, OnErr, IfErr};
 ghost use Rattle.wcv_core.specs.Refusal.{error_kind, error_offset};
 ghost use Rattle.wcv_types.specs.Entities.{entity_tree, EntityStands};
 ghost use Rattle.wcv_types.specs.Named.{is_named_entry};
@@ -40,14 +40,15 @@ fn asks_for_names(kind: ComponentKind) -> bool
 }
 
 /// Whether the types that an entry needs are in the set: of a type what it refers to is made of them.
-#[tactic(auto, using(crate::proofs::Named::entry_named))]
-fn is_named(ty: &ComponentEntityType, types: &TypeAlloc, set: &TypeSet) -> bool
+#[tactic(auto, using(crate::proofs::Named::entry_named, crate::proofs::Named::module_named))]
+fn is_named(ty: &ComponentEntityType, types: &TypeAlloc, set: &TypeSet) -> Result<bool, OutOfMemory>
     requires stands { EntityStands types.now ty.now }
     requires built { built_entity ty.now ≡ true }
     requires set { AllStand types.now set.now }
-    ensures { result ≡ is_named_entry (identities set.now) (entity_tree (trees types.now.nodes) ty.now) }
+    ensures { IfOk result (λ b. b ≡ is_named_entry (identities set.now) (entity_tree (trees types.now.nodes) ty.now)) }
 {
     match ty {
+        ComponentEntityType::Module(_) => Ok(true),
         ComponentEntityType::Func(id) => {
             types.all_valtypes_named(&ComponentAnyTypeId::Func(*id), set)
         }
@@ -182,7 +183,7 @@ impl NamedTypes {
         if !asks_for_names(kind) {
             return Ok(());
         }
-        if !is_named(ty, types, &self.imports) {
+        if !is_named(ty, types, &self.imports)? {
             return Err(unnamed("import", name, ty, types, &self.imports, offset));
         }
         if is_export_alone(ty, types, &self.imports, &self.exports) {
@@ -214,7 +215,10 @@ impl NamedTypes {
         ensures ok { OnOk result (IsFree (checks.unnamed (kind_of kind) (λ d. identities (set_of self.now d)) exporting (entity_tree (trees types.now.nodes) ty.now))) }
         ensures err { IfErr result (MemoryOrCausedBy (checks.unnamed (kind_of kind) (λ d. identities (set_of self.now d)) exporting (entity_tree (trees types.now.nodes) ty.now)) offset) }
     {
-        if asks_for_names(kind) && !is_named(ty, types, &self.exports) {
+        if !asks_for_names(kind) {
+            return Ok(());
+        }
+        if !is_named(ty, types, &self.exports)? {
             return Err(unnamed("export", name, ty, types, &self.exports, offset));
         }
         Ok(())

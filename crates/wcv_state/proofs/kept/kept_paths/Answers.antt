@@ -8,7 +8,7 @@ use Rattle.wcv_types.specs.Entities.{entry_trees}
 use Rattle.wcv_types.specs.Unfold.{trees}
 use Rattle.wcv_types.specs.declared.ids.ResourceId.{ResourceId}
 use Rattle.wcv_lower.specs.Context.{Entries}
-use Rattle.wcv_state.proofs.FirstPositions.{found_holds, none_within}
+use Rattle.wcv_state.proofs.Walks.{found_holds, none_within}
 use Rattle.wcv_state.proofs.KeptPaths.{KeptBefore, Left, AllOfArena, kept_start, left_start, kept_next, kept_none, kept_all, kept_stand, left_here, left_next, scope_caused}
 use Rattle.wcv_state.proofs.kept.kept_paths.Goals as goal
 
@@ -34,7 +34,7 @@ loop-k-preserved c =
     let found : slice_get c.args.defined.now c.loop-k.k ≡ Some d = sym c.in-Some.ensures in
     let kept = c.in_ok-keep-in-Some.ensures.ok in
     record {
-      kept = kept_next c.args.defined.now es c.loop-k.k d _ _ c.loop-k.paths c.keep.new.paths found (c.in_ok-free.ensures d.0) (c.in_ok-positions.ensures d.0) kept c.loop-k.invariant.kept;
+      kept = kept_next c.args.defined.now es c.loop-k.k d _ _ c.loop-k.paths c.keep.new.paths found (c.in_ok-free.ensures d.0) (c.in_ok-first.ensures d.0) kept c.loop-k.invariant.kept;
       left = left_next c.args.defined.now c.loop-k.k d _ _ c.loop-k.paths c.keep.new.paths found kept c.loop-k.invariant.left;
       stand = kept_stand c.args.types.now d.0 _ _ c.loop-k.paths c.keep.new.paths kept (found_holds (λ (d : ResourceId × Option ValType). ResourceStands c.args.types.now d.0) c.args.defined.now c.loop-k.k d c.requires.defined found) c.loop-k.invariant.stand;
     }
@@ -46,7 +46,7 @@ returns-in_err-keep-in-Some-clause-err c =
     let found : slice_get c.args.defined.now c.loop-k.k ≡ Some d = sym c.in-Some.ensures in
     let p = err_from_is_err_and c.from_residual-in_err-keep-in-Some.result c.from_residual-in_err-keep-in-Some.ensures.1 in
     rw (p.1, p.2) (scope_caused _ _ c.args.offset c.in_err-keep-in-Some.field-0.0
-    (λ e. kept_none c.args.defined.now es c.loop-k.k d _ _ c.loop-k.paths found (c.in_ok-free.ensures d.0) (c.in_ok-positions.ensures d.0) e c.loop-k.invariant.kept) c.in_err-keep-in-Some.ensures.err)
+    (λ e. kept_none c.args.defined.now es c.loop-k.k d _ _ c.loop-k.paths found (c.in_ok-free.ensures d.0) (c.in_ok-first.ensures d.0) e c.loop-k.invariant.kept) c.in_err-keep-in-Some.ensures.err)
 
 pub returns-clause-ok : goal.returns-clause-ok
 returns-clause-ok c =
