@@ -1,13 +1,16 @@
 -- A type item whose node was stored, and its causes.
 use Rattle.std.proofs.Common.{◌≡◌, ℕ, [], ◌∷◌, ◌++◌, length, sym, ◌∙◌, ap, Some, ◌⊎◌, inl, inr}
 use Rattle.std.specs.Option.{option_map}
+use Rattle.std.proofs.lemmas.List.Elements.{All-nil}
+use Rattle.wcv_core.specs.CoreGroups.{total}
+use Rattle.wcv_core.specs.CoreSizes.{IsEntityWithin}
 use Rattle.wcv_core.specs.Names.{Name, base, number}
 use Rattle.wcv_core.specs.Refusal.{error_kind}
 use Rattle.wcv_core.specs.declared.error.Error.{Error}
 use Rattle.wcv_core.specs.declared.features.WasmFeatures.{WasmFeatures}
 use Rattle.wcv_syntax.specs.Model.{Defined_form, Func_form, defined_type, func_type}
 use Rattle.wcv_types.specs.Arena.{Arena}
-use Rattle.wcv_types.specs.Standing.{Fits}
+use Rattle.wcv_types.specs.Standing.{GaveResource, Fits}
 use Rattle.wcv_types.specs.Tree.{defined, func, node, Parts, here}
 use Rattle.wcv_types.specs.Unfold.{former_of, defined_slots, option_slot, field_slots, slot_parts, tree_of, trees}
 use Rattle.wcv_types.specs.declared.arena.Node.TheVariants as n
@@ -31,7 +34,7 @@ use Rattle.wcv_decls.specs.Resolved.{IsShape, IsFuncShape, resolve_checks, func_
 
 module _ (a : Arena) (c : Context) (x : Defined_form) (s : ComponentDefinedType) (h : IsShape a c x s) where
   pub shape_fits : Fits a (n.Defined s)
-  shape_fits = record { parts = h.stands; info = tt }
+  shape_fits = record { parts = h.stands; info = tt; owned = All-nil (GaveResource a); led = tt; within = All-nil (IsEntityWithin (total a.core)); stated = tt }
 
   shape_tree : (i : Name) → defined_tree i c x ≡ Some (node (defined i (former_of s)) (slot_parts (trees a.nodes) (defined_slots s)))
   shape_tree i =

@@ -34,6 +34,7 @@ keeps_defined a r v s h k = record {
   arena = extends_refl a;
   stands = record {
     space = h.space;
+    core = h.core;
     side = h.side;
     imported = h.imported;
     defined = All-push (λ (p : ResourceId × Option ValType). ResourceStands a p.0) s.defined_resources (r, v) h.defined k;
@@ -61,7 +62,7 @@ module _ (a b : Arena) (s : Contents) (id : AliasableResourceId) (h : StateStand
   stamps = ap (λ (x : Arena). x.stamps) eb
 
   grew : Extends a b
-  grew = record { more = []; nodes = ap (λ (x : Arena). x.nodes) eb ∙ sym (append-nil a.nodes); resources = omega (arith, more); stamps = omega (arith, stamps) }
+  grew = record { more = []; groups = []; core = ap (λ (x : Arena). x.core) eb ∙ sym (append-nil a.core); nodes = ap (λ (x : Arena). x.nodes) eb ∙ sym (append-nil a.nodes); resources = omega (arith, more); stamps = omega (arith, stamps) }
 
   pub made_keeps : Keeps a b s s
   made_keeps = keeps_grown a b s grew h
@@ -105,4 +106,4 @@ module _ (a b : Arena) (s : Contents) (id : AliasableResourceId) (h : StateStand
       after =
           with_id_context b in_types (any.Resource id) (with_defined id.resource (Some rep) s) ∙
           (λ j. push in_types (type_entry (tree.resource_type (number id.resource.index) (stamp id.stamp))) (defined_context b id.resource (Some rep) s j)) ∙
-          (λ j. push in_types (type_entry (tree.resource_type (number (is j).resource.index) (stamp (is j).stamp))) (define (number (is j).resource.index) (Some rep) (same_context a b grew s h j)))
+          (λ j. push in_types (type_entry (tree.resource_type (number (is j).resource.index) (stamp (is j).stamp))) (define (number (is j).resource.index) (Some rep) (same_context a b grew (ap (λ (x : Arena). x.core) eb) s h j)))

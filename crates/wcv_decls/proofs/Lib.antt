@@ -15,3 +15,6 @@ pub mod Handles
 pub mod Defining
 pub mod LowerWords
 pub mod Eight
+pub mod CoreEntries
+pub mod CoreGroups
+pub mod CoreModules

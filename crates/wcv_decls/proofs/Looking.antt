@@ -14,7 +14,7 @@ use Rattle.wcv_types.specs.Arena.{Arena}
 use Rattle.wcv_types.specs.Entities.{SlotStands}
 use Rattle.wcv_types.specs.Standing.{Stands}
 use Rattle.wcv_types.specs.Tree.{Role, Parts, none, part}
-use Rattle.wcv_types.specs.Unfold.{Type_tree, Slot, leaf, at, both, Slots, option_slot, value_slots, slot_refs, parts_in, slot_tree, slot_parts, trees}
+use Rattle.wcv_types.specs.Unfold.{Type_tree, Slot, leaf, at, both, core, Slots, option_slot, value_slots, slot_refs, parts_in, slot_tree, slot_parts, trees}
 use Rattle.wcv_types.specs.declared.shapes.ComponentValType.{ComponentValType}
 use Rattle.wcv_types.proofs.Knowing.{parts_in-append}
 use Rattle.wcv_lower.specs.Checks.{Cause, IsFree}
@@ -52,6 +52,7 @@ trees_push c (q ∷ ps) p qs t e f = go (option_tree c q.1) (parts_trees c ps) r
 
 pub refs_of : (a : Arena) (s : Slot) → SlotStands a s → All (Stands a) (slot_refs s)
 refs_of a (leaf o) h = All-nil (Stands a)
+refs_of a (core e) h = All-nil (Stands a)
 refs_of a (at q) h = All-cons (Stands a) q [] h (All-nil (Stands a))
 refs_of a (both c r) h = All-cons (Stands a) c (r ∷ []) h.0 (All-cons (Stands a) r [] h.1 (All-nil (Stands a)))
 

@@ -20,13 +20,13 @@ use Rattle.wcv_decls.specs.Items.{declare_checks, Added, Declares, Declared}
 
 -- the identity of the node, at a place
 module _ (a b : Arena) (p : Place) (k : length b.nodes ≡ suc (length a.nodes)) where
-  abbrev node_names : GivenNames
+  abbrev pub node_names : GivenNames
   node_names = record { resources = []; identities = (introduced p, number (length a.nodes)) ∷ [] }
 
-  node_given : GivesAt (Under p) (numbers_of a) (numbers_of b) node_names
+  pub node_given : GivesAt (Under p) (numbers_of a) (numbers_of b) node_names
   node_given = record { resources = tt; identities = ((omega arith, omega (arith, k)), under-refl p, tt, refl, refl, tt) }
 
-  node_name : named node_names.identities (introduced p) ≡ number (length a.nodes)
+  pub node_name : named node_names.identities (introduced p) ≡ number (length a.nodes)
   node_name = ap (λ (x : Bool). or_by_place (introduced p) (cond x (Some (number (length a.nodes))) None)) (same_origin-refl (introduced p))
 
 -- the node of a type item joined the types

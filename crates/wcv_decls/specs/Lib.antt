@@ -3,3 +3,4 @@ pub mod Items
 pub mod Stack
 pub mod Numbers
 pub mod LowerWords
+pub mod CoreItems

@@ -2,11 +2,11 @@
 use Rattle.std.specs.Prelude.{ℕ, List, [], ◌∷◌, ◌++◌, Bool, false, map, reverse, ◌≡◌}
 use Rattle.wcv_core.specs.Names.{Place}
 use Rattle.wcv_core.specs.declared.error.Error.{Error}
-use Rattle.wcv_syntax.specs.Model.{Type_form}
+use Rattle.wcv_syntax.specs.Model.{Form, Type_form}
 use Rattle.wcv_types.specs.Arena.{Arena}
 use Rattle.wcv_lower.specs.Context.{Context}
 use Rattle.wcv_state.specs.Contents.{Contents, context_of, scope_of, StateStands}
-use Rattle.wcv_state.specs.Promises.{Keeps, RefusesBy}
+use Rattle.wcv_state.specs.Promises.{Keeps, RefusesBy, Grew, Refuses}
 use Rattle.wcv_decls.specs.Items.{declare_checks, Declared}
 
 -- the state may be used, and its ids stand in the arena
@@ -25,6 +25,16 @@ pub record ChangesLast (ss ss' : List Contents) : Type 0 where
   pub new : Contents
   pub was : ss ≡ outer ++ old ∷ []
   pub becomes : ss' ≡ outer ++ new ∷ []
+
+-- it grew by the item at that place
+pub record GrewOn (a a' : Arena) (p : Place) (ss ss' : List Contents) (f : Form) : Type 0 where
+  pub last : ChangesLast ss ss'
+  pub grew : Grew a a' (contexts_around a last.outer) p last.old last.new f
+
+-- it was refused by a cause of the item that the call looks at
+pub record RefusedOn (a : Arena) (ss ss' : List Contents) (f : Form) (offset : ℕ) (e : Error) : Type 0 where
+  pub last : ChangesLast ss ss'
+  pub refused : Refuses a (contexts_around a last.outer) last.old last.new f offset e
 
 -- it grew by the type item at that place
 pub record DeclaresOn (limited : Bool) (a a' : Arena) (p : Place) (ss ss' : List Contents) (t : Type_form) : Type 0 where

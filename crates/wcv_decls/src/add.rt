@@ -40,6 +40,7 @@ fn check_defined(
 }
 
 /// A defined type.
+#[tactic(auto, using(crate::proofs::Storing::unchanged))]
 fn add_defined(
     ty: ComponentDefinedType,
     state: &mut ComponentState,
@@ -85,6 +86,7 @@ fn check_func(
 }
 
 /// A function type.
+#[tactic(auto, using(crate::proofs::Storing::unchanged))]
 fn add_func(
     func: ComponentFuncType,
     state: &mut ComponentState,

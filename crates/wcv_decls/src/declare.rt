@@ -2,46 +2,21 @@
 ghost use Rattle.std.specs.Prelude.{◌≡◌, false, List, OnOk, OnErr, IfErr};
 ghost use Rattle.wcv_core.specs.Names.{Place};
 ghost use Rattle.wcv_syntax.specs.View.{type_view};
-ghost use Rattle.wcv_lower.specs.Checks.{IsFree, counts, no_type_room};
+ghost use Rattle.wcv_lower.specs.Checks.{IsFree};
 ghost use Rattle.wcv_lower.specs.Context.{Context};
 ghost use Rattle.wcv_state.specs.Contents.{context_of, scope_of, StateStands};
 ghost use Rattle.wcv_state.specs.Promises.{MemoryOrCausedBy, RefusesBy, Keeps};
 ghost use Rattle.wcv_decls.specs.Items.{declare_checks, Declares, Declared};
 
 use crate::add::add_built;
-use wcv_core::{Error, ErrorKind};
+use crate::room::check_types;
+use wcv_core::Error;
 use wcv_state::{ComponentState, check_form};
 use wcv_syntax::{ComponentType, TypeForm, is_built_type};
 use wcv_types::TypeAlloc;
 
-/// The most types and core types of a component.
-const MAX_TYPES: usize = 1_000_000;
-
-/// Whether there is room for one more type, where that is to be looked at.
-fn check_types(
-    limited: bool,
-    state: &ComponentState,
-    types: &TypeAlloc,
-    offset: u64,
-) -> Result<(), Error>
-    ensures ok { OnOk result (IsFree (no_type_room limited (counts (context_of types.now state.now)))) }
-    ensures err { IfErr result (MemoryOrCausedBy (no_type_room limited (counts (context_of types.now state.now))) offset) }
-{
-    let _ = types;
-    let count = state.type_count();
-    if limited && count >= MAX_TYPES {
-        return Err(Error::new(
-            ErrorKind::Limit,
-            offset,
-            format_args!(
-                "no room for one more type or core type: there are {count}, at most {MAX_TYPES} are allowed"
-            ),
-        ));
-    }
-    Ok(())
-}
-
 /// A type item, where nothing bars it.
+#[tactic(auto, using(crate::proofs::Storing::unchanged))]
 fn declare(
     ty: ComponentType,
     state: &mut ComponentState,

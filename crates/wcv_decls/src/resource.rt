@@ -47,6 +47,7 @@ fn check_rep(rep: ValType, features: &WasmFeatures, offset: u64) -> Result<(), E
 }
 
 /// A resource.
+#[tactic(auto, using(crate::proofs::Storing::unchanged))]
 pub fn add_resource(
     rep: ValType,
     state: &mut ComponentState,

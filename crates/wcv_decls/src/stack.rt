@@ -1,13 +1,25 @@
-// Type items over the states that are open.
-ghost use Rattle.std.specs.Prelude.{◌<◌, ◌≤◌, length, map, All, OnOk, IfErr};
+// Items that declare types or core modules, over the states that are open.
+ghost use Rattle.std.specs.Prelude.{◌≡◌, ◌<◌, ◌≤◌, suc, true, length, map, All, OnOk, OnErr, IfErr};
+ghost use Rattle.wcv_core.specs.CoreGroups.{total};
+ghost use Rattle.wcv_core.specs.CoreSizes.{IsEntityWithin};
 ghost use Rattle.wcv_core.specs.Names.{Place};
-ghost use Rattle.wcv_syntax.specs.View.{type_view};
-ghost use Rattle.wcv_decls.specs.Stack.{IsOpen, DeclaresOn, RefusesOn, KeepsOn};
+ghost use Rattle.wcv_core.specs.Refusal.{error_kind};
+ghost use Rattle.wcv_module.specs.Kept.{module_items};
+ghost use Rattle.wcv_syntax.specs.Model.{core_type_item};
+ghost use Rattle.wcv_syntax.specs.View.{type_view, core_type_view};
+ghost use Rattle.wcv_types.specs.Standing.{entity_sizes};
+ghost use Rattle.wcv_lower.specs.Context.{core_modules};
+ghost use Rattle.wcv_state.specs.Promises.{Keeps};
+ghost use Rattle.wcv_decls.specs.CoreItems.{JoinedModule};
+ghost use Rattle.wcv_decls.specs.Stack.{IsOpen, DeclaresOn, RefusesOn, GrewOn, RefusedOn, KeepsOn};
 
+use crate::core_module::join_core_modules;
+use crate::core_type::add_core_type_to;
 use crate::declare::add_type_to;
-use wcv_core::Error;
+use wcv_core::{Error, ErrorKind};
+use wcv_module::Module;
 use wcv_state::ComponentState;
-use wcv_syntax::ComponentType;
+use wcv_syntax::{ComponentType, CoreType};
 use wcv_types::TypeAlloc;
 
 /// A state to which items that declare something are added. Those that are open around it stand before it.
@@ -30,6 +42,34 @@ pub trait Declare: Sized {
         ensures ok { OnOk result ((p : Place) → DeclaresOn check_limit types.old types.new p (map contents components.old.items) (map contents components.new.items) (type_view ty)) }
         ensures err { IfErr result (λ e. RefusesOn check_limit types.old (map contents components.old.items) (map contents components.new.items) (type_view ty) offset e) }
         ensures keeps { KeepsOn types.old types.new (map contents components.old.items) (map contents components.new.items) };
+
+    /// A core type item joins the core types of the innermost state. After an error that state is spent.
+    fn add_core_type(
+        components: &mut [Self],
+        ty: CoreType,
+        types: &mut TypeAlloc,
+        offset: u64,
+    ) -> Result<(), Error>
+        requires some { 0 < length components.old }
+        requires open { All (IsOpen types.old) (map contents components.old) }
+        ensures ok { OnOk result ((p : Place) → GrewOn types.old types.new p (map contents components.old) (map contents components.new) (core_type_item (core_type_view ty))) }
+        ensures err { IfErr result (RefusedOn types.old (map contents components.old) (map contents components.new) (core_type_item (core_type_view ty)) offset) }
+        ensures keeps { KeepsOn types.old types.new (map contents components.old) (map contents components.new) };
+
+    /// One more core module, of the type of that module. After an error the state is spent.
+    fn add_core_module(
+        &mut self,
+        made: Module,
+        types: &mut TypeAlloc,
+        offset: u64,
+    ) -> Result<(), Error>
+        requires open { IsOpen types.old (contents self.old) }
+        requires within { All (IsEntityWithin (total types.old.core)) (module_items made) }
+        requires size { made.size ≡ suc (entity_sizes types.old.core (module_items made)) }
+        ensures ok { OnOk result (JoinedModule core_modules types.old types.new (contents self.old) (contents self.new) made) }
+        ensures spent { OnErr result ((contents self.new).spent ≡ true) }
+        ensures err { IfErr result (λ e. error_kind e ≡ ErrorKind.OutOfMemory) }
+        ensures keeps { Keeps types.old types.new (contents self.old) (contents self.new) };
 }
 
 impl Declare for ComponentState {
@@ -46,5 +86,24 @@ impl Declare for ComponentState {
     ) -> Result<(), Error> {
         let last = components.len() - 1;
         add_type_to(ty, &mut components[last], types, offset, check_limit)
+    }
+
+    fn add_core_type(
+        components: &mut [ComponentState],
+        ty: CoreType,
+        types: &mut TypeAlloc,
+        offset: u64,
+    ) -> Result<(), Error> {
+        add_core_type_to(components, ty, types, offset)
+    }
+
+    fn add_core_module(
+        &mut self,
+        made: Module,
+        types: &mut TypeAlloc,
+        offset: u64,
+    ) -> Result<(), Error> {
+        let _ = offset;
+        join_core_modules(made, self, types)
     }
 }

@@ -18,6 +18,7 @@ use wcv_types::{
 };
 
 /// A defined type joins, where it is not too large.
+#[tactic(auto, using(crate::proofs::Storing::unchanged))]
 pub fn store_defined(
     shape: ComponentDefinedType,
     state: &mut ComponentState,
@@ -40,6 +41,7 @@ pub fn store_defined(
 }
 
 /// So of a function type, which takes no bytes.
+#[tactic(auto, using(crate::proofs::Storing::unchanged))]
 pub fn store_func(
     shape: ComponentFuncType,
     state: &mut ComponentState,

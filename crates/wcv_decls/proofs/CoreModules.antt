@@ -1,0 +1,153 @@
+-- The type of a module joins the arena and a state.
+use Rattle.std.proofs.Common.{◌≡◌, ℕ, suc, List, [], ◌∷◌, ◌++◌, map, length, refl, sym, ◌∙◌, ap, subst, arith, length-append, All, Option, Some, false, true}
+use Rattle.std.specs.Prelude.{reverse}
+use Rattle.std.specs.Option.{option_map}
+use Rattle.wcv_core.specs.Names.{Name, Place, number}
+use Rattle.wcv_core.specs.Refusal.{error_kind}
+use Rattle.wcv_core.specs.declared.error.Error.{Error}
+use Rattle.wcv_core.specs.declared.features.WasmFeatures.{WasmFeatures}
+use Rattle.wcv_syntax.specs.Model.{Module_decl, core_module_item, core_type_item, core_module_type}
+use Rattle.wcv_syntax.specs.ModuleTypes.{Core_import, Core_export, Module_type, Made, empty_module, all_declared, module_checks}
+use Rattle.wcv_types.specs.Arena.{Arena}
+use Rattle.wcv_types.specs.CoreCalls.{with_core}
+use Rattle.wcv_types.specs.Standing.{Stands, Extends, with_node}
+use Rattle.wcv_types.specs.Tree.{core_module, core_item, core_import, core_export, core_imports, core_exports, Parts, none, part, node}
+use Rattle.wcv_types.specs.Unfold.{Type_tree, Slot, at, core_import_slots, core_export_slots, slot_parts, slot_tree, tree_at, tree_of, trees}
+use Rattle.wcv_types.specs.declared.arena.Node.TheVariants as n
+use Rattle.wcv_types.specs.declared.core_shapes.ModuleType.{ModuleType}
+use Rattle.wcv_types.specs.declared.ids.ComponentCoreModuleTypeId.{ComponentCoreModuleTypeId}
+use Rattle.wcv_types.specs.declared.ids.Part.TheVariants as p
+use Rattle.wcv_types.proofs.Grown.{extends_push, length-trees}
+use Rattle.wcv_lower.specs.Checks.{Checks, IsFree, counts, no_type_room}
+use Rattle.wcv_lower.specs.Context.{Context, Core_space, core_types, core_modules, push_core}
+use Rattle.wcv_lower.specs.CoreItems.{module_tree, module_joins}
+use Rattle.wcv_lower.specs.Given.{named}
+use Rattle.wcv_lower.specs.Growth.{call_checks}
+use Rattle.wcv_lower.specs.Names.{introduced}
+use Rattle.wcv_lower.specs.Step.{Step, apply}
+use Rattle.wcv_lower.proofs.Causes.{cause_left, cause_right, free_both}
+use Rattle.wcv_state.specs.Contents as state
+use Rattle.wcv_state.specs.Contents.{Contents, Core_id, context_of, scope_of, core_slot, core_entries_of, CoreStands, StateStands}
+use Rattle.wcv_state.specs.Promises.{MemoryOrCausedBy, Keeps, Grew}
+use Rattle.wcv_state.proofs.Calls.{caused_more}
+use Rattle.wcv_state.proofs.Keeping.{state_stands, grown_context, same_context, keeps_grown, keeps_trans, keeps_with_core, with_core_context}
+use Rattle.wcv_decls.specs.CoreItems.{StoredModule, JoinedModule, MadeIn, FreeIn, CausedIn}
+use Rattle.wcv_decls.specs.Stack.{IsOpen, contexts_around}
+use Rattle.wcv_decls.proofs.CoreEntries.{spaces_same}
+use Rattle.wcv_decls.proofs.Naming.{node_names, node_given, node_name}
+
+-- ## The node
+
+exports_tree : (ts : List Type_tree) (es : List Core_export) → slot_parts ts (core_export_slots es) ≡ core_exports es none
+exports_tree ts [] = refl
+exports_tree ts (e ∷ es) = ap (λ (ps : Parts Name Name). part (core_export e.0) (node (core_item e.1) none) ps) (exports_tree ts es)
+
+entries_tree : (ts : List Type_tree) (is : List Core_import) (es : List Core_export) → slot_parts ts (core_import_slots is ++ core_export_slots es) ≡ core_imports is (core_exports es none)
+entries_tree ts [] es = exports_tree ts es
+entries_tree ts (i ∷ is) es = ap (λ (ps : Parts Name Name). part (core_import i.0.0 i.0.1) (node (core_item i.1) none) ps) (entries_tree ts is es)
+
+pub module_stored : (a b : Arena) (m : Module_type) (t : ModuleType) (i : ComponentCoreModuleTypeId) → t.info.size ≡ m.size → t.imports ≡ m.imports → t.exports ≡ m.exports → b ≡ with_node a (n.Module t) →
+    Stands b (p.Module i) → tree_at b (p.Module i) ≡ tree_of (trees a.nodes) (n.Module t) → StoredModule a b m i
+module_stored a b m t i es ei ee eb stands tree =
+    let l : length (trees a.nodes) ≡ length a.nodes = length-trees a.nodes in
+    record {
+      stands = stands;
+      tree = tree ∙ (λ j. node (core_module (number (l j)) (es j)) (slot_parts (trees a.nodes) (core_import_slots (ei j) ++ core_export_slots (ee j)))) ∙
+          ap (λ (ps : Parts Name Name). node (core_module (number (length a.nodes)) m.size) ps) (entries_tree (trees a.nodes) m.imports m.exports);
+      nodes = ap (λ (y : Arena). length y.nodes) eb ∙ length-append a.nodes (n.Module t ∷ []) ∙ omega arith;
+      core = ap (λ (y : Arena). y.core) eb;
+      arena = subst (Extends a) (sym eb) (extends_push a (n.Module t));
+    }
+
+-- it joins a space
+pub module_joined : (k : Core_space) (x : Core_id k) (a b : Arena) (s s' : Contents) (m : Module_type) (i : ComponentCoreModuleTypeId) → StateStands a s → s.spent ≡ false → core_slot k x ≡ at (p.Module i) →
+    StoredModule a b m i → s' ≡ state.with_core k x s → JoinedModule k a b s s' m
+module_joined k x a b s s' m i h live slot w es =
+    let tree : slot_tree (trees b.nodes) (core_slot k x) ≡ module_tree (number (length a.nodes)) m = ap (slot_tree (trees b.nodes)) slot ∙ w.tree in
+    let same : context_of b s ≡ context_of a s = same_context a b w.arena w.core s h in
+    subst (λ (z : Contents). JoinedModule k a b s z m) (sym es) (record {
+      grown = with_core_context b k x s ∙ λ j. push_core k (tree j) (same j);
+      nodes = w.nodes;
+      live = live;
+      keeps = keeps_trans a b b s s (state.with_core k x s) (keeps_grown a b s w.arena h) (keeps_with_core b k x s (state_stands a b w.arena s h) (subst (CoreStands b) (sym slot) w.stands));
+    })
+
+-- ## After the declarations that made it
+
+module _ (k : Core_space) (a b c : Arena) (s s' : Contents) (m : Module_type) (h : StateStands a s) (rest : b ≡ with_core a b.core) (ext : Extends a b) (w : JoinedModule k b c s s' m) where
+  before : length b.nodes ≡ length a.nodes
+  before = ap (λ (y : Arena). length y.nodes) rest
+
+  made_nodes : length c.nodes ≡ suc (length a.nodes)
+  made_nodes = w.nodes ∙ ap suc before
+
+  module_context : context_of c s' ≡ apply (module_joins k (number (length a.nodes)) (b.core, m)) (context_of a s)
+  module_context =
+      let e : context_of b s ≡ record (context_of a s) { groups = b.core } = grown_context a b ext s h in
+      w.grown ∙ λ j. push_core k (module_tree (number (before j)) m) (e j)
+
+  module_grows : (q : Place) (o : Option Made) → o ≡ Some (b.core, m) →
+      option_map (λ (x : Step). apply x (context_of a s)) (option_map (module_joins k (named (node_names a c q made_nodes).identities (introduced q))) o) ≡ Some (context_of c s')
+  module_grows q o e =
+      let i : named (node_names a c q made_nodes).identities (introduced q) ≡ number (length a.nodes) = node_name a c q made_nodes in
+      (λ j. option_map (λ (x : Step). apply x (context_of a s)) (option_map (module_joins k (i j)) (e j))) ∙ ap Some (sym module_context)
+
+  pub module_keeps : Keeps a c s s'
+  module_keeps = keeps_trans a b c s s s' (keeps_grown a b s ext h) w.keeps
+
+pub core_module_grew : (a b c : Arena) (s s' : Contents) (m : Module_type) → StateStands a s → b ≡ with_core a b.core → Extends a b → JoinedModule core_modules b c s s' m → (ds : List Module_decl) →
+    all_declared [] a.core (empty_module s.features) ds ≡ Some (b.core, m) → IsFree (module_checks [] a.core (empty_module s.features) ds) → (outer : List Context) (q : Place) → Grew a c outer q s s' (core_module_item ds)
+core_module_grew a b c s s' m h rest ext w ds made free outer q = record {
+  names = node_names a c q (made_nodes core_modules a b c s s' m h rest ext w);
+  given = node_given a c q (made_nodes core_modules a b c s s' m h rest ext w);
+  grown = module_grows core_modules a b c s s' m h rest ext w q (all_declared [] a.core (empty_module s.features) ds) made;
+  free = free;
+  live = w.live;
+}
+
+pub module_type_grew : (a b c : Arena) (s s' : Contents) (m : Module_type) → StateStands a s → b ≡ with_core a b.core → Extends a b → JoinedModule core_types b c s s' m → (ds : List Module_decl) (ss outer : List Contents) → ss ≡ outer ++ s ∷ [] →
+    MadeIn a b ss ds m → FreeIn a ss (core_type_item (core_module_type ds)) → (q : Place) → Grew a c (contexts_around a outer) q s s' (core_type_item (core_module_type ds))
+module_type_grew a b c s s' m h rest ext w ds ss outer e made free q = record {
+  names = node_names a c q (made_nodes core_types a b c s s' m h rest ext w);
+  given = node_given a c q (made_nodes core_types a b c s s' m h rest ext w);
+  grown = module_grows core_types a b c s s' m h rest ext w q _ (made outer s e);
+  free = free outer s e;
+  live = w.live;
+}
+
+-- ## Where the innermost state stands
+
+abbrev pub IsInnermost : List Contents → Contents → Type 0
+IsInnermost ss x = (outer : List Contents) (s : Contents) → ss ≡ outer ++ s ∷ [] → x ≡ s
+
+module _ (a : Arena) (ss : List Contents) (x : Contents) (fs : WasmFeatures) (ds : List Module_decl) (live : All (IsOpen a) ss) (inner : IsInnermost ss x) (ef : fs ≡ x.features) where
+  abbrev Declared : Checks
+  Declared = module_checks (reverse (map core_entries_of ss)) a.core (empty_module fs) ds
+
+  abbrev Room : Checks
+  Room = no_type_room true (counts (context_of a x))
+
+  features_same : (outer : List Contents) (s : Contents) → ss ≡ outer ++ s ∷ [] → fs ≡ s.features
+  features_same outer s e = ef ∙ ap (λ (z : Contents). z.features) (inner outer s e)
+
+  checks_same : (outer : List Contents) (s : Contents) → ss ≡ outer ++ s ∷ [] → Declared ++ Room ≡ call_checks (scope_of s (contexts_around a outer)) (context_of a s) (core_type_item (core_module_type ds))
+  checks_same outer s e =
+      let es = spaces_same a ss outer s e live in
+      let f : fs ≡ s.features = features_same outer s e in
+      let i : x ≡ s = inner outer s e in
+      λ j. module_checks (es j) a.core (empty_module (f j)) ds ++ no_type_room true (counts (context_of a (i j)))
+
+  pub made_in : (b : Arena) (m : Module_type) → all_declared (reverse (map core_entries_of ss)) a.core (empty_module fs) ds ≡ Some (b.core, m) → MadeIn a b ss ds m
+  made_in b m made outer s e =
+      let es = spaces_same a ss outer s e live in
+      let f : fs ≡ s.features = features_same outer s e in
+      (λ j. all_declared (sym es j) a.core (empty_module (sym f j)) ds) ∙ made
+
+  pub free_in : IsFree (module_checks (reverse (map core_entries_of ss)) a.core (empty_module fs) ds) → IsFree (no_type_room true (counts (context_of a x))) → FreeIn a ss (core_type_item (core_module_type ds))
+  free_in f r outer s e = subst IsFree (checks_same outer s e) (free_both Declared Room f r)
+
+  pub declared_caused : (offset : ℕ) (y : Error) → MemoryOrCausedBy (module_checks (reverse (map core_entries_of ss)) a.core (empty_module fs) ds) offset y → CausedIn a ss (core_type_item (core_module_type ds)) offset y
+  declared_caused offset y m outer s e = subst (λ cs. MemoryOrCausedBy cs offset y) (checks_same outer s e) (caused_more Declared (Declared ++ Room) offset y (cause_left Declared Room (error_kind y)) m)
+
+  pub room_caused : (offset : ℕ) (y : Error) → MemoryOrCausedBy (no_type_room true (counts (context_of a x))) offset y → CausedIn a ss (core_type_item (core_module_type ds)) offset y
+  room_caused offset y m outer s e = subst (λ cs. MemoryOrCausedBy cs offset y) (checks_same outer s e) (caused_more Room (Declared ++ Room) offset y (cause_right Declared Room (error_kind y)) m)

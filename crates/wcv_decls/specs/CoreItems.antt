@@ -1,0 +1,46 @@
+-- What core types and core modules do to a state.
+use Rattle.std.specs.Prelude.{ℕ, suc, List, [], ◌∷◌, ◌++◌, length, Some, false, ◌≡◌}
+use Rattle.wcv_core.specs.Names.{number}
+use Rattle.wcv_core.specs.declared.error.Error.{Error}
+use Rattle.wcv_syntax.specs.Model.{Module_decl, Form}
+use Rattle.wcv_syntax.specs.ModuleTypes.{Module_type, empty_module, all_declared}
+use Rattle.wcv_types.specs.Arena.{Arena}
+use Rattle.wcv_types.specs.Standing.{Stands, Extends}
+use Rattle.wcv_types.specs.Unfold.{tree_at}
+use Rattle.wcv_types.specs.declared.ids.ComponentCoreModuleTypeId.{ComponentCoreModuleTypeId}
+use Rattle.wcv_types.specs.declared.ids.Part.TheVariants as part
+use Rattle.wcv_lower.specs.Checks.{IsFree}
+use Rattle.wcv_lower.specs.Context.{Core_space, push_core}
+use Rattle.wcv_lower.specs.CoreItems.{module_tree, outer_entries}
+use Rattle.wcv_lower.specs.Growth.{call_checks}
+use Rattle.wcv_state.specs.Contents.{Contents, context_of, scope_of}
+use Rattle.wcv_state.specs.Promises.{MemoryOrCausedBy, Keeps}
+use Rattle.wcv_decls.specs.Stack.{contexts_around}
+
+-- the type of a module is the arena's next node
+pub record StoredModule (a b : Arena) (m : Module_type) (i : ComponentCoreModuleTypeId) : Type 0 where
+  pub stands : Stands b (part.Module i)
+  pub tree : tree_at b (part.Module i) ≡ module_tree (number (length a.nodes)) m
+  pub nodes : length b.nodes ≡ suc (length a.nodes)
+  pub core : b.core ≡ a.core
+  pub arena : Extends a b
+
+-- it is, and joined a space of core items
+pub record JoinedModule (k : Core_space) (a b : Arena) (s s' : Contents) (m : Module_type) : Type 0 where
+  pub grown : context_of b s' ≡ push_core k (module_tree (number (length a.nodes)) m) (context_of a s)
+  pub nodes : length b.nodes ≡ suc (length a.nodes)
+  pub live : s'.spent ≡ false
+  pub keeps : Keeps a b s s'
+
+-- the module that declarations make, where the innermost of the states stands
+abbrev pub MadeIn : Arena → Arena → List Contents → List Module_decl → Module_type → Type 0
+MadeIn a b ss ds m =
+    (outer : List Contents) (s : Contents) → ss ≡ outer ++ s ∷ [] →
+    all_declared (outer_entries (scope_of s (contexts_around a outer)) (context_of a s)) a.core (empty_module s.features) ds ≡ Some (b.core, m)
+
+-- the item has no cause there, and such a cause
+abbrev pub FreeIn : Arena → List Contents → Form → Type 0
+FreeIn a ss f = (outer : List Contents) (s : Contents) → ss ≡ outer ++ s ∷ [] → IsFree (call_checks (scope_of s (contexts_around a outer)) (context_of a s) f)
+
+abbrev pub CausedIn : Arena → List Contents → Form → ℕ → Error → Type 0
+CausedIn a ss f offset e = (outer : List Contents) (s : Contents) → ss ≡ outer ++ s ∷ [] → MemoryOrCausedBy (call_checks (scope_of s (contexts_around a outer)) (context_of a s) f) offset e

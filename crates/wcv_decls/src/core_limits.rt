@@ -1,0 +1,62 @@
+// Limits that the adding of core types and core modules leaves to its caller.
+ghost use Rattle.std.specs.Prelude.{length, map, ◌++◌, OnOk, IfErr};
+ghost use Rattle.wcv_syntax.specs.View.{code_decl_view, core_type_view};
+ghost use Rattle.wcv_lower.specs.Checks.{IsFree, full, max_instances};
+ghost use Rattle.wcv_lower.specs.Context.{core_modules};
+ghost use Rattle.wcv_lower.specs.CoreItems.{core_type_left, core_module_left};
+ghost use Rattle.wcv_state.specs.Contents.{context_of};
+ghost use Rattle.wcv_state.specs.Promises.{MemoryOrCausedBy};
+
+use wcv_core::{Error, ErrorKind};
+use wcv_module::{check_group, check_module_limits};
+use wcv_state::{ComponentState, Space};
+use wcv_syntax::{CoreType, ModuleDecl};
+use wcv_types::TypeAlloc;
+
+/// The most core modules of a component.
+const MAX_MODULES: usize = 1000;
+
+/// Whether the lists and the texts of a core type item keep their limits.
+pub fn check_core_limits(ty: &CoreType, offset: u64) -> Result<(), Error>
+    ensures ok { OnOk result (IsFree (core_type_left (core_type_view ty.now))) }
+    ensures err { IfErr result (MemoryOrCausedBy (core_type_left (core_type_view ty.now)) offset) }
+{
+    match ty {
+        CoreType::Rec(rec) => check_group(rec, offset),
+        CoreType::Module(decls) => check_module_limits(decls.as_slice(), offset),
+    }
+}
+
+/// Whether there is room for one more core module.
+fn check_modules(state: &ComponentState, types: &TypeAlloc, offset: u64) -> Result<(), Error>
+    ensures ok { OnOk result (IsFree (full max_instances (length ((context_of types.now state.now).core core_modules)))) }
+    ensures err { IfErr result (MemoryOrCausedBy (full max_instances (length ((context_of types.now state.now).core core_modules))) offset) }
+{
+    let _ = types;
+    let count = state.space_len(Space::CoreModules);
+    if count >= MAX_MODULES {
+        return Err(Error::new(
+            ErrorKind::Limit,
+            offset,
+            format_args!(
+                "no room for one more core module: there are {count}, at most {MAX_MODULES} are allowed"
+            ),
+        ));
+    }
+    Ok(())
+}
+
+/// So of a core module, with the number of core modules.
+#[tactic(auto, using(wcv_core::proofs::Closing::caused_left, wcv_core::proofs::Closing::caused_right, wcv_core::proofs::Causes::free_both))]
+pub fn check_core_module_limits(
+    decls: &[ModuleDecl],
+    state: &ComponentState,
+    types: &TypeAlloc,
+    offset: u64,
+) -> Result<(), Error>
+    ensures ok { OnOk result (IsFree (core_module_left (context_of types.now state.now) (map code_decl_view decls.now))) }
+    ensures err { IfErr result (MemoryOrCausedBy (core_module_left (context_of types.now state.now) (map code_decl_view decls.now)) offset) }
+{
+    check_module_limits(decls, offset)?;
+    check_modules(state, types, offset)
+}

@@ -1,0 +1,137 @@
+// Core modules, and the types of modules that join a state.
+ghost use Rattle.std.specs.Prelude.{◌≡◌, suc, true, false, List, [], All, map, Some, IfOk, OnOk, OnErr, IfErr};
+ghost use Rattle.wcv_core.specs.CoreGroups.{total};
+ghost use Rattle.wcv_core.specs.CoreSizes.{IsEntityWithin};
+ghost use Rattle.wcv_core.specs.Names.{Place};
+ghost use Rattle.wcv_core.specs.Refusal.{error_kind};
+ghost use Rattle.wcv_module.specs.Kept.{module_items};
+ghost use Rattle.wcv_syntax.specs.Model.{core_module_item};
+ghost use Rattle.wcv_syntax.specs.ModuleTypes.{empty_module, all_declared, module_checks};
+ghost use Rattle.wcv_syntax.specs.View.{code_decl_view};
+ghost use Rattle.wcv_types.specs.CoreCalls.{with_core};
+ghost use Rattle.wcv_types.specs.Standing.{Extends, entity_sizes};
+ghost use Rattle.wcv_lower.specs.Checks.{IsFree};
+ghost use Rattle.wcv_lower.specs.Context.{Context, core_types, core_modules};
+ghost use Rattle.wcv_state.specs.Contents.{StateStands};
+ghost use Rattle.wcv_state.specs.Promises.{MemoryOrCausedBy, Keeps, Grew, Refuses};
+ghost use Rattle.wcv_decls.specs.CoreItems.{StoredModule, JoinedModule};
+
+use wcv_core::{Error, ErrorKind, OutOfMemory};
+use wcv_module::{Module, NoOuter};
+use wcv_state::ComponentState;
+use wcv_syntax::ModuleDecl;
+use wcv_types::{ComponentCoreModuleTypeId, ComponentCoreTypeId, TypeAlloc};
+
+/// The type of a module joins the arena.
+fn store_module(
+    made: Module,
+    types: &mut TypeAlloc,
+) -> Result<ComponentCoreModuleTypeId, OutOfMemory>
+    requires within { All (IsEntityWithin (total types.old.core)) (module_items made) }
+    requires size { made.size ≡ suc (entity_sizes types.old.core (module_items made)) }
+    ensures ok { IfOk result (StoredModule types.old types.new made) }
+    ensures err { OnErr result (types.new ≡ types.old) }
+{
+    let shape = made.into_type(types);
+    let id: ComponentCoreModuleTypeId = types.push_ty(shape)?;
+    Ok(id)
+}
+
+/// The type of a module joins the core types. After an error the state is spent.
+pub fn join_core_types(
+    made: Module,
+    state: &mut ComponentState,
+    types: &mut TypeAlloc,
+) -> Result<(), Error>
+    requires live { state.old.spent ≡ false }
+    requires stands { StateStands types.old state.old }
+    requires within { All (IsEntityWithin (total types.old.core)) (module_items made) }
+    requires size { made.size ≡ suc (entity_sizes types.old.core (module_items made)) }
+    ensures ok { OnOk result (JoinedModule core_types types.old types.new state.old state.new made) }
+    ensures spent { OnErr result (state.new.spent ≡ true) }
+    ensures err { IfErr result (λ e. error_kind e ≡ ErrorKind.OutOfMemory) }
+    ensures keeps { Keeps types.old types.new state.old state.new }
+{
+    match store_module(made, types) {
+        Ok(id) => {
+            state.push_core_type(ComponentCoreTypeId::Module(id))?;
+            Ok(())
+        }
+        Err(err) => {
+            state.mark_spent();
+            Err(Error::from(err))
+        }
+    }
+}
+
+/// One more core module, of the type of that module. After an error the state is spent.
+pub fn join_core_modules(
+    made: Module,
+    state: &mut ComponentState,
+    types: &mut TypeAlloc,
+) -> Result<(), Error>
+    requires live { state.old.spent ≡ false }
+    requires stands { StateStands types.old state.old }
+    requires within { All (IsEntityWithin (total types.old.core)) (module_items made) }
+    requires size { made.size ≡ suc (entity_sizes types.old.core (module_items made)) }
+    ensures ok { OnOk result (JoinedModule core_modules types.old types.new state.old state.new made) }
+    ensures spent { OnErr result (state.new.spent ≡ true) }
+    ensures err { IfErr result (λ e. error_kind e ≡ ErrorKind.OutOfMemory) }
+    ensures keeps { Keeps types.old types.new state.old state.new }
+{
+    match store_module(made, types) {
+        Ok(id) => {
+            state.push_core_module(id)?;
+            Ok(())
+        }
+        Err(err) => {
+            state.mark_spent();
+            Err(Error::from(err))
+        }
+    }
+}
+
+/// The module that declarations make, in no other.
+fn declare_module(
+    decls: Vec<ModuleDecl>,
+    state: &ComponentState,
+    types: &mut TypeAlloc,
+    offset: u64,
+) -> Result<Module, Error>
+    ensures ok { IfOk result (λ made. all_declared [] types.old.core (empty_module state.now.features) (map code_decl_view decls.items) ≡ Some (types.new.core, made)) }
+    ensures within { IfOk result (λ made. All (IsEntityWithin (total types.new.core)) (module_items made)) }
+    ensures size { IfOk result (λ made. made.size ≡ suc (entity_sizes types.new.core (module_items made))) }
+    ensures free { OnOk result (IsFree (module_checks [] types.old.core (empty_module state.now.features) (map code_decl_view decls.items))) }
+    ensures err { IfErr result (MemoryOrCausedBy (module_checks [] types.old.core (empty_module state.now.features) (map code_decl_view decls.items)) offset) }
+    ensures rest { types.new ≡ with_core types.old types.new.core }
+    ensures grown { Extends types.old types.new }
+{
+    let alloc = types.allocator();
+    let features = *state.features();
+    Module::declare(alloc, features, decls, &NoOuter, types, offset)
+}
+
+/// A core module joins its space. After an error the state is spent.
+pub fn add_core_module_to(
+    decls: Vec<ModuleDecl>,
+    state: &mut ComponentState,
+    types: &mut TypeAlloc,
+    offset: u64,
+) -> Result<(), Error>
+    requires live { state.old.spent ≡ false }
+    requires stands { StateStands types.old state.old }
+    ensures ok { OnOk result ((outer : List Context) (p : Place) → Grew types.old types.new outer p state.old state.new (core_module_item (map code_decl_view decls.items))) }
+    ensures err { IfErr result (λ e. (outer : List Context) → Refuses types.old outer state.old state.new (core_module_item (map code_decl_view decls.items)) offset e) }
+    ensures keeps { Keeps types.old types.new state.old state.new }
+{
+    match declare_module(decls, state, types, offset) {
+        Ok(made) => match join_core_modules(made, state, types) {
+            Ok(()) => Ok(()),
+            Err(err) => Err(err),
+        },
+        Err(err) => {
+            state.mark_spent();
+            Err(err)
+        }
+    }
+}

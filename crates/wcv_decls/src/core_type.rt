@@ -1,0 +1,164 @@
+// Core type items, over the states that are open.
+ghost use Rattle.std.specs.Prelude.{◌≡◌, ◌<◌, suc, false, List, [], ◌∷◌, ◌++◌, All, length, map, IfOk, OnOk, OnErr, IfErr};
+ghost use Rattle.wcv_core.specs.CoreGroups.{total};
+ghost use Rattle.wcv_core.specs.CoreSizes.{IsEntityWithin};
+ghost use Rattle.wcv_core.specs.Names.{Place};
+ghost use Rattle.wcv_module.specs.Kept.{module_items};
+ghost use Rattle.wcv_syntax.specs.Model.{core_type_item, core_rec, core_module_type};
+ghost use Rattle.wcv_syntax.specs.View.{rec_view, module_decl_view, core_type_view};
+ghost use Rattle.wcv_types.specs.CoreCalls.{with_core};
+ghost use Rattle.wcv_types.specs.Standing.{Extends, entity_sizes};
+ghost use Rattle.wcv_lower.specs.Context.{Context};
+ghost use Rattle.wcv_lower.specs.Growth.{call_checks};
+ghost use Rattle.wcv_state.specs.Contents.{Contents, context_of, scope_of, StateStands};
+ghost use Rattle.wcv_state.specs.Promises.{MemoryOrCausedBy, Keeps, Grew, Refuses};
+ghost use Rattle.wcv_decls.specs.CoreItems.{MadeIn, FreeIn, CausedIn};
+ghost use Rattle.wcv_decls.specs.Stack.{IsOpen, GrewOn, RefusedOn, KeepsOn};
+
+use crate::core_module::join_core_types;
+use crate::room::{check_core_types, check_types};
+use wcv_core::{Error, RecGroup};
+use wcv_module::{Enclosing, Module};
+use wcv_state::ComponentState;
+use wcv_syntax::{CoreType, ModuleTypeDeclaration};
+use wcv_types::TypeAlloc;
+
+/// A group of core types, where nothing bars it.
+fn add_group(
+    rec: RecGroup,
+    state: &mut ComponentState,
+    types: &mut TypeAlloc,
+    offset: u64,
+) -> Result<(), Error>
+    requires live { state.old.spent ≡ false }
+    requires stands { StateStands types.old state.old }
+    ensures ok { OnOk result ((outer : List Context) (p : Place) → Grew types.old types.new outer p state.old state.new (core_type_item (core_rec (rec_view rec)))) }
+    ensures err { IfErr result (λ e. (outer : List Context) → MemoryOrCausedBy (call_checks (scope_of state.old outer) (context_of types.old state.old) (core_type_item (core_rec (rec_view rec)))) offset e) }
+    ensures keeps { Keeps types.old types.new state.old state.new }
+{
+    check_core_types(rec.types.len(), state, types, offset)?;
+    match types.intern_rec_group(state, rec, offset) {
+        Ok(()) => Ok(()),
+        Err(err) => Err(err),
+    }
+}
+
+/// A group of core types joins their space. After an error the state is spent.
+fn add_group_to(
+    rec: RecGroup,
+    state: &mut ComponentState,
+    types: &mut TypeAlloc,
+    offset: u64,
+) -> Result<(), Error>
+    requires live { state.old.spent ≡ false }
+    requires stands { StateStands types.old state.old }
+    ensures ok { OnOk result ((outer : List Context) (p : Place) → Grew types.old types.new outer p state.old state.new (core_type_item (core_rec (rec_view rec)))) }
+    ensures err { IfErr result (λ e. (outer : List Context) → Refuses types.old outer state.old state.new (core_type_item (core_rec (rec_view rec))) offset e) }
+    ensures keeps { Keeps types.old types.new state.old state.new }
+{
+    match add_group(rec, state, types, offset) {
+        Ok(()) => Ok(()),
+        Err(error) => {
+            state.mark_spent();
+            Err(error)
+        }
+    }
+}
+
+/// The innermost of the states.
+fn innermost(components: &[ComponentState]) -> &ComponentState
+    requires { 0 < length components.now }
+    ensures { (outer : List Contents) (s : Contents) → components.now ≡ outer ++ s ∷ [] → result.now ≡ s }
+{
+    &components[components.len() - 1]
+}
+
+/// The module that the declarations of a module type make, in what is open around it.
+fn declare_type(
+    decls: Vec<ModuleTypeDeclaration>,
+    components: &[ComponentState],
+    types: &mut TypeAlloc,
+    offset: u64,
+) -> Result<Module, Error>
+    requires some { 0 < length components.now }
+    requires open { All (IsOpen types.old) components.now }
+    ensures ok { IfOk result (MadeIn types.old types.new components.now (map module_decl_view decls.items)) }
+    ensures within { IfOk result (λ made. All (IsEntityWithin (total types.new.core)) (module_items made)) }
+    ensures size { IfOk result (λ made. made.size ≡ suc (entity_sizes types.new.core (module_items made))) }
+    ensures free { OnOk result (FreeIn types.old components.now (core_type_item (core_module_type (map module_decl_view decls.items)))) }
+    ensures err { IfErr result (CausedIn types.old components.now (core_type_item (core_module_type (map module_decl_view decls.items))) offset) }
+    ensures rest { types.new ≡ with_core types.old types.new.core }
+    ensures grown { Extends types.old types.new }
+{
+    let alloc = types.allocator();
+    let state = innermost(components);
+    check_types(true, state, types, offset)?;
+    let features = *state.features();
+    let outers = Enclosing { groups: components };
+    match Module::declare(alloc, features, decls, &outers, types, offset) {
+        Ok(made) => Ok(made),
+        Err(err) => Err(err),
+    }
+}
+
+/// A group of core types joins those of the innermost state.
+fn add_group_on(
+    rec: RecGroup,
+    components: &mut [ComponentState],
+    types: &mut TypeAlloc,
+    offset: u64,
+) -> Result<(), Error>
+    requires some { 0 < length components.old }
+    requires open { All (IsOpen types.old) components.old }
+    ensures ok { OnOk result ((p : Place) → GrewOn types.old types.new p components.old components.new (core_type_item (core_rec (rec_view rec)))) }
+    ensures err { IfErr result (RefusedOn types.old components.old components.new (core_type_item (core_rec (rec_view rec))) offset) }
+    ensures keeps { KeepsOn types.old types.new components.old components.new }
+{
+    let last = components.len() - 1;
+    add_group_to(rec, &mut components[last], types, offset)
+}
+
+/// A module type joins the core types of the innermost state.
+fn add_module_type_on(
+    decls: Vec<ModuleTypeDeclaration>,
+    components: &mut [ComponentState],
+    types: &mut TypeAlloc,
+    offset: u64,
+) -> Result<(), Error>
+    requires some { 0 < length components.old }
+    requires open { All (IsOpen types.old) components.old }
+    ensures ok { OnOk result ((p : Place) → GrewOn types.old types.new p components.old components.new (core_type_item (core_module_type (map module_decl_view decls.items)))) }
+    ensures err { IfErr result (RefusedOn types.old components.old components.new (core_type_item (core_module_type (map module_decl_view decls.items))) offset) }
+    ensures keeps { KeepsOn types.old types.new components.old components.new }
+{
+    let last = components.len() - 1;
+    match declare_type(decls, components, types, offset) {
+        Ok(made) => match join_core_types(made, &mut components[last], types) {
+            Ok(()) => Ok(()),
+            Err(error) => Err(error),
+        },
+        Err(error) => {
+            components[last].mark_spent();
+            Err(error)
+        }
+    }
+}
+
+/// A core type item joins the core types of the innermost state. After an error that state is spent.
+pub fn add_core_type_to(
+    components: &mut [ComponentState],
+    ty: CoreType,
+    types: &mut TypeAlloc,
+    offset: u64,
+) -> Result<(), Error>
+    requires some { 0 < length components.old }
+    requires open { All (IsOpen types.old) components.old }
+    ensures ok { OnOk result ((p : Place) → GrewOn types.old types.new p components.old components.new (core_type_item (core_type_view ty))) }
+    ensures err { IfErr result (RefusedOn types.old components.old components.new (core_type_item (core_type_view ty)) offset) }
+    ensures keeps { KeepsOn types.old types.new components.old components.new }
+{
+    match ty {
+        CoreType::Rec(rec) => add_group_on(rec, components, types, offset),
+        CoreType::Module(decls) => add_module_type_on(decls, components, types, offset),
+    }
+}

@@ -1,0 +1,60 @@
+// Room for types and core types.
+ghost use Rattle.std.specs.Prelude.{OnOk, IfErr};
+ghost use Rattle.wcv_lower.specs.Checks.{IsFree, counts, no_type_room, no_core_type_room};
+ghost use Rattle.wcv_state.specs.Contents.{context_of};
+ghost use Rattle.wcv_state.specs.Promises.{MemoryOrCausedBy};
+
+use wcv_core::{Error, ErrorKind};
+use wcv_state::ComponentState;
+use wcv_types::TypeAlloc;
+
+/// The most types and core types of a component.
+const MAX_TYPES: usize = 1_000_000;
+
+/// Whether there is room for one more type, where that is to be looked at.
+pub fn check_types(
+    limited: bool,
+    state: &ComponentState,
+    types: &TypeAlloc,
+    offset: u64,
+) -> Result<(), Error>
+    ensures ok { OnOk result (IsFree (no_type_room limited (counts (context_of types.now state.now)))) }
+    ensures err { IfErr result (MemoryOrCausedBy (no_type_room limited (counts (context_of types.now state.now))) offset) }
+{
+    let _ = types;
+    let count = state.type_count();
+    if limited && count >= MAX_TYPES {
+        return Err(Error::new(
+            ErrorKind::Limit,
+            offset,
+            format_args!(
+                "no room for one more type or core type: there are {count}, at most {MAX_TYPES} are allowed"
+            ),
+        ));
+    }
+    Ok(())
+}
+
+/// Whether there is room for so many more core types.
+pub fn check_core_types(
+    more: usize,
+    state: &ComponentState,
+    types: &TypeAlloc,
+    offset: u64,
+) -> Result<(), Error>
+    ensures ok { OnOk result (IsFree (no_core_type_room more (counts (context_of types.now state.now)))) }
+    ensures err { IfErr result (MemoryOrCausedBy (no_core_type_room more (counts (context_of types.now state.now))) offset) }
+{
+    let _ = types;
+    let count = state.type_count();
+    if count > MAX_TYPES || more > MAX_TYPES - count {
+        return Err(Error::new(
+            ErrorKind::Limit,
+            offset,
+            format_args!(
+                "no room for {more} more core types: there are {count} types and core types, at most {MAX_TYPES} are allowed"
+            ),
+        ));
+    }
+    Ok(())
+}
