@@ -18,25 +18,31 @@ use Rattle.wcv_types.proofs.Unfolding.{head_in}
 use Rattle.wcv_text.specs.Mentions.{entity_said, entry_said}
 use Rattle.wcv_text.specs.Numbers.{written, Shows, Appends}
 use Rattle.wcv_text.specs.declared.numbers.Numbers.{Numbers}
-use Rattle.wcv_text.proofs.Mentioned.{mention_is}
+use Rattle.wcv_text.proofs.Mentioned.{mention_is, mention_any}
 
 -- ## Entities by ids
 
-entity_is : (a : Arena) (w : Written) (x : ComponentEntityType) → EntityStands a x → entity_text w (head (entity_tree (trees a.nodes) x)) (entity_tree (trees a.nodes) x) ≡ entity_said w x
+pub entity_is : (a : Arena) (w : Written) (x : ComponentEntityType) → EntityStands a x → entity_text w (head (entity_tree (trees a.nodes) x)) (entity_tree (trees a.nodes) x) ≡ entity_said w x
+entity_is a w (entity.Module i) s =
+    let t : Type_tree = tree_at a (p.Module i) in
+    ap (λ (h : Head Name Name). entity_text w h t) (head_in a.nodes i.index (n.Module s.0) s.1) ∙ ap (λ (x : Text). codes "module " ++ x) (mention_is a w (p.Module i) tt s)
 entity_is a w (entity.Func i) s =
     let t : Type_tree = tree_at a (p.Func i) in
-    ap (λ (h : Head Name Name). entity_text w h t) (head_in a.nodes i.index (n.Func s.0) s.1) ∙ ap (λ (x : Text). codes "func " ++ x) (mention_is a w (p.Func i) s)
+    ap (λ (h : Head Name Name). entity_text w h t) (head_in a.nodes i.index (n.Func s.0) s.1) ∙ ap (λ (x : Text). codes "func " ++ x) (mention_is a w (p.Func i) tt s)
+entity_is a w (entity.Instance i) s =
+    let t : Type_tree = tree_at a (p.Instance i) in
+    ap (λ (h : Head Name Name). entity_text w h t) (head_in a.nodes i.index (n.Instance s.0) s.1) ∙ ap (λ (x : Text). codes "instance " ++ x) (mention_is a w (p.Instance i) tt s)
+entity_is a w (entity.Component i) s =
+    let t : Type_tree = tree_at a (p.Component i) in
+    ap (λ (h : Head Name Name). entity_text w h t) (head_in a.nodes i.index (n.Component s.0) s.1) ∙ ap (λ (x : Text). codes "component " ++ x) (mention_is a w (p.Component i) tt s)
 entity_is a w (entity.Value (v.Primitive q)) s = refl
 entity_is a w (entity.Value (v.Ty i)) s =
     let t : Type_tree = tree_at a (p.Defined i) in
-    ap (λ (h : Head Name Name). entity_text w h t) (head_in a.nodes i.index (n.Defined s.0) s.1) ∙ ap (λ (x : Text). codes "value " ++ x) (mention_is a w (p.Defined i) s)
+    ap (λ (h : Head Name Name). entity_text w h t) (head_in a.nodes i.index (n.Defined s.0) s.1) ∙ ap (λ (x : Text). codes "value " ++ x) (mention_is a w (p.Defined i) tt s)
 entity_is a w (entity.Ty c r) s =
-    let e : mention w (tree_at a (any_part c)) ≡ node_number w (identity_of (any_part c)) = mention_is a w (any_part c) s.0 in
-    let e' : mention w (tree_at a (any_part r)) ≡ node_number w (identity_of (any_part r)) = mention_is a w (any_part r) s.1 in
+    let e : mention w (tree_at a (any_part c)) ≡ node_number w (identity_of (any_part c)) = mention_any a w c s.0 in
+    let e' : mention w (tree_at a (any_part r)) ≡ node_number w (identity_of (any_part r)) = mention_any a w r s.1 in
     λ j. codes "type " ++ e j ++ codes " of " ++ e' j
-entity_is a w (entity.Module i) s = absurd s
-entity_is a w (entity.Instance i) s = absurd s
-entity_is a w (entity.Component i) s = absurd s
 
 -- ## Lines
 

@@ -1,22 +1,22 @@
 -- The own line of a node.
-use Rattle.std.proofs.Common.{◌≡◌, ℕ, List, [], ◌∷◌, ◌++◌, length, refl, sym, ◌∙◌, ap, subst, append_assoc, Bool, true, false, cond, Option, Some, None}
+use Rattle.std.proofs.Common.{◌≡◌, ℕ, List, [], ◌∷◌, ◌++◌, length, refl, sym, ◌∙◌, ap, subst, append_assoc, Bool, true, false, cond, Option, Some}
 use Rattle.std.specs.Prelude.{slice_get}
 use Rattle.std.proofs.lemmas.List.Elements.{All-get_or}
 use Rattle.std.proofs.lemmas.Option.{get_or_from_slice_get, slice_get_within}
 use Rattle.wcv_core.specs.Names.{Name}
 use Rattle.wcv_types.specs.Arena.{Arena}
 use Rattle.wcv_types.specs.Identity.{Identity, identity_at}
-use Rattle.wcv_types.specs.Standing.{Stands, StandsBefore, Unfolds, identity_of}
+use Rattle.wcv_types.specs.Standing.{HasIdentity, Stands, StandsBefore, Unfolds, identity_of}
 use Rattle.wcv_types.specs.Text.{Written, line_text, line_if, with_line, with_resource, with_each, with_paths, with_resources, has_line, write, write_parts}
-use Rattle.wcv_types.specs.Tree.{Text, Head, nothing, primitive, resource, defined, func, instance, component, type_entity, Parts, node, head, parts}
-use Rattle.wcv_types.specs.Unfold.{Type_tree, leaf, at, both, Slots, slot_parts, parts_in, parts_at, rank, slots_at, trees, tree_at}
-use Rattle.wcv_types.specs.declared.arena.Node.TheVariants as n
+use Rattle.wcv_types.specs.Tree.{Text, Head, nothing, primitive, resource, defined, func, instance, component, type_entity, core_module, core_instance, core_type, core_item, Parts, node, head, parts}
+use Rattle.wcv_types.specs.Unfold.{Type_tree, slot_parts, parts_at, rank, slots_at, trees, tree_at}
 use Rattle.wcv_types.specs.declared.ids.Part.{Part}
-use Rattle.wcv_types.specs.declared.ids.Part.TheVariants as p
-use Rattle.wcv_types.proofs.Unfolding.{known_stands, head_in}
-use Rattle.wcv_text.specs.Nodes.{form_of, own_line, write_all}
+use Rattle.wcv_types.proofs.Unfolding.{known_stands}
+use Rattle.wcv_text.specs.EntryList.{write_items}
+use Rattle.wcv_text.specs.Nodes.{form_of, items_at, own_line, write_all}
 use Rattle.wcv_text.specs.Numbers.{written, Shows}
 use Rattle.wcv_text.specs.declared.numbers.Numbers.{Numbers}
+use Rattle.wcv_text.proofs.Parts.{parts_written}
 
 -- ## Numbers of resources leave the lines alone
 
@@ -44,6 +44,10 @@ resources_keep w (primitive p) = refl
 resources_keep w (defined i k) = refl
 resources_keep w (func i b) = refl
 resources_keep w type_entity = refl
+resources_keep w (core_module i m) = refl
+resources_keep w (core_instance i m) = refl
+resources_keep w (core_type i) = refl
+resources_keep w (core_item e) = refl
 
 -- ## The line
 
@@ -72,26 +76,21 @@ part_before a q r k u h =
     let P : Part → Type 0 = StandsBefore a (rank q) in
     subst P (get_or_from_slice_get (parts_at a q) k r r h) (All-get_or P (parts_at a q) k r (slice_get_within (parts_at a q) k r h) u.before)
 
-slots_written : (a : Arena) (w : Written) (ss : Slots) → write_parts w (slot_parts (trees a.nodes) ss) ≡ write_all a w (parts_in ss)
-slots_written a w [] = refl
-slots_written a w ((r, leaf None) ∷ ss) = slots_written a w ss
-slots_written a w ((r, leaf (Some o)) ∷ ss) = slots_written a w ss
-slots_written a w ((r, at q) ∷ ss) = slots_written a (write w (tree_at a q)) ss
-slots_written a w ((r, both c q) ∷ ss) = slots_written a (write (write w (tree_at a c)) (tree_at a q)) ss
-
 write_again : (w : Written) (t : Type_tree) → has_line w (identity_at (head t)) ≡ true → write w t ≡ w
 write_again w (node h ps) e = ap (λ (b : Bool). cond b w (line_if (write_parts w ps) (identity_at h) h ps)) e
 
 -- a type that has a line is written already
-pub write_old : (a : Arena) (q : Part) (w : Written) → Stands a q → has_line w (Some (identity_of q)) ≡ true → write w (tree_at a q) ≡ w
-write_old a q w s h = write_again w (tree_at a q) (ap (has_line w) (known_stands a q s) ∙ h)
+pub write_old : (a : Arena) (q : Part) (w : Written) → HasIdentity q → Stands a q → has_line w (Some (identity_of q)) ≡ true → write w (tree_at a q) ≡ w
+write_old a q w i s h = write_again w (tree_at a q) (ap (has_line w) (known_stands a q i s) ∙ h)
 
--- one that has none gets it after its parts
-pub write_new : (a : Arena) (q : Part) (w : Written) → Unfolds a q → has_line w (Some (identity_of q)) ≡ false → write w (tree_at a q) ≡ own_line q (tree_at a q) (write_all a w (parts_at a q))
+-- one that has none gets it after its parts and after the groups that its core items name
+pub write_new : (a : Arena) (q : Part) (w : Written) → Unfolds a q → has_line w (Some (identity_of q)) ≡ false →
+    write w (tree_at a q) ≡ own_line q (tree_at a q) (write_items (items_at a q) (write_all a w (parts_at a q)))
 write_new a q w u h =
     let t : Type_tree = tree_at a q in
     let ps : Parts Name Name = slot_parts (trees a.nodes) (slots_at a.nodes q) in
+    let before : Written = write_items (items_at a q) (write_all a w (parts_at a q)) in
     ap (write w) u.tree ∙ ap (λ (i : Option Identity). cond (has_line w i) w (line_if (write_parts w ps) i (head t) ps)) u.known ∙
     ap (λ (b : Bool). cond b w (line_if (write_parts w ps) (Some (identity_of q)) (head t) ps)) h ∙
-    ap (λ (v : Written). with_line (with_resources v (head t)) (identity_of q) (head t) ps) (slots_written a w (slots_at a.nodes q)) ∙
-    ap (λ (rs : Parts Name Name). with_line (with_resources (write_all a w (parts_at a q)) (head t)) (identity_of q) (head t) rs) (sym (ap parts u.tree))
+    ap (λ (v : Written). with_line (with_resources v (head t)) (identity_of q) (head t) ps) (parts_written a w q) ∙
+    ap (λ (rs : Parts Name Name). with_line (with_resources before (head t)) (identity_of q) (head t) rs) (sym (ap parts u.tree))

@@ -2,10 +2,9 @@
 use Rattle.std.proofs.Common.{◌≡◌, ℕ, suc, eqb, ◌<◌, ◌≤◌, List, [], ◌∷◌, ◌++◌, refl, ◌∙◌, ap, arith, Bool, true, false, ◌||◌, Some}
 use Rattle.std.proofs.lemmas.Bool.{eqb-true}
 use Rattle.wcv_core.specs.Names.{number}
-use Rattle.wcv_types.specs.Arena.{Arena}
 use Rattle.wcv_types.specs.Identity.{Identity, of_node, same_identity}
 use Rattle.wcv_types.specs.Positions.{is_there}
-use Rattle.wcv_types.specs.Standing.{Stands, identity_of}
+use Rattle.wcv_types.specs.Standing.{HasIdentity, identity_of}
 use Rattle.wcv_types.specs.Text.{has_line}
 use Rattle.wcv_types.specs.Unfold.{rank}
 use Rattle.wcv_types.specs.declared.ids.Part.{Part}
@@ -29,21 +28,21 @@ numbers_apart k i h = go (eqb k i) refl
     go false e = e
 
 -- a node from the rank of a type on is not the type
-apart : (a : Arena) (q : Part) (k : ℕ) → Stands a q → rank q ≤ k → same_identity (of_node (number k)) (identity_of q) ≡ false
-apart a (p.Resource r) k s h = refl
-apart a (p.Core i) k s h = absurd s
-apart a (p.Defined i) k s h = numbers_apart k i.index h
-apart a (p.Func i) k s h = numbers_apart k i.index h
-apart a (p.Instance i) k s h = numbers_apart k i.index h
-apart a (p.Component i) k s h = numbers_apart k i.index h
-apart a (p.Module i) k s h = numbers_apart k i.index h
-apart a (p.CoreInstance i) k s h = numbers_apart k i.index h
+apart : (q : Part) (k : ℕ) → HasIdentity q → rank q ≤ k → same_identity (of_node (number k)) (identity_of q) ≡ false
+apart (p.Resource r) k s h = refl
+apart (p.Core i) k s h = absurd s
+apart (p.Defined i) k s h = numbers_apart k i.index h
+apart (p.Func i) k s h = numbers_apart k i.index h
+apart (p.Instance i) k s h = numbers_apart k i.index h
+apart (p.Component i) k s h = numbers_apart k i.index h
+apart (p.Module i) k s h = numbers_apart k i.index h
+apart (p.CoreInstance i) k s h = numbers_apart k i.index h
 
 -- the own line of a type
-pub older_own : (a : Arena) (q : Part) (old new : Numbers) → Stands a q → (written new []).nodes ≡ (written old []).nodes ++ identity_of q ∷ [] → NoneFrom (rank q) old new
-older_own a q old new s added k h =
+pub older_own : (q : Part) (old new : Numbers) → HasIdentity q → (written new []).nodes ≡ (written old []).nodes ++ identity_of q ∷ [] → NoneFrom (rank q) old new
+older_own q old new s added k h =
     ap (λ (is : List Identity). is_there same_identity (of_node (number k)) is) added ∙
-    there_other same_identity (of_node (number k)) (identity_of q) (written old []).nodes (apart a q k s h)
+    there_other same_identity (of_node (number k)) (identity_of q) (written old []).nodes (apart q k s h)
 
 -- one after another
 pub older_then : (b c d : ℕ) (old mid new : Numbers) → b ≤ d → c ≤ d → NoneFrom b old mid → NoneFrom c mid new → NoneFrom d old new

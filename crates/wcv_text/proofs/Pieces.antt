@@ -10,6 +10,12 @@ use Rattle.wcv_text.specs.Mentions.{separator, value_text}
 pub in_braces : (start one two last word list : Text) → one ≡ start ++ word → two ≡ one ++ list → last ≡ two ++ codes "}" → last ≡ start ++ (word ++ list ++ codes "}")
 in_braces start one two last word list p q r = r ∙ ap (λ (x : Text). x ++ codes "}") (q ∙ ap (λ (x : Text). x ++ list) p) ∙ simp append_assoc
 
+-- so of a list whose first and whose second part are appended one after another
+pub two_in_braces : (start one two three last word first second list : Text) → one ≡ start ++ word → two ≡ one ++ first → three ≡ two ++ second → last ≡ three ++ codes "}" → list ≡ first ++ second →
+    last ≡ start ++ (word ++ list ++ codes "}")
+two_in_braces start one two three last word first second list p q r s e =
+    in_braces start one three last word list p (r ∙ ap (λ (x : Text). x ++ second) q ∙ append_assoc one first second ∙ ap (λ (x : Text). one ++ x) (sym e)) s
+
 -- two pieces behind a word, with a space between them
 pub two_pieces : (start one two three last word first second : Text) → one ≡ start ++ word → two ≡ one ++ first → three ≡ two ++ codes " " → last ≡ three ++ second →
     last ≡ start ++ (word ++ first ++ codes " " ++ second)

@@ -1,5 +1,6 @@
 -- The text of a whole component type.
 use Rattle.std.proofs.Common.{◌≡◌, List, [], ◌∷◌, ℕ, codes, map, refl, sym, ◌∙◌, ap, append-nil}
+use Rattle.wcv_core.specs.CoreForm.{Group}
 use Rattle.wcv_core.specs.Names.{Name}
 use Rattle.wcv_types.specs.Arena.{Arena}
 use Rattle.wcv_types.specs.ComponentTrees.{resource_path, root_tree}
@@ -28,21 +29,22 @@ paths_written word w [] = refl
 paths_written word w (p ∷ ps) = paths_written word (write_path word p w) ps
 
 -- imports, exports, imported and then defined resources
-abbrev pub all_written : List Type_tree → ComponentType → Written
-all_written ts ty =
+abbrev pub all_written : Arena → ComponentType → Written
+all_written a ty =
     write_path_list (codes "defined ") ty.defined_resources
-    (write_path_list (codes "imported ") ty.imported_resources (write_list (codes "export ") ts ty.exports (write_list (codes "import ") ts ty.imports nothing_written)))
+    (write_path_list (codes "imported ") ty.imported_resources (write_list (codes "export ") (trees a.nodes) ty.exports (write_list (codes "import ") (trees a.nodes) ty.imports (nothing_written a.core))))
 
-pub all_said : (a : Arena) (ty : ComponentType) → type_text (root_tree a ty) ≡ (all_written (trees a.nodes) ty).text
+pub all_said : (a : Arena) (ty : ComponentType) → type_text a.core (root_tree a ty) ≡ (all_written a ty).text
 all_said a ty =
     let ts : List Type_tree = trees a.nodes in
-    let listed : write_entries nothing_written (entries import (entry_trees ts ty.imports) (entries export (entry_trees ts ty.exports) none)) ≡ write_list (codes "export ") ts ty.exports (write_list (codes "import ") ts ty.imports nothing_written) =
-    imports_written ts nothing_written ty.imports (entries export (entry_trees ts ty.exports) none) ∙ exports_written ts (write_list (codes "import ") ts ty.imports nothing_written) ty.exports in
+    let start : Written = nothing_written a.core in
+    let listed : write_entries start (entries import (entry_trees ts ty.imports) (entries export (entry_trees ts ty.exports) none)) ≡ write_list (codes "export ") ts ty.exports (write_list (codes "import ") ts ty.imports start) =
+    imports_written ts start ty.imports (entries export (entry_trees ts ty.exports) none) ∙ exports_written ts (write_list (codes "import ") ts ty.imports start) ty.exports in
     ap (λ (w : Written). w.text)
     (ap (λ (w : Written). write_paths (codes "defined ") (write_paths (codes "imported ") w (map resource_path ty.imported_resources)) (map resource_path ty.defined_resources)) listed ∙
     ap (λ (w : Written). write_paths (codes "defined ") w (map resource_path ty.defined_resources)) (paths_written (codes "imported ") _ ty.imported_resources) ∙
     paths_written (codes "defined ") _ ty.defined_resources)
 
 -- nothing is written yet
-pub nothing_shown : (numbers : Numbers) (before : Text) → written numbers [] ≡ nothing_written → Shows numbers before before nothing_written
-nothing_shown numbers before h = record { text_is = sym (append-nil before); numbers_are = sym h }
+pub nothing_shown : (gs : List Group) (numbers : Numbers) (before : Text) → written numbers [] ≡ nothing_written gs → Shows numbers before before (nothing_written gs)
+nothing_shown gs numbers before h = record { text_is = sym (append-nil before); numbers_are = sym h }

@@ -1,5 +1,5 @@
 -- What lines say, by ids.
-use Rattle.std.specs.Prelude.{ℕ, zero, suc, [], ◌++◌, codes, Option, Some, None}
+use Rattle.std.specs.Prelude.{ℕ, zero, suc, [], ◌++◌, codes, Bool, cond, Option, Some, None}
 use Rattle.wcv_core.specs.Names.{number}
 use Rattle.wcv_types.specs.Entities.{any_part, entry_name}
 use Rattle.wcv_types.specs.Identity.{of_node}
@@ -19,6 +19,10 @@ abbrev pub separator : Text → ℕ → Text
 separator between zero = []
 separator between (suc i) = between
 
+-- what stands before the first of a list, where something stands before the list
+abbrev pub comma : Bool → Text
+comma behind = cond behind (codes ", ") []
+
 -- a value type
 abbrev pub value_text : Written → ComponentValType → Text
 value_text w (v.Primitive p) = primitive_name p
@@ -31,7 +35,7 @@ option_text w (Some t) = value_text w t
 
 -- what an entry is
 abbrev pub entity_said : Written → ComponentEntityType → Text
-entity_said w (entity.Module i) = []
+entity_said w (entity.Module i) = codes "module " ++ node_number w (identity_of (part.Module i))
 entity_said w (entity.Func i) = codes "func " ++ node_number w (identity_of (part.Func i))
 entity_said w (entity.Value t) = codes "value " ++ value_text w t
 entity_said w (entity.Ty c r) = codes "type " ++ node_number w (identity_of (any_part c)) ++ codes " of " ++ node_number w (identity_of (any_part r))
@@ -41,8 +45,3 @@ entity_said w (entity.Component i) = codes "component " ++ node_number w (identi
 -- the line of an entry behind a word
 abbrev pub entry_said : Text → Text × ComponentItem → Written → Text
 entry_said word e w = word ++ quoted e.0 ++ codes " " ++ entity_said w e.1.ty ++ name_text (entry_name e) ++ codes "\n"
-
--- the entity is one that a text has, which a core module is not yet
-abbrev pub HasText : ComponentEntityType → Type 0
-HasText (entity.Module i) = ⊥
-HasText x = Unit {0}

@@ -1,6 +1,7 @@
 -- What has been written, beside the text.
-use Rattle.std.specs.Prelude.{◌++◌, map, ◌≡◌}
+use Rattle.std.specs.Prelude.{ℕ, ◌++◌, map, ◌≡◌}
 use Rattle.wcv_core.specs.Names.{Name, number}
+use Rattle.wcv_core.specs.declared.core_types.CoreTypeId.{CoreTypeId}
 use Rattle.wcv_types.specs.Text.{Written}
 use Rattle.wcv_types.specs.Tree.{Text}
 use Rattle.wcv_types.specs.declared.ids.ResourceId.{ResourceId}
@@ -11,9 +12,13 @@ use Rattle.wcv_text.specs.declared.numbers.Numbers.{Numbers}
 abbrev pub name_of : ResourceId → Name
 name_of r = number r.index
 
+-- a core group by its first id
+abbrev pub first_of : CoreTypeId → ℕ
+first_of i = i.index
+
 -- what has been written, with that text
 abbrev pub written : Numbers → Text → Written
-written n text = record { nodes = map known n.nodes; resources = map name_of n.resources; text = text }
+written n text = record { core = n.core.now; groups = map first_of n.groups; nodes = map known n.nodes; resources = map name_of n.resources; text = text }
 
 -- the text stands behind what stood there before, and the numbers are those that were given
 pub record Shows (numbers : Numbers) (before text : Text) (w : Written) : Type 0 where

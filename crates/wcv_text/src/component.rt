@@ -17,9 +17,9 @@ pub fn push_type(
     ty: &ComponentType,
 ) -> Result<(), AllocError>
     requires { ComponentStands types.now ty.now }
-    ensures { OnOk result (string_bytes text.new ≡ string_bytes text.old ++ type_text (root_tree types.now ty.now)) }
+    ensures { OnOk result (string_bytes text.new ≡ string_bytes text.old ++ type_text types.now.core (root_tree types.now ty.now)) }
 {
-    let mut numbers = Numbers::new(alloc);
+    let mut numbers = Numbers::new(alloc, types.core_types());
     push_entries(text, &mut numbers, types, "import ", &ty.imports)?;
     push_entries(text, &mut numbers, types, "export ", &ty.exports)?;
     push_paths(text, &mut numbers, "imported ", &ty.imported_resources)?;

@@ -1,7 +1,8 @@
 // What lines mention.
-ghost use Rattle.std.specs.Prelude.{◌≡◌, ◌++◌, codes, string_bytes, OnOk, Option};
+ghost use Rattle.std.specs.Prelude.{◌≡◌, ◌++◌, codes, cond, string_bytes, OnOk, Option};
+ghost use Rattle.wcv_types.specs.Entities.{entry_name};
 ghost use Rattle.wcv_types.specs.Text as text_of;
-ghost use Rattle.wcv_text.specs.Mentions.{separator, value_text, option_text, entity_said, HasText};
+ghost use Rattle.wcv_text.specs.Mentions.{separator, value_text, option_text, entity_said};
 ghost use Rattle.wcv_text.specs.Numbers.{Appends};
 
 use crate::identity::{Identity, as_part, identity_of};
@@ -10,13 +11,24 @@ use crate::quoting::push_quoted;
 use std::alloc::AllocError;
 use std::fmt::Write;
 use wcv_core::{PrimitiveValType, Text};
-use wcv_types::{ComponentEntityType, ComponentValType, Part};
+use wcv_types::{ComponentEntityType, ComponentItem, ComponentValType, Part};
 
 /// What stands before the item at that index of a list.
 pub fn separator_at(between: &'static str, index: usize) -> &'static str
     ensures { result.now ≡ separator between.now index }
 {
     if index == 0 { "" } else { between }
+}
+
+/// What stands before the item at that index of a list, where something may stand before the list.
+pub fn comma_at(behind: bool, index: usize) -> &'static str
+    ensures { result.now ≡ cond behind (codes ", ") (separator (codes ", ") index) }
+{
+    if behind {
+        ", "
+    } else {
+        separator_at(", ", index)
+    }
 }
 
 fn primitive_name(ty: PrimitiveValType) -> &'static str
@@ -74,10 +86,16 @@ pub fn push_entity(
     numbers: &Numbers,
     ty: ComponentEntityType,
 ) -> Result<(), AllocError>
-    requires { HasText ty }
     ensures { OnOk result (Appends numbers.now (string_bytes text.old) (string_bytes text.new) (λ w. entity_said w ty)) }
 {
     match ty {
+        ComponentEntityType::Module(id) => {
+            write!(
+                text,
+                "module {}",
+                numbers.line(identity_of(Part::Module(id)))
+            )
+        }
         ComponentEntityType::Func(id) => {
             write!(text, "func {}", numbers.line(identity_of(Part::Func(id))))
         }
@@ -107,7 +125,6 @@ pub fn push_entity(
                 numbers.line(identity_of(Part::Component(id)))
             )
         }
-        ComponentEntityType::Module(_) => unreachable!(),
     }
 }
 
@@ -122,4 +139,13 @@ pub fn push_beside(text: &mut String, word: &str, beside: &Option<Text>) -> Resu
             push_quoted(text, beside.as_str())
         }
     }
+}
+
+/// Appends what the name of an entry says beside it.
+pub fn push_name(text: &mut String, entry: &(Text, ComponentItem)) -> Result<(), AllocError>
+    ensures { OnOk result (string_bytes text.new ≡ string_bytes text.old ++ text_of.name_text (entry_name entry.now)) }
+{
+    push_beside(text, " implements ", &entry.1.implements)?;
+    push_beside(text, " suffix ", &entry.1.version_suffix)?;
+    push_beside(text, " id ", &entry.1.external_id)
 }

@@ -1,20 +1,27 @@
 // The lines of nodes, each after the lines of its parts.
 ghost use Rattle.std.specs.Prelude.{◌≡◌, ◌<◌, [], ◌∷◌, ◌++◌, length, slice_get, Some, false, string_bytes, OnOk, IfOk};
-ghost use Rattle.wcv_types.specs.Standing.{Stands, Unfolds, identity_of};
+ghost use Rattle.wcv_types.specs.Standing.{HasIdentity, Stands, Unfolds, identity_of};
 ghost use Rattle.wcv_types.specs.Text.{has_line, with_resources, write};
 ghost use Rattle.wcv_types.specs.Tree.{Text, head};
 ghost use Rattle.wcv_types.specs.Unfold.{parts_at, parts_of, rank, tree_at};
 ghost use Rattle.wcv_text.specs.Nodes.{form_of, own_line, NoneFrom};
 ghost use Rattle.wcv_text.specs.Numbers.{written, Appends, Writes};
 
+use crate::core_item_line::push_module;
 use crate::defined_line::push_defined;
+use crate::entry_list::{push_component, push_instance};
 use crate::func_line::push_func;
 use crate::identity;
+use crate::item_groups::push_items;
 use crate::numbers::Numbers;
 use crate::resource_line::push_reference;
 use std::alloc::{AllocError, Global};
 use std::fmt::Write;
-use wcv_types::{ComponentDefinedTypeId, ComponentFuncTypeId, NodeSort, Part, Parts, TypeAlloc};
+use wcv_types::{
+    ComponentCoreInstanceTypeId, ComponentCoreModuleTypeId, ComponentDefinedTypeId,
+    ComponentFuncTypeId, ComponentInstanceTypeId, ComponentTypeId, NodeSort, Part, Parts,
+    TypeAlloc,
+};
 
 /// The parts of a node.
 fn parts_in<S: NodeSort>(alloc: Global, shape: &S::Shape) -> Result<Parts, AllocError>
@@ -29,7 +36,8 @@ fn parts_in<S: NodeSort>(alloc: Global, shape: &S::Shape) -> Result<Parts, Alloc
 
 /// The parts of the type, which stand before it.
 fn parts(types: &TypeAlloc, part: Part) -> Result<Parts, AllocError>
-    requires { Stands types.now part }
+    requires stands { Stands types.now part }
+    requires line { HasIdentity part }
     ensures parts { IfOk result (λ ps. ps ≡ parts_at types.now part) }
     ensures unfolds { Unfolds types.now part }
 {
@@ -37,8 +45,12 @@ fn parts(types: &TypeAlloc, part: Part) -> Result<Parts, AllocError>
     match part {
         Part::Defined(id) => parts_in::<ComponentDefinedTypeId>(alloc, types.get(id)),
         Part::Func(id) => parts_in::<ComponentFuncTypeId>(alloc, types.get(id)),
+        Part::Instance(id) => parts_in::<ComponentInstanceTypeId>(alloc, types.get(id)),
+        Part::Component(id) => parts_in::<ComponentTypeId>(alloc, types.get(id)),
+        Part::Module(id) => parts_in::<ComponentCoreModuleTypeId>(alloc, types.get(id)),
+        Part::CoreInstance(id) => parts_in::<ComponentCoreInstanceTypeId>(alloc, types.get(id)),
         Part::Resource(_) => Ok(Parts::new(alloc)),
-        _ => unreachable!(),
+        Part::Core(_) => unreachable!(),
     }
 }
 
@@ -57,7 +69,8 @@ fn push_form(
     types: &TypeAlloc,
     part: Part,
 ) -> Result<(), AllocError>
-    requires { Stands types.now part }
+    requires stands { Stands types.now part }
+    requires line { HasIdentity part }
     ensures given { OnOk result ((t : Text) → written numbers.new t ≡ with_resources (written numbers.old t) (head (tree_at types.now part))) }
     ensures form { OnOk result (Appends numbers.new (string_bytes text.old) (string_bytes text.new) (λ w. form_of w (tree_at types.now part))) }
 {
@@ -65,7 +78,11 @@ fn push_form(
         Part::Defined(id) => push_defined(text, numbers, types.get(id)),
         Part::Func(id) => push_func(text, numbers, types.get(id)),
         Part::Resource(id) => push_reference(text, numbers, id.resource()),
-        _ => unreachable!(),
+        Part::Instance(id) => push_instance(text, numbers, types.get(id)),
+        Part::Component(id) => push_component(text, numbers, types.get(id)),
+        Part::Module(id) => push_module(text, numbers, types.get(id)),
+        Part::CoreInstance(_) => Ok(()),
+        Part::Core(_) => unreachable!(),
     }
 }
 
@@ -77,6 +94,7 @@ fn push_line(
     part: Part,
 ) -> Result<(), AllocError>
     requires stands { Stands types.now part }
+    requires line { HasIdentity part }
     requires no_line { has_line (written numbers.old []) (Some (identity_of part)) ≡ false }
     ensures shows { OnOk result (Writes numbers.old (string_bytes text.old) numbers.new (string_bytes text.new) (own_line part (tree_at types.now part))) }
     ensures added { OnOk result ((written numbers.new []).nodes ≡ (written numbers.old []).nodes ++ identity_of part ∷ []) }
@@ -88,14 +106,16 @@ fn push_line(
     numbers.add_line(identity::identity_of(part))
 }
 
-/// Appends the lines of the type and of what it is made of, where there are none yet, parts before the whole.
+/// Appends the lines of the type and of what it is made of, where there are none yet, parts before the whole, and
+/// those of the core groups that its core items name.
 pub fn push_node(
     text: &mut String,
     numbers: &mut Numbers,
     types: &TypeAlloc,
     part: Part,
 ) -> Result<(), AllocError>
-    requires { Stands types.now part }
+    requires stands { Stands types.now part }
+    requires line { HasIdentity part }
     ensures shows { OnOk result (Writes numbers.old (string_bytes text.old) numbers.new (string_bytes text.new) (λ w. write w (tree_at types.now part))) }
     ensures older { OnOk result (NoneFrom (rank part) numbers.old numbers.new) }
 {
@@ -106,5 +126,6 @@ pub fn push_node(
     for k in 0..inner.len() {
         push_node(text, numbers, types, part_at(&inner, k))?;
     }
+    push_items(text, numbers, types, part)?;
     push_line(text, numbers, types, part)
 }

@@ -1,31 +1,39 @@
-// Which nodes have a line, and which resources have a number.
-ghost use Rattle.std.specs.Prelude.{◌≡◌, [], ◌∷◌, ◌++◌, Some, false, length, OnOk, IfOk};
+// Which nodes and which core groups have a line, and which resources have a number.
+ghost use Rattle.std.specs.Prelude.{◌≡◌, ◌-◌, [], ◌∷◌, ◌++◌, eqb, Some, false, length, OnOk, IfOk};
 ghost use Rattle.wcv_core.specs.Names.{same};
+ghost use Rattle.wcv_types.specs.CoreText.{group_first};
 ghost use Rattle.wcv_types.specs.Identity.{same_identity};
 ghost use Rattle.wcv_types.specs.Positions.{position_of};
-ghost use Rattle.wcv_types.specs.Text.{nothing_written, has_line, with_resource};
+ghost use Rattle.wcv_types.specs.Text.{nothing_written, has_group, has_line, with_resource};
 ghost use Rattle.wcv_types.specs.Tree.{Text};
 ghost use Rattle.wcv_text.specs.Identity.{known};
 ghost use Rattle.wcv_text.specs.Numbers.{name_of, written};
 
+use crate::core_place::place;
 use crate::identity::Identity;
 use crate::numbering::Numbering;
 use std::alloc::{AllocError, Global};
+use wcv_core::{CoreTypeId, CoreTypes};
 use wcv_types::ResourceId;
 
-/// The numbers of lines and of resources, by order of first appearance.
+/// The numbers of lines and of resources, by order of first appearance, over a table of core types.
 #[derive(Drop)]
-pub struct Numbers {
+pub struct Numbers<'a> {
+    pub core: &'a CoreTypes,
+    /// By the ids of their first types.
+    pub groups: Numbering<CoreTypeId>,
     pub nodes: Numbering<Identity>,
     pub resources: Numbering<ResourceId>,
 }
 
-impl Numbers {
+impl<'a> Numbers<'a> {
     /// No number is given yet.
-    pub fn new(alloc: Global) -> Numbers
-        ensures { written result [] ≡ nothing_written }
+    pub fn new(alloc: Global, core: &'a CoreTypes) -> Numbers<'a>
+        ensures { written result [] ≡ nothing_written core.now }
     {
         Numbers {
+            core,
+            groups: Numbering::new(alloc),
             nodes: Numbering::new(alloc),
             resources: Numbering::new(alloc),
         }
@@ -69,5 +77,55 @@ impl Numbers {
             self.resources.push(resource)?;
         }
         Ok(self.resources.number(&resource))
+    }
+
+    /// The number of the resource. One that has none would get that number next.
+    pub fn resource_number(&self, resource: ResourceId) -> usize
+        ensures { result ≡ position_of same (name_of resource) (written self.now []).resources }
+    {
+        self.resources.number(&resource)
+    }
+
+    /// The first type of the group that a core type stands in.
+    fn first(&self, id: CoreTypeId) -> CoreTypeId
+        ensures { result.index ≡ group_first (written self.now []).core id.index }
+    {
+        place(self.core, id).0
+    }
+
+    /// How many groups have a line.
+    pub fn group_lines(&self) -> usize
+        ensures { result ≡ length (written self.now []).groups }
+    {
+        self.groups.len()
+    }
+
+    /// Whether the group of the core type has a line.
+    pub fn has_group(&self, id: CoreTypeId) -> bool
+        ensures { result ≡ has_group (written self.now []) id.index }
+    {
+        self.groups.has(&self.first(id))
+    }
+
+    /// The number of the line of the core type's group, and its place there. A group that has none would get that number next.
+    pub fn group(&self, id: CoreTypeId) -> (usize, u64)
+        ensures number { result.0 ≡ position_of eqb (group_first (written self.now []).core id.index) (written self.now []).groups }
+        ensures place { result.1 ≡ id.index - group_first (written self.now []).core id.index }
+    {
+        let first = self.first(id);
+        (
+            self.groups.number(&first),
+            id.index.saturating_sub(first.index),
+        )
+    }
+
+    /// Gives the next line of a group to that of the core type. It has none.
+    pub fn add_group(&mut self, id: CoreTypeId) -> Result<(), AllocError>
+        requires { has_group (written self.old []) id.index ≡ false }
+        ensures core { self.new.core ≡ self.old.core }
+        ensures line { OnOk result ((t : Text) → written self.new t ≡ record (written self.old t) { groups = (written self.old t).groups ++ group_first (written self.old t).core id.index ∷ [] }) }
+    {
+        let first = self.first(id);
+        self.groups.push(first)
     }
 }

@@ -1,10 +1,8 @@
 use Rattle.std.proofs.Common.{◌≡◌, ◌++◌, ◌∙◌, ap, codes, rules, append_assoc, string_bytes, OnOk}
 use Rattle.std.proofs.lemmas.Result.{on_ok_weaker}
-use Rattle.wcv_types.specs.Entities.{entry_name}
-use Rattle.wcv_types.specs.Quoting.{quoted}
-use Rattle.wcv_types.specs.Text.{name_text}
 use Rattle.wcv_types.specs.Tree.{Text}
-use Rattle.wcv_text.specs.Mentions.{entity_said, entry_said}
+use Rattle.wcv_text.specs.EntryList.{one_entry}
+use Rattle.wcv_text.specs.Mentions.{entry_said}
 use Rattle.wcv_text.specs.Numbers.{written, Appends}
 use Rattle.wcv_text.proofs.entries.push_line.Goals as goal
 
@@ -12,16 +10,9 @@ pub returns : goal.returns
 returns c =
     let start : Text = string_bytes c.args.text.now in
     let word : Text = c.args.word.now in
-    let name : Text = quoted c.args.entry.now.0 in
-    let beside : Text = name_text (entry_name c.args.entry.now) in
-    let first : string_bytes c.push_str-2.new.self ≡ start ++ word ++ name ++ codes " " = search rules in
-    let end : OnOk c.push_str-3.result (string_bytes c.push_str-3.new.self ≡ string_bytes c.push_name.new.text ++ codes "\n") = search rules in
-    on_ok_weaker {Q = Appends c.args.numbers.now start (string_bytes c.push_str-3.new.self) (entry_said word c.args.entry.now)} c.push_str-3.result
-    (λ last t. line_said start (string_bytes c.push_str-2.new.self) (string_bytes c.push_entity.new.text) (string_bytes c.push_name.new.text) _ word name (entity_said (written c.args.numbers.now t) c.args.entry.now.1.ty) beside
-    first (c.in_ok-push_entity.ensures t) c.in_ok-push_name.ensures last)
+    let end : OnOk c.push_str.result (string_bytes c.push_str.new.self ≡ string_bytes c.push_entry.new.text ++ codes "\n") = search rules in
+    on_ok_weaker {Q = Appends c.args.numbers.now start (string_bytes c.push_str.new.self) (entry_said word c.args.entry.now)} c.push_str.result
+    (λ last t.
+    let entry : Text = one_entry (written c.args.numbers.now t) word c.args.entry.now in
+    last ∙ ap (λ (x : Text). x ++ codes "\n") (c.in_ok-push_entry.ensures t) ∙ append_assoc start entry (codes "\n"))
     end
-  where
-    line_said : (start a b d e word name entity beside : Text) → a ≡ start ++ word ++ name ++ codes " " → b ≡ a ++ entity → d ≡ b ++ beside → e ≡ d ++ codes "\n" →
-        e ≡ start ++ (word ++ name ++ codes " " ++ entity ++ beside ++ codes "\n")
-    line_said start a b d e word name entity beside p q r s =
-        s ∙ ap (λ (x : Text). x ++ codes "\n") (r ∙ ap (λ (x : Text). x ++ beside) (q ∙ ap (λ (x : Text). x ++ entity) p)) ∙ simp append_assoc
