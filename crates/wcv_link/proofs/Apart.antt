@@ -45,7 +45,7 @@ pub record Settles (w : Place) (k : ℕ) (c : Context) : Type 0 where
 
 pub start-settles : (w : Place) → Settles w 0 start
 start-settles w = record {
-  known = record { space = λ k. All-nil _; types = All-nil _; side = λ s. All-nil _ };
+  known = record { space = λ k. All-nil _; core = λ k. All-nil _; types = All-nil _; side = λ s. All-nil _ };
   imported = λ r h. absurd h;
   defined = λ r h. absurd h;
   apart = λ r h g. absurd h;

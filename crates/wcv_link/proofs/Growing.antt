@@ -5,7 +5,12 @@ use Rattle.std.specs.Option.{option_map, option_and_then}
 use Rattle.std.proofs.lemmas.List.Elements.{All-append, All-nil, All-cons, All-weaker}
 use Rattle.wcv_core.specs.Names.{Name, Place}
 use Rattle.wcv_core.specs.declared.core_types.ValType.{ValType}
-use Rattle.wcv_syntax.specs.Model.{Form, core_type_item, core_module_item, core_instance_item, type_item, import_item, export_item, component_item, instance_item, alias_item, start_item, canon_item, unread, Type_form, defined_type, func_type, component_type, instance_type, resource_type}
+use Rattle.wcv_core.specs.CoreForm.{Group}
+use Rattle.wcv_core.specs.CoreJoining.{group_ids, grown}
+use Rattle.wcv_core.specs.CoreWritten.{closed_group}
+use Rattle.wcv_core.specs.declared.core_types.EntityType.{EntityType}
+use Rattle.wcv_syntax.specs.Model.{Core_type_form, core_rec, core_module_type, Form, core_type_item, core_module_item, core_instance_item, type_item, import_item, export_item, component_item, instance_item, alias_item, start_item, canon_item, unread, Type_form, defined_type, func_type, component_type, instance_type, resource_type}
+use Rattle.wcv_syntax.specs.ModuleTypes.{Module_type, Made, empty_module, all_declared, written_group}
 use Rattle.wcv_syntax.specs.declared.component_type.ComponentTypeRef.{ComponentTypeRef}
 use Rattle.wcv_syntax.specs.declared.component_type.ComponentTypeRef.TheVariants as ref
 use Rattle.wcv_syntax.specs.declared.component_type.ComponentValType.{ComponentValType}
@@ -14,16 +19,18 @@ use Rattle.wcv_syntax.specs.declared.component_type.TypeBounds.TheVariants as bo
 use Rattle.wcv_syntax.specs.declared.instance.ComponentExternalKind.{ComponentExternalKind}
 use Rattle.wcv_syntax.specs.declared.instance.ComponentExternalKind.TheVariants as kind
 use Rattle.wcv_types.specs.Paths.{PathLeadsTo}
-use Rattle.wcv_types.specs.Tree.{Extern_name, primitive, Sort, is_nothing, is_value, is_resource, is_func, is_instance, is_component, is_type, sort, defined, func, node, Parts, none, part, here, nothing, referenced}
+use Rattle.wcv_types.specs.Resources.{FreeIn}
+use Rattle.wcv_types.specs.Tree.{Text, Extern_name, primitive, Sort, is_nothing, is_value, is_resource, is_func, is_instance, is_component, is_type, is_module, is_core_instance, is_core_type, is_core_item, sort, defined, func, core_module, core_item, core_import, core_export, core_imports, core_exports, sub_type, node, Parts, none, part, here, nothing, referenced}
 use Rattle.wcv_types.proofs.Lists.{some-inj}
 use Rattle.wcv_lower.specs.Checks.{same_sort}
-use Rattle.wcv_lower.specs.Context.{Type_tree, Entries, Context, Scope, Space, in_types, in_funcs, in_values, in_instances, in_components, Side, importing, exporting, types, is_concrete, placed, unknown, type_entry}
+use Rattle.wcv_lower.specs.Context.{Type_tree, Entries, Context, Scope, Space, in_types, in_funcs, in_values, in_instances, in_components, Core_space, core_types, core_modules, Side, importing, exporting, types, is_concrete, placed, unknown, type_entry}
+use Rattle.wcv_lower.specs.CoreItems.{core_entries, types_join, group_step, module_tree, module_joins, core_type_step, core_module_step, outer_entries}
 use Rattle.wcv_lower.specs.Defined.{made_of, former, handle_index, written_parts}
-use Rattle.wcv_lower.specs.Entries.{extern_name, written_at, written, space_of, exported_as, exported}
+use Rattle.wcv_lower.specs.Entries.{extern_name, written_at, written, items_of, exported_as, exported}
 use Rattle.wcv_lower.specs.Growth.{step}
 use Rattle.wcv_lower.specs.Names.{Names, introduced}
 use Rattle.wcv_lower.specs.NewTypes.{renewed, renewing, new_reference, introducing}
-use Rattle.wcv_lower.specs.Step.{Change, appends, lists, introduces, defines, creates, Step, change, apply, joins, created_by, enters, Brought, bare}
+use Rattle.wcv_lower.specs.Step.{Change, appends, lists, introduces, defines, creates, core_appends, interns, Step, change, apply, joins, created_by, enters, Brought, bare}
 use Rattle.wcv_lower.specs.Types.{func_parts, type_tree, added, type_step}
 use Rattle.wcv_lower.specs.Values.{type_at, if_sort, resource_at, value_tree, Written_parts, option_tree, behind, parts_trees}
 use Rattle.wcv_link.proofs.Having.{Has, has-left, has-right}
@@ -64,6 +71,8 @@ in-change (introduces exporting rs) c r (inr h) = inr (has-left c.defined (unkno
 in-change (defines q v) c r (inl h) = inl h
 in-change (defines q v) c r (inr h) = inr (has-left c.defined ((q, v) ∷ []) r h)
 in-change (creates s is) c r h = h
+in-change (core_appends k t) c r h = h
+in-change (interns gs) c r h = h
 
 pub in-apply : (s : Step) (c : Context) (r : Name) → In c r → In (apply s c) r
 in-apply [] c r h = h
@@ -207,6 +216,10 @@ joins-same is_component t c = record { imported = refl; defined = refl; imports 
 joins-same is_type t c = record { imported = refl; defined = refl; imports = refl }
 joins-same is_resource t c = record { imported = refl; defined = refl; imports = refl }
 joins-same is_nothing t c = record { imported = refl; defined = refl; imports = refl }
+joins-same is_module t c = record { imported = refl; defined = refl; imports = refl }
+joins-same is_core_instance t c = record { imported = refl; defined = refl; imports = refl }
+joins-same is_core_type t c = record { imported = refl; defined = refl; imports = refl }
+joins-same is_core_item t c = record { imported = refl; defined = refl; imports = refl }
 
 -- before it joins its space
 abbrev entered : Side → Extern_name → Brought → Context → Context
@@ -293,6 +306,10 @@ introducing-grows names p n c = record {
     inside : Within (In (apply s c)) (new_reference names p)
     inside = reference-within (In (apply s c)) names p (λ r e. inl (subst (λ (rs : List (Name × List ℕ)). Has rs r) (sym same.imported) (has-right c.imported ((q, length (c.side importing) ∷ []) ∷ []) r (inl e))))
 
+-- what stands in a core space
+core-within : (c : Context) → IsKnown c → (k : Core_space) (i : ℕ) (t : Type_tree) → slice_get (c.core k) i ≡ Some t → Within (In c) t
+core-within c h k i t e = all-get (Within (In c)) (c.core k) i t (h.core k) e
+
 import-grows : (names : Names) (p : Place) (sc : Scope) (c : Context) (n : Extern_name) (x : ComponentTypeRef) (b : Brought) → written names p sc c x ≡ Some b → Grows (names.resource (introduced p)) c (apply (enters importing n b) c)
 import-grows names p sc c n (ref.Func k) b e =
     let m = mapped-some bare (written_at sc c (ref.Func k)) b e in
@@ -303,7 +320,9 @@ import-grows names p sc c n (ref.Ty (bounds.Eq k)) b e =
     (bare-grows (names.resource (introduced p)) importing n (renewing names p m.0).entity c (λ h. renewing-within c h names p m.0 (type-within c h k m.0 m.1)))
 import-grows names p sc c n (ref.Ty bounds.SubResource) b e =
     subst (λ (z : Brought). Grows (names.resource (introduced p)) c (apply (enters importing n z) c)) (some-inj e) (introducing-grows names p n c)
-import-grows names p sc c n (ref.Module k) b e = cc
+import-grows names p sc c n (ref.Module k) b e =
+    let m = mapped-some bare (written_at sc c (ref.Module k)) b e in
+    subst (λ (z : Brought). Grows (names.resource (introduced p)) c (apply (enters importing n z) c)) m.2 (bare-grows (names.resource (introduced p)) importing n m.0 c (λ h. core-within c h core_types k m.0 (sorted-same is_module (slice_get (c.core core_types) k) m.0 m.1)))
 import-grows names p sc c n (ref.Value v) b e = cc
 import-grows names p sc c n (ref.Instance k) b e = cc
 import-grows names p sc c n (ref.Component k) b e = cc
@@ -315,7 +334,7 @@ item-grows names p c n k i b e =
     subst (λ (z : Brought). Grows (names.resource (introduced p)) c (apply (enters exporting n z) c)) m.2
     (bare-grows (names.resource (introduced p)) exporting n m.0 c (λ h. all-get (Within (In c)) (c.space k) i m.0 (h.space k) m.1))
 
-export-grows : (names : Names) (p : Place) (c : Context) (n : Extern_name) (x : ComponentExternalKind) (i : ℕ) (b : Brought) → option_map (exported_as names p x) (option_and_then (λ k. slice_get (c.space k) i) (space_of x)) ≡ Some b →
+export-grows : (names : Names) (p : Place) (c : Context) (n : Extern_name) (x : ComponentExternalKind) (i : ℕ) (b : Brought) → option_map (exported_as names p x) (slice_get (items_of c x) i) ≡ Some b →
     Grows (names.resource (introduced p)) c (apply (enters exporting n b) c)
 export-grows names p c n kind.Ty i b e =
     let m = mapped-some (exported_as names p kind.Ty) (slice_get (c.space in_types) i) b e in
@@ -326,7 +345,69 @@ export-grows names p c n kind.Func i b e = item-grows names p c n in_funcs i b e
 export-grows names p c n kind.Value i b e = item-grows names p c n in_values i b e
 export-grows names p c n kind.Instance i b e = item-grows names p c n in_instances i b e
 export-grows names p c n kind.Component i b e = item-grows names p c n in_components i b e
-export-grows names p c n kind.Module i b e = cc
+export-grows names p c n kind.Module i b e =
+    let m = mapped-some bare (slice_get (c.core core_modules) i) b e in
+    subst (λ (z : Brought). Grows (names.resource (introduced p)) c (apply (enters exporting n z) c)) m.2
+    (bare-grows (names.resource (introduced p)) exporting n m.0 c (λ h. core-within c h core_modules i m.0 m.1))
+
+-- ## Core items
+
+-- nothing is free in what a core module imports and exports
+exports-closed : (r : Name) (es : List (Text × EntityType)) → FreeIn {I = Name} r (core_exports es none) → ⊥
+exports-closed r [] x = x
+exports-closed r (e ∷ es) (inl (inl x)) = x
+exports-closed r (e ∷ es) (inl (inr x)) = x.1
+exports-closed r (e ∷ es) (inr x) = exports-closed r es x
+
+imports-closed : (r : Name) (is : List ((Text × Text) × EntityType)) (es : List (Text × EntityType)) → FreeIn {I = Name} r (core_imports is (core_exports es none)) → ⊥
+imports-closed r [] es x = exports-closed r es x
+imports-closed r (i ∷ is) es (inl (inl x)) = x
+imports-closed r (i ∷ is) es (inl (inr x)) = x.1
+imports-closed r (i ∷ is) es (inr x) = imports-closed r is es x
+
+module-closed : (P : Name → Type 0) (i : Name) (m : Module_type) → Within P (module_tree i m)
+module-closed P i m r (inl x) = absurd x
+module-closed P i m r (inr x) = absurd (imports-closed r m.imports m.exports x.1)
+
+sub-closed : (P : Name → Type 0) (i : ℕ) → Within P (sub_type i)
+sub-closed P i r (inl x) = absurd x
+sub-closed P i r (inr x) = absurd x.1
+
+types-fit : (P : Name → Type 0) (is : List ℕ) → AllFit P (types_join is)
+types-fit P [] = tt
+types-fit P (i ∷ is) = (sub-closed P i, types-fit P is)
+
+-- core types change no list
+types-same : (is : List ℕ) (c : Context) → SameLists c (apply (types_join is) c)
+types-same [] c = record { imported = refl; defined = refl; imports = refl }
+types-same (i ∷ is) c =
+    let h = types-same is (change (core_appends core_types (sub_type i)) c) in
+    record { imported = h.imported; defined = h.defined; imports = h.imports }
+
+-- what changes no list
+same-grows : (q : Name) (s : Step) (c : Context) → AllFit (In (apply s c)) s → SameLists c (apply s c) → Grows q c (apply s c)
+same-grows q s c f h = record {
+  known = λ k. grown-known s c f k;
+  adds = adds_none h.imported h.defined;
+  leads = λ l. subst (λ (es : Entries). All (λ p. PathLeadsTo p.1 p.0 es) (apply s c).imported) (sym h.imports) (subst (All (λ p. PathLeadsTo p.1 p.0 (c.side importing))) (sym h.imported) l);
+}
+
+group-grows : (q : Name) (c : Context) (w : Group) → Grows q c (apply (group_step c w) c)
+group-grows q c w =
+    let g : Group = closed_group (core_entries c) w in
+    same-grows q (group_step c w) c (tt, types-fit (In (apply (group_step c w) c)) (group_ids c.groups g))
+    (let h = types-same (group_ids c.groups g) (change (interns (grown c.groups g)) c) in record { imported = h.imported; defined = h.defined; imports = h.imports })
+
+module-grows : (q : Name) (k : Core_space) (i : Name) (c : Context) (o : Option Made) (s : Step) → option_map (module_joins k i) o ≡ Some s → Grows q c (apply s c)
+module-grows q k i c o s e =
+    let m = mapped-some (module_joins k i) o s e in
+    subst (λ (z : Step). Grows q c (apply z c)) m.2
+    (same-grows q (module_joins k i m.0) c (tt, (module-closed (In (apply (module_joins k i m.0) c)) i m.0.1, tt)) (record { imported = refl; defined = refl; imports = refl }))
+
+core_type-grows : (names : Names) (p : Place) (sc : Scope) (c : Context) (t : Core_type_form) (s : Step) → core_type_step names p sc c t ≡ Some s → Grows (names.resource (introduced p)) c (apply s c)
+core_type-grows names p sc c (core_rec w) s e = subst (λ (z : Step). Grows (names.resource (introduced p)) c (apply z c)) (some-inj e) (group-grows (names.resource (introduced p)) c (written_group w))
+core_type-grows names p sc c (core_module_type ds) s e =
+    module-grows (names.resource (introduced p)) core_types (names.identity (introduced p)) c (all_declared (outer_entries sc c) c.groups (empty_module sc.features) ds) s e
 
 -- ## Items
 
@@ -338,8 +419,8 @@ step-grows names p sc c (import_item i) s e =
 step-grows names p sc c (export_item x) s e =
     let m = mapped-some (enters exporting (extern_name x.name)) (exported names p sc c x) s e in
     subst (λ (z : Step). Grows (names.resource (introduced p)) c (apply z c)) m.2 (export-grows names p c (extern_name x.name) x.kind x.index m.0 m.1)
-step-grows names p sc c (core_type_item t) s e = cc
-step-grows names p sc c (core_module_item ds) s e = cc
+step-grows names p sc c (core_type_item t) s e = core_type-grows names p sc c t s e
+step-grows names p sc c (core_module_item ds) s e = module-grows (names.resource (introduced p)) core_modules (names.identity (introduced p)) c (all_declared [] c.groups (empty_module sc.features) ds) s e
 step-grows names p sc c (core_instance_item i) s e = cc
 step-grows names p sc c (component_item is end) s e = cc
 step-grows names p sc c (instance_item i) s e = cc

@@ -7,12 +7,12 @@ use Rattle.std.proofs.lemmas.List.Elements.{All-push, All-weaker}
 use Rattle.std.proofs.lemmas.Option.{slice_get_within, get_or_from_slice_get}
 use Rattle.wcv_core.specs.Names.{Name, Place}
 use Rattle.wcv_types.specs.Resources.{Free, FreeIn}
-use Rattle.wcv_types.specs.Tree.{Extern_name, Head, nothing, primitive, resource, defined, func, instance, component, type_entity, Sort, is_nothing, is_value, is_resource, is_func, is_instance, is_component, is_type, sort, sort_at, node, Parts, none, part, first_part, rest_parts, created, referenced, type_of}
+use Rattle.wcv_types.specs.Tree.{Extern_name, Head, nothing, primitive, resource, defined, func, instance, component, type_entity, core_module, core_instance, core_type, core_item, Sort, is_nothing, is_value, is_resource, is_func, is_instance, is_component, is_type, is_module, is_core_instance, is_core_type, is_core_item, sort, sort_at, node, Parts, none, part, first_part, rest_parts, created, referenced, type_of}
 use Rattle.wcv_types.proofs.Lists.{some-inj}
-use Rattle.wcv_lower.specs.Context.{Type_tree, Context, Space, in_types, Side, importing, exporting, same_space, same_side, joined}
+use Rattle.wcv_lower.specs.Context.{Type_tree, Context, Space, in_types, Core_space, core_modules, Side, importing, exporting, same_space, same_core_space, same_side, joined}
 use Rattle.wcv_lower.specs.Names.{Names, introduced}
 use Rattle.wcv_lower.specs.NewTypes.{renewed, new_reference}
-use Rattle.wcv_lower.specs.Step.{Change, appends, lists, introduces, defines, creates, Step, change, apply, joins, enters, Brought}
+use Rattle.wcv_lower.specs.Step.{Change, appends, lists, introduces, defines, creates, core_appends, interns, Step, change, apply, joins, enters, Brought}
 
 -- ## Options
 
@@ -39,6 +39,10 @@ entity-free r (defined i k) ps e x = cc
 entity-free r (func i b) ps e x = cc
 entity-free r (instance i own) ps e x = cc
 entity-free r (component i ins outs) ps e x = cc
+entity-free r (core_module i n) ps e x = cc
+entity-free r (core_instance i n) ps e x = cc
+entity-free r (core_type k) ps e x = cc
+entity-free r (core_item d) ps e x = cc
 
 first-free : (r : Name) (ps : Parts Name Name) → Free r (first_part ps) → FreeIn r ps
 first-free r none (inl x) = absurd x
@@ -78,6 +82,10 @@ module _ (P : Name → Type 0) where
   renewed-within names p (node (instance i own) ps) w r x = w r x
   renewed-within names p (node (component i ins outs) ps) w r x = w r x
   renewed-within names p (node type_entity ps) w r x = w r x
+  renewed-within names p (node (core_module i n) ps) w r x = w r x
+  renewed-within names p (node (core_instance i n) ps) w r x = w r x
+  renewed-within names p (node (core_type k) ps) w r x = w r x
+  renewed-within names p (node (core_item d) ps) w r x = w r x
 
   pub reference-within : (names : Names) (p : Place) → ((r : Name) → r ≡ names.resource (introduced p) → P r) → Within (new_reference names p)
   reference-within names p w r (inl e) = w r e
@@ -88,12 +96,14 @@ module _ (P : Name → Type 0) where
 -- what is free in the trees of the context has the property, and types stand as entries of types
 pub record KnownBy (P : Name → Type 0) (c : Context) : Type 0 where
   pub space : (k : Space) → All (Within P) (c.space k)
+  pub core : (k : Core_space) → All (Within P) (c.core k)
   pub types : All (λ t. sort t ≡ is_type) (c.space in_types)
   pub side : (s : Side) → All (λ e. Within P e.1) (c.side s)
 
 pub known-weaker : (P Q : Name → Type 0) (c : Context) → ((r : Name) → P r → Q r) → KnownBy P c → KnownBy Q c
 known-weaker P Q c f h = record {
   space = λ k. All-weaker (Within P) (Within Q) (λ t w r x. f r (w r x)) (c.space k) (h.space k);
+  core = λ k. All-weaker (Within P) (Within Q) (λ t w r x. f r (w r x)) (c.core k) (h.core k);
   types = h.types;
   side = λ s. All-weaker (λ e. Within P e.1) (λ e. Within Q e.1) (λ e w r x. f r (w r x)) (c.side s) (h.side s);
 }
@@ -109,6 +119,7 @@ module _ (P : Name → Type 0) where
   abbrev pub Fits : Change → Type 0
   Fits (appends k t) = Within P t × (same_space in_types k ≡ true → sort t ≡ is_type)
   Fits (lists s n t) = Within P t
+  Fits (core_appends k t) = Within P t
   Fits x = Unit {0}
 
   abbrev pub AllFit : Step → Type 0
@@ -118,18 +129,27 @@ module _ (P : Name → Type 0) where
   change-known : (x : Change) (c : Context) → Fits x → KnownBy P c → KnownBy P (change x c)
   change-known (appends k t) c f h = record {
     space = λ j. all-joined (Within P) (same_space j k) (c.space j) t (h.space j) (λ e. f.0);
+    core = h.core;
     types = all-joined (λ (u : Type_tree). sort u ≡ is_type) (same_space in_types k) (c.space in_types) t h.types f.1;
     side = h.side;
   }
   change-known (lists s n t) c f h = record {
     space = h.space;
+    core = h.core;
     types = h.types;
     side = λ j. all-joined (λ e. Within P e.1) (same_side j s) (c.side j) (n, t) (h.side j) (λ e. f);
   }
-  change-known (introduces importing rs) c f h = record { space = h.space; types = h.types; side = h.side }
-  change-known (introduces exporting rs) c f h = record { space = h.space; types = h.types; side = h.side }
-  change-known (defines r v) c f h = record { space = h.space; types = h.types; side = h.side }
-  change-known (creates s is) c f h = record { space = h.space; types = h.types; side = h.side }
+  change-known (introduces importing rs) c f h = record { space = h.space; core = h.core; types = h.types; side = h.side }
+  change-known (introduces exporting rs) c f h = record { space = h.space; core = h.core; types = h.types; side = h.side }
+  change-known (defines r v) c f h = record { space = h.space; core = h.core; types = h.types; side = h.side }
+  change-known (creates s is) c f h = record { space = h.space; core = h.core; types = h.types; side = h.side }
+  change-known (core_appends k t) c f h = record {
+    space = h.space;
+    core = λ j. all-joined (Within P) (same_core_space j k) (c.core j) t (h.core j) (λ e. f);
+    types = h.types;
+    side = h.side;
+  }
+  change-known (interns gs) c f h = record { space = h.space; core = h.core; types = h.types; side = h.side }
 
   pub apply-known : (s : Step) (c : Context) → AllFit s → KnownBy P c → KnownBy P (apply s c)
   apply-known [] c f h = h
@@ -143,6 +163,10 @@ module _ (P : Name → Type 0) where
   joins-fit is_type t e w = let u = created-within P t e w in ((both-within P (created t) (created t) u u, λ x. refl), tt)
   joins-fit is_resource t e w = tt
   joins-fit is_nothing t e w = tt
+  joins-fit is_module t e w = (w, tt)
+  joins-fit is_core_instance t e w = tt
+  joins-fit is_core_type t e w = tt
+  joins-fit is_core_item t e w = tt
 
   -- an entry of a side, with what it brings
   pub enters-fit : (s : Side) (n : Extern_name) (b : Brought) → Within P b.entity → AllFit (enters s n b)

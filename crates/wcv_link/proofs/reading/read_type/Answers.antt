@@ -22,4 +22,4 @@ returns-in_err-add_type_to-clause-err c =
 pub returns-clause-ok : goal.returns-clause-ok
 returns-clause-ok c =
     item_read c.args.types.now c.add_type_to.new.types c.args.state.now c.add_type_to.new.state (type_item (type_view c.args.ty)) (sym c.is_built_type.ensures ∙ c.in_ok-check_form.ensures.ok) c.in_ok-check_limits.ensures.ok
-    (λ outer p. grew_of c.args.types.now c.add_type_to.new.types outer p c.args.state.now c.add_type_to.new.state (type_view c.args.ty) (c.in_ok-add_type_to.ensures.ok outer p)) c.add_type_to.ensures.keeps
+    (λ p. grew_of c.args.types.now c.add_type_to.new.types [] p c.args.state.now c.add_type_to.new.state (type_view c.args.ty) (c.in_ok-add_type_to.ensures.ok [] p)) c.add_type_to.ensures.keeps
