@@ -1,21 +1,15 @@
 -- The lengths of the index spaces of a state are those of the context that it stands for.
-use Rattle.std.proofs.Common.{◌≡◌, [], ◌∷◌, length}
+use Rattle.std.proofs.Common.{◌≡◌, [], ◌∷◌, length, map}
 use Rattle.wcv_types.specs.Arena.{Arena}
-use Rattle.wcv_types.specs.Unfold.{trees, part_tree, slot_tree, value_slot}
-use Rattle.wcv_types.specs.declared.ids.Part.TheVariants as part
+use Rattle.wcv_types.specs.Unfold.{trees}
 use Rattle.wcv_types.proofs.Each.{length-mapped}
-use Rattle.wcv_lower.specs.Context.{type_entry, lengths}
-use Rattle.wcv_state.specs.Contents.{Contents, context_of}
-use Rattle.wcv_types.specs.Entities.{any_part}
+use Rattle.wcv_lower.specs.Context.{Space, in_types, in_funcs, in_values, in_instances, in_components, Core_space, core_types, core_funcs, core_tags, core_modules, core_instances, core_memories, core_tables, core_globals, lengths}
+use Rattle.wcv_state.specs.Contents.{Contents, ids, core_ids, id_tree, core_tree, context_of}
 use Rattle.wcv_main.specs.Report.{space_lengths}
 
 pub counted : (a : Arena) (s : Contents) → lengths (context_of a s) ≡ space_lengths s.spaces
 counted a s =
-    let ts = trees a.nodes in
-    let types = length-mapped (λ x. type_entry (part_tree ts (any_part x))) s.spaces.types in
-    let funcs = length-mapped (λ i. part_tree ts (part.Func i)) s.spaces.funcs in
-    let values = length-mapped (λ v. slot_tree ts (value_slot v.0)) s.spaces.values in
-    let instances = length-mapped (λ i. part_tree ts (part.Instance i)) s.spaces.instances in
-    let components = length-mapped (λ i. part_tree ts (part.Component i)) s.spaces.components in
-    λ j. length s.spaces.core_types ∷ length s.spaces.core_funcs ∷ length s.spaces.core_tags ∷ length s.spaces.core_modules ∷ length s.spaces.core_instances
-    ∷ length s.spaces.core_memories ∷ length s.spaces.core_tables ∷ length s.spaces.core_globals ∷ types j ∷ funcs j ∷ values j ∷ instances j ∷ components j ∷ []
+    let own : (k : Space) → length (map (id_tree (trees a.nodes) k) (ids k s.spaces)) ≡ length (ids k s.spaces) = λ k. length-mapped (id_tree (trees a.nodes) k) (ids k s.spaces) in
+    let core : (k : Core_space) → length (map (core_tree (trees a.nodes) k) (core_ids k s.spaces)) ≡ length (core_ids k s.spaces) = λ k. length-mapped (core_tree (trees a.nodes) k) (core_ids k s.spaces) in
+    λ j. core core_types j ∷ core core_funcs j ∷ core core_tags j ∷ core core_modules j ∷ core core_instances j ∷ core core_memories j ∷ core core_tables j ∷ core core_globals j
+    ∷ own in_types j ∷ own in_funcs j ∷ own in_values j ∷ own in_instances j ∷ own in_components j ∷ []

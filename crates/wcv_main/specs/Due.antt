@@ -58,7 +58,7 @@ usage = line (codes "usage: wcv validate, wcv link TURNS or wcv make N")
 
 -- the report of a valid root: the lengths of its index spaces, and its type at the end
 abbrev pub accepted_text : Context → Type_tree → List ℕ
-accepted_text d t = report (lengths d) ++ type_text t
+accepted_text d t = report (lengths d) ++ type_text d.groups t
 
 -- the two lines of a refusal; the words of the message are not promised
 abbrev pub refusal_text : ErrorKind → ℕ → List ℕ → List ℕ

@@ -63,7 +63,7 @@ fn space_lengths(state: &ComponentState) -> [u64; 13]
 /// The report of a valid root.
 fn report_text(alloc: Global, accepted: &Accepted) -> Result<String, AllocError>
     requires { (features : WasmFeatures) × ((is : Items) × Accepts features is accepted.now) }
-    ensures { IfOk result (λ text. string_bytes text ≡ report (lengths_of_spaces accepted.now.state.spaces) ++ type_text (root_tree accepted.now.types accepted.now.ty)) }
+    ensures { IfOk result (λ text. string_bytes text ≡ report (lengths_of_spaces accepted.now.state.spaces) ++ type_text accepted.now.types.core (root_tree accepted.now.types accepted.now.ty)) }
 {
     let mut text = String::new(alloc);
     push_report(&mut text, &space_lengths(&accepted.state))?;

@@ -1,4 +1,5 @@
 use Rattle.std.proofs.Common.{◌≡◌, ◌++◌, ◌∙◌, List, ℕ, ap, sym, inl, refl, string_bytes}
+use Rattle.wcv_core.specs.CoreForm.{Group}
 use Rattle.wcv_syntax.specs.View.{items_view}
 use Rattle.wcv_types.specs.ComponentTrees.{root_tree}
 use Rattle.wcv_types.specs.Text.{type_text}
@@ -19,8 +20,9 @@ returns-in_ok-text-in-Ok-clause-due c =
     let h : Accepts features is a = c.in-Ok.ensures.ok in
     let d : Context = h.context in
     let counts : space_lengths a.state.spaces ≡ lengths d = sym (counted a.types a.state) ∙ h.spaces in
-    let written : string_bytes c.in_ok-text-in-Ok.text ≡ report (space_lengths a.state.spaces) ++ type_text (root_tree a.types a.ty) = c.in_ok-text-in-Ok.ensures in
+    let written : string_bytes c.in_ok-text-in-Ok.text ≡ report (space_lengths a.state.spaces) ++ type_text a.types.core (root_tree a.types a.ty) = c.in_ok-text-in-Ok.ensures in
     let whole : string_bytes c.in_ok-text-in-Ok.text ≡ accepted_text d h.ty =
-    written ∙ ap (λ (ns : List ℕ). report ns ++ type_text (root_tree a.types a.ty)) counts ∙
-    ap (λ (t : List ℕ). report (lengths d) ++ t) (same_text (root_tree a.types a.ty) h.ty h.type_is) in
+    written ∙ ap (λ (ns : List ℕ). report ns ++ type_text a.types.core (root_tree a.types a.ty)) counts ∙
+    ap (λ (gs : List Group). report (lengths d) ++ type_text gs (root_tree a.types a.ty)) h.core ∙
+    ap (λ (t : List ℕ). report (lengths d) ++ t) (same_text d.groups (root_tree a.types a.ty) h.ty h.type_is) in
     inl (d, h.ty, h.valid, h.typed, refl, whole)
