@@ -19,7 +19,7 @@ use wcv_types::{ComponentValType, TypeAlloc};
 const HANDLES: &str = "resource; own 0; borrow 0";
 
 /// A component with nothing in it, where each feature holds.
-fn empty(alloc: Global) -> ComponentState
+pub fn empty(alloc: Global) -> ComponentState
     ensures live { result.spent ≡ false }
     ensures stands { (a : Arena) → StateStands a result }
 {

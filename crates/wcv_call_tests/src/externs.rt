@@ -19,22 +19,30 @@ use wcv_state::ComponentState;
 use wcv_syntax::{ComponentExternName, ComponentValType as WrittenType};
 use wcv_types::{ComponentEntityType, ComponentValType, ItemMap, TypeAlloc, TypeInfo};
 
-// The whole name: a name, and maybe one text beside it.
-fn whole_name(alloc: Global, words: &str) -> Result<ComponentExternName, Fail> {
-    let (name, beside) = words.split_once(' ').unwrap_or((words, ""));
-    let (key, text) = beside.split_once('=').unwrap_or(("", ""));
-    let mut whole = ComponentExternName {
-        name: Text::new(alloc, name)?,
-        implements: None,
-        version_suffix: None,
-        external_id: None,
-    };
+// One text beside a name.
+fn add_beside(alloc: Global, words: &str, whole: &mut ComponentExternName) -> Result<(), Fail> {
+    let (key, text) = words.split_once('=').unwrap_or(("", ""));
     let text = Text::new(alloc, text)?;
     match key {
         "id" => whole.external_id = Some(text),
         "suffix" => whole.version_suffix = Some(text),
         "implements" => whole.implements = Some(text),
         _ => {}
+    }
+    Ok(())
+}
+
+/// The whole name: a name, and maybe texts beside it.
+pub fn whole_name(alloc: Global, words: &str) -> Result<ComponentExternName, Fail> {
+    let (name, beside) = words.split_once(' ').unwrap_or((words, ""));
+    let mut whole = ComponentExternName {
+        name: Text::new(alloc, name)?,
+        implements: None,
+        version_suffix: None,
+        external_id: None,
+    };
+    for words in beside.split(' ') {
+        add_beside(alloc, words, &mut whole)?;
     }
     Ok(whole)
 }
@@ -145,7 +153,7 @@ fn entity(
 
 /// An entity joins the exports under a whole name.
 #[tactic(auto, using(crate::proofs::Standing::one_more_stands))]
-fn enter(
+pub fn enter(
     context: &ComponentNameContext,
     name: &ComponentExternName,
     ty: &ComponentEntityType,
@@ -153,6 +161,7 @@ fn enter(
     offset: u64,
     keys: &mut NameSet,
     items: &mut ItemMap,
+    info: &mut TypeInfo,
     features: &WasmFeatures,
 ) -> Result<(), Error>
     requires entity { EntityStands types.now ty.now }
@@ -161,7 +170,6 @@ fn enter(
     ensures items { OnOk result (All (EntryStands types.now) items.new) }
     ensures keys { OnOk result (HasKeys keys.new (names_in items.new)) }
 {
-    let mut info = TypeInfo { size: 1, depth: 1 };
     context.validate_extern(
         name,
         ExternKind::Export,
@@ -170,7 +178,7 @@ fn enter(
         offset,
         keys,
         items,
-        &mut info,
+        info,
         features,
     )
 }
@@ -197,7 +205,10 @@ fn join(
     let (name, words) = entry.split_once(" = ").ok_or("an entry has no type")?;
     let name = whole_name(alloc, name)?;
     let ty = entity(words, index, state, types)?;
-    Ok(enter(context, &name, &ty, types, offset, keys, items, features))
+    let mut info = TypeInfo { size: 1, depth: 1 };
+    Ok(enter(
+        context, &name, &ty, types, offset, keys, items, &mut info, features,
+    ))
 }
 
 /// What becomes of the entries of a row.

@@ -4,6 +4,12 @@
 #[cfg(test)]
 mod base;
 #[cfg(test)]
+mod core_readers;
+#[cfg(test)]
+mod core_state;
+#[cfg(test)]
+mod core_state_rows;
+#[cfg(test)]
 mod declared;
 #[cfg(test)]
 mod extern_rows;
@@ -23,6 +29,14 @@ mod groups;
 mod layouts;
 #[cfg(test)]
 mod lines;
+#[cfg(test)]
+mod module_entries;
+#[cfg(test)]
+mod module_rows;
+#[cfg(test)]
+mod module_words;
+#[cfg(test)]
+mod modules;
 #[cfg(test)]
 mod name_rows;
 #[cfg(test)]

@@ -118,7 +118,7 @@ fn push_some(state: &mut ComponentState, space: Space, count: usize) -> Result<(
 }
 
 /// The pushes into all spaces.
-fn push_all(state: &mut ComponentState) -> Result<(), OutOfMemory>
+pub fn push_all(state: &mut ComponentState) -> Result<(), OutOfMemory>
     requires { state.old.spent ≡ false }
     ensures { OnOk result (state.new.spent ≡ false) }
 {
@@ -131,7 +131,7 @@ fn push_all(state: &mut ComponentState) -> Result<(), OutOfMemory>
 }
 
 /// The state of a component with nothing in it.
-fn empty(alloc: Global) -> ComponentState
+pub fn empty(alloc: Global) -> ComponentState
     ensures { result ≡ empty_state kind.Component default_features }
 {
     ComponentState::new(alloc, ComponentKind::Component, WasmFeatures::default())

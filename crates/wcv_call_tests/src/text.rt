@@ -158,7 +158,7 @@ fn paths(alloc: Global, resource: ResourceId, place: &[u64]) -> Result<Paths, Ou
 }
 
 /// The component type of these imports and exports, with resources at their places.
-fn component(
+pub fn component(
     alloc: Global,
     imports: ItemMap,
     exports: ItemMap,

@@ -1,0 +1,76 @@
+// Declarations of core modules.
+
+/// Where each feature holds: the size of the module, the ids of its types, its imports and its exports, or the kind of
+/// a refusal and the number of the declaration that is refused; 9 is the end.
+pub const ROWS: &str = "\
+- => 1 types in out
+rec func -> => 1 types 0 in out
+rec empty => 1 types in out
+rec func ->; rec func i32 ->; rec func -> => 1 types 0 1 0 in out
+rec func -> & func i32 ->; rec func -> => 1 types 0 1 2 in out
+rec func 0 -> => 1 types 0 in out
+rec func 1 -> => OutOfBounds at 0
+rec func ->; rec struct; rec sub 0 struct => CoreType at 2
+rec open struct; rec sub 0 struct i32 => 1 types 0 1 in out
+rec func i32 -> i64; import m f func 0 => 4 types 0 in m.f func 0, out
+rec func i32 -> i64; rec func i32 -> i64; export f func 1 => 4 types 0 0 in out f func 0,
+rec func i32 -> i64; import m f func 1 => OutOfBounds at 1
+export f func 0 => OutOfBounds at 0
+rec struct i32; export f func 0 => WrongSort at 1
+rec array i8; import m f func 0 => WrongSort at 1
+rec func i32 ->; export t tag 0 => 3 types 0 in out t tag 0,
+rec func -> i32; export t tag 0 => CoreType at 1
+rec struct; import m t tag 0 => WrongSort at 1
+import m t tag 0 => OutOfBounds at 0
+import m t table func? 1 2 => 2 types in m.t table 1, out
+export t table func? 2 1 => CoreType at 0
+export t table extern? 4294967295 4294967295 => 2 types in out t table 4294967295,
+export t table func? 4294967296 - => CoreType at 0
+export t table func? 0 4294967296 => CoreType at 0
+export t table func? 4294967296 - wide => 2 types in out t table 4294967296,
+export t table 0? 0 - => OutOfBounds at 0
+rec struct; export t table 0? 0 - => 2 types 0 in out t table 0,
+export t table func? 1 - shared => CoreType at 0
+export t table ~func? 1 - shared => 2 types in out t table 1,
+export m memory 1 - => 2 types in out m memory 1,
+export m memory 2 1 => CoreType at 0
+export m memory 65536 65536 => 2 types in out m memory 65536,
+export m memory 65537 - => CoreType at 0
+export m memory 0 65537 => CoreType at 0
+export m memory 65537 - wide => 2 types in out m memory 65537,
+export m memory 281474976710656 - wide => 2 types in out m memory 281474976710656,
+export m memory 281474976710657 - wide => CoreType at 0
+export m memory 4294967296 - page0 => 2 types in out m memory 4294967296,
+export m memory 4294967297 - page0 => CoreType at 0
+export m memory 1 2 page12 => CoreType at 0
+export m memory 1 - shared => CoreType at 0
+export m memory 1 2 shared => 2 types in out m memory 1,
+export g global mut:i32 => 2 types in out g global true,
+import m g global func => 2 types in m.g global false, out
+export g global 0 => OutOfBounds at 0
+export g global i32 shared => 2 types in out g global false,
+export a memory 1 -; export a memory 1 - => Conflict at 1
+export a memory 1 -; export A memory 2 -; import a a memory 3 - => 4 types in a.a memory 3, out a memory 1, A memory 2,
+import m a memory 1 -; import m b memory 2 -; import n a memory 3 - => 4 types in m.a memory 1, m.b memory 2, n.a memory 3, out
+import m a memory 1 -; import m a global i32 => Conflict at 9
+rec func i32 ->; alias 0 0; export f func 1 => 3 types 0 0 in out f func 0,
+rec func i32 ->; alias 0 1 => OutOfBounds at 1
+alias 0 0 => OutOfBounds at 0
+rec func ->; alias 1 0 => OutOfBounds at 1";
+
+/// So where no feature holds.
+pub const PLAIN: &str = "\
+rec func i32 -> f64; import m f func 0; export f func 0 => 7 types 0 in m.f func 0, out f func 0,
+import m t table func? 1 -; import m m memory 1 -; import m g global mut:i64 => 4 types in m.t table 1, m.m memory 1, m.g global true, out
+rec func ->; export t tag 0 => Feature at 1
+export m memory 1 2 shared => Feature at 0
+export m memory 1 - wide => Feature at 0
+export m memory 1 - page0 => Feature at 0
+export t table func? 1 - wide => Feature at 0
+export t table ~func? 1 - shared => Feature at 0
+export t table any? 1 - => Feature at 0
+export g global i32 shared => Feature at 0
+export g global v128 => Feature at 0
+export g global func => Feature at 0
+rec struct => Feature at 0
+rec func v128 -> => Feature at 0";
