@@ -59,25 +59,46 @@ pub fn answer(
     Ok(String::from_str(alloc, promised(whole.as_str()))?)
 }
 
-// The answer on a valid root with so many types and functions, whose report ends with these lines.
-pub fn accepted(alloc: Global, types: &str, funcs: &str, lines: &str) -> Result<String, Fail> {
-    let mut text = String::from_str(alloc, "0\naccepted\ncore-types 0\ncore-funcs 0\n")?;
-    text.push_str("core-tags 0\ncore-modules 0\ncore-instances 0\ncore-memories 0\n")?;
-    text.push_str("core-tables 0\ncore-globals 0\n")?;
+// The answer on a valid root with so many core types, core modules, types and functions, whose report ends
+// with these lines.
+fn accepted_with_core(
+    alloc: Global,
+    core: (&str, &str),
+    others: (&str, &str),
+    lines: &str,
+) -> Result<String, Fail> {
+    let (core_types, core_modules) = core;
+    let (types, funcs) = others;
+    let mut text = String::from_str(alloc, "0\naccepted\n")?;
+    write!(text, "core-types {core_types}\ncore-funcs 0\ncore-tags 0\n")?;
+    write!(text, "core-modules {core_modules}\ncore-instances 0\n")?;
+    text.push_str("core-memories 0\ncore-tables 0\ncore-globals 0\n")?;
     write!(text, "types {types}\nfuncs {funcs}\n")?;
     text.push_str("values 0\ninstances 0\ncomponents 0\n")?;
     text.push_str(lines)?;
     Ok(text)
 }
 
-// An answer as a table writes it: `accepted TYPES FUNCS` stands for the 15 lines of `accepted`.
+// So of one without core types and core modules.
+pub fn accepted(alloc: Global, types: &str, funcs: &str, lines: &str) -> Result<String, Fail> {
+    accepted_with_core(alloc, ("0", "0"), (types, funcs), lines)
+}
+
+// An answer as a table writes it: `accepted TYPES FUNCS` stands for the 15 lines of `accepted`, and
+// `accepted CORE-TYPES CORE-MODULES TYPES FUNCS` for those of a root with core types and modules.
 fn due_answer(alloc: Global, short: &str) -> Result<String, Fail> {
     let Some(rest) = short.strip_prefix("accepted ") else {
         return Ok(format!(in alloc; "{short}\n")?);
     };
     let (counts, lines) = rest.split_once('\n').unwrap_or((rest, ""));
-    let (types, funcs) = counts.split_once(' ').ok_or("a row has no counts")?;
-    let mut due = accepted(alloc, types, funcs, lines)?;
+    let (first, second) = counts.split_once(' ').ok_or("a row has no counts")?;
+    let mut due = match second.split_once(' ') {
+        Some((second, others)) => {
+            let others = others.split_once(' ').ok_or("a row lacks a count")?;
+            accepted_with_core(alloc, (first, second), others, lines)?
+        }
+        None => accepted(alloc, first, second, lines)?,
+    };
     if !lines.is_empty() {
         due.push_str("\n")?;
     }

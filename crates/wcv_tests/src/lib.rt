@@ -5,6 +5,10 @@
 #[cfg(test)]
 mod bounds;
 #[cfg(test)]
+mod core_limits;
+#[cfg(test)]
+mod core_types;
+#[cfg(test)]
 mod defined;
 #[cfg(test)]
 mod driver;
@@ -16,6 +20,10 @@ mod fakes;
 mod faults;
 #[cfg(test)]
 mod messages;
+#[cfg(test)]
+mod module_reports;
+#[cfg(test)]
+mod modules;
 #[cfg(test)]
 mod names;
 #[cfg(test)]

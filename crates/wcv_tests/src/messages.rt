@@ -106,7 +106,55 @@ An import of an instance.
 -
 {"at":2,"import":{"name":"g","type":{"instance":0}}}
 => refused Unbuilt at 2
-item 0: the body of this "import" is none of {"name": NAME, "type": {"func": INDEX}}, {"name": NAME, "type": {"eq": INDEX}} and {"name": NAME, "type": "sub-resource"}; no other is built yet
+item 0: the body of this "import" is none of {"name": NAME, "type": {"module": INDEX}}, {"name": NAME, "type": {"func": INDEX}}, {"name": NAME, "type": {"eq": INDEX}} and {"name": NAME, "type": "sub-resource"}; no other is built yet
+
+A typo in a core type (`rek`).
+-
+{"at":2,"core-type":{"rek":[]}}
+=> refused Unbuilt at 2
+item 0: the body of this "core-type" is neither {"rec": [CORE-TYPE, ..]} nor {"module": [DECLARATION, ..]}
+
+An outer alias in a core module.
+-
+{"at":2,"core-module":[{"alias":[1,0]}]}
+=> refused Unbuilt at 2
+item 0: the body of this "core-module" is no list of {"type": [CORE-TYPE, ..]}, {"import": [MODULE, NAME, ITEM]} and {"export": [NAME, ITEM]}
+
+Core instances, of which no body is read.
+-
+{"at":2,"core-module":[]},{"at":3,"core-instance":{"module":0,"args":[]}}
+=> refused Unbuilt at 3
+item 1: items of the form "core-instance" are not built yet
+
+A supertype that is final.
+-
+{"at":0,"core-type":{"rec":[{"func":[[],[]]}]}},{"at":1,"core-type":{"rec":[{"func":[["i32"],[]]},{"super":0,"func":[[],[]]}]}}
+=> refused CoreType at 1
+item 1: type 1 of the group has a supertype that is final
+
+A struct, where no feature is named.
+N
+{"at":0,"core-type":{"rec":[{"struct":[]}]}}
+=> refused Feature at 0
+item 0: a struct needs the feature `gc`, which the listing does not name
+
+A memory that begins with more pages than it may have.
+-
+{"at":0,"core-module":[{"export":["m",{"memory":{"min":2,"max":1}}]}]}
+=> refused CoreType at 0
+item 0: the `min` 2 of a memory is above its `max`
+
+An export that a core module has already.
+-
+{"at":0,"core-module":[{"export":["m",{"memory":{"min":2}}]},{"export":["m",{"memory":{"min":2}}]}]}
+=> refused Conflict at 0
+item 0: the module exports `m` twice
+
+An import that it has.
+-
+{"at":0,"core-module":[{"import":["a","m",{"memory":{"min":2}}]},{"import":["a","m",{"memory":{"min":2}}]}]}
+=> refused Conflict at 0
+item 0: the module imports `m` of `a` twice
 
 An export with a written type.
 -
