@@ -5,9 +5,9 @@
 
 The listings that are changed are those in examples/, one for each example of a form in the schema, one for
 each canonical function, and the .json files below each FOLDER; each second change is one of a listing whose
-forms are all built. In examples/functions.json, examples/defined.json and examples/resources.json each place is also changed in each
-way. The same seed makes the same listings. What disagrees is printed, and the last line has counts. Needs Python 3.10 and its package
-`jsonschema`, 4.0, or later versions of both.
+forms are all built. In four of examples/ (functions, defined, resources and modules) each place is also
+changed in each way. The same seed makes the same listings. What disagrees is printed, and the last line has
+counts. Needs Python 3.10 and its package `jsonschema`, 4.0, or later versions of both.
 
 What must hold of each text:
 
@@ -42,6 +42,7 @@ FORMS = [key for key in PARTS["item"]["properties"] if key != "at"]
 WHOLE = Draft202012Validator(SCHEMA)
 LONGEST = 8_000  # bytes of a listing of a folder that is changed
 DEEPEST = 127  # levels of nesting that are JSON
+WHOLLY_CHANGED = ("functions.json", "defined.json", "resources.json", "modules.json")
 
 
 class NotJson(Exception):
@@ -140,9 +141,11 @@ def is_built(item):
             return True
         case {"type": {"resource": resource}}:
             return "dtor" not in resource
-        case {"import": {"type": "sub-resource" | {"func": _} | {"eq": _}}}:
+        case {"core-type": _} | {"core-module": _}:
             return True
-        case {"export": {"sort": "func" | "type", **others}}:
+        case {"import": {"type": "sub-resource" | {"module": _} | {"func": _} | {"eq": _}}}:
+            return True
+        case {"export": {"sort": "module" | "func" | "type", **others}}:
             return "type" not in others
     return False
 
@@ -438,7 +441,7 @@ def main():
     in_turn = zip(itertools.cycle(seeds), itertools.cycle(filter(is_read, seeds)))
     changes = Changes(random.Random(given.seed), seeds)
     changed = itertools.islice(itertools.chain.from_iterable(in_turn), given.count)
-    whole = [text for name in ("functions.json", "defined.json", "resources.json") for text in every_change(read_example(name))]
+    whole = [text for name in WHOLLY_CHANGED for text in every_change(read_example(name))]
     texts = [*map(write, seeds), *whole, *map(changes.make, changed)]
     wrong, said, statuses = list(check_parts()), collections.Counter(), collections.Counter()
 

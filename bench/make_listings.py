@@ -221,3 +221,78 @@ def methods(limit, front="function-of-one-resource-with-a-very-long-common-front
 def long_methods(limit):
     """The same, where a name has some 1,300 bytes."""
     return methods(limit, "function-of-one-resource-with-a-very-long-common-front-" * 24)
+
+
+def core_group(*types):
+    return {"core-type": {"rec": list(types)}}
+
+
+CORE = ("i32", "i64", "f32", "f64")
+
+
+def core_digits(k):
+    """Value types that no other number gives: the digits of the number to the base 4."""
+    digits = [CORE[k % 4]]
+    while k >= 4:
+        k //= 4
+        digits.append(CORE[k % 4])
+    return digits
+
+
+def core_different(limit):
+    """Groups of a struct and a function that name each other, all different. With the groups of the largest
+    listing there are fewer than 1,000,000 core types."""
+
+    def make(k):
+        struct = {"struct": [{"type": {"ref": 2 * k + 1, "null": True}, "mut": True}]}
+        return core_group(struct, {"func": [[*core_digits(k), {"ref": 2 * k, "null": True}], ["i32"]]})
+
+    yield from bounded(limit, make)
+
+
+def core_equal(limit):
+    """The same groups, where all are equal: each names its own types alone, by its own indices."""
+
+    def make(k):
+        struct = {"struct": [{"type": {"ref": 2 * k + 1, "null": True}, "mut": True}, {"type": "i8"}]}
+        return core_group(struct, {"func": [["i32", "i64", {"ref": 2 * k, "null": True}], ["i32"]]})
+
+    yield from bounded(limit, make)
+
+
+def core_chains(limit):
+    """Chains of open structs, each with the one before as its supertype and at most eight fields more than the
+    first, until there are 63 above one. The first of a chain has fields that no other chain begins with."""
+
+    def make(k):
+        chain, above = divmod(k, 64)
+        types = [{"ref": k - above, "null": True}, *core_digits(chain), *["i32"] * min(above, 8)]
+        struct = {"struct": [{"type": ty} for ty in types]}
+        return core_group({"final": False, "super": k - 1, **struct} if above else {"final": False, **struct})
+
+    yield from bounded(limit, make)
+
+
+def core_long_group(count):
+    """One group of so many types: structs that each name the one before and the one behind."""
+    near = lambda n: {"type": {"ref": n % count, "null": True}, "mut": True}
+    yield core_group(*({"struct": [near(k - 1), near(k + 1), {"type": "i8"}]} for k in range(count)))
+
+
+def core_modules(limit):
+    """Module types with a group, an import and two exports each, and then the import of each of the first 900."""
+
+    def make(k):
+        decls = [
+            {"type": [{"func": [core_digits(k), ["i32"]]}]},
+            {"import": ["env", words_name("imported", k), {"func": 0}]},
+            {"export": [words_name("exported", k), {"func": 0}]},
+            {"export": ["memory", {"memory": {"min": 1, "max": 65_536}}]},
+        ]
+        return {"core-type": {"module": decls}}
+
+    count = 0
+    for count, item in enumerate(bounded(limit, make), 1):
+        yield item
+    for k in range(min(count, 900)):
+        yield {"import": {"name": words_name("module", k), "type": {"module": k}}}

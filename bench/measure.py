@@ -3,10 +3,11 @@
 
     bench/measure.py [RUNS] [TABLE ..]
 
-The tables are `small`, `front`, `long`, `nested` and `types`, all of them if none is named. Times are the
-smallest of RUNS runs, 5 if not given, in which the programs that are compared take turns: what else the
-machine does can only add to them. Peak memory is the largest resident size of one more run. Where valgrind
-is there, the instructions of one run are counted too: they do not depend on what else the machine does.
+The tables are `small`, `front`, `long`, `nested`, `types`, `resources`, `names` and `core`, all of them if none
+is named. Times are the smallest of RUNS runs, 5 if not given, in which the programs that are compared take
+turns: what else the machine does can only add to them. Peak memory is the largest resident size of one more
+run. Where valgrind is there, the instructions of one run are counted too: they do not depend on what else the
+machine does.
 """
 import os
 import re
@@ -142,7 +143,28 @@ def names(runs):
     print_table("Listing of names", ALL, rows, runs)
 
 
-TABLES = {"small": small, "front": front, "long": long, "nested": nested, "types": types, "resources": resources, "names": names}
+def core(runs):
+    makers = (
+        ("groups of two core types, all different", make_listings.core_different),
+        ("groups of two core types, all equal", make_listings.core_equal),
+        ("chains of 63 supertypes", make_listings.core_chains),
+        ("module types, and imports of 900", make_listings.core_modules),
+    )
+    rows = [(f"{name}, {n} MB", make(n * 1_000_000), n < 8) for name, make in makers for n in SIZES]
+    rows.append(("one group of 100,000 core types", make_listings.core_long_group(100_000), True))
+    print_table("Listing of core types", ALL, rows, runs)
+
+
+TABLES = {
+    "small": small,
+    "front": front,
+    "long": long,
+    "nested": nested,
+    "types": types,
+    "resources": resources,
+    "names": names,
+    "core": core,
+}
 
 
 def main(runs, names):
