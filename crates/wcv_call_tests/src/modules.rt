@@ -4,9 +4,9 @@ ghost use Rattle.wcv_core.specs.CoreGroups.{total};
 ghost use Rattle.wcv_core.specs.CoreWritten.{IsKnown};
 ghost use Rattle.wcv_syntax.specs.ModuleTypes.{module_entries};
 
-use crate::module_entries::{export_words, import_words};
 use crate::module_rows::{PLAIN, ROWS};
 use crate::module_words::declarations;
+use crate::sort_shapes::{export_words, import_words};
 use crate::table::case;
 use bitflags::Flags;
 use std::alloc::Global;
