@@ -18,6 +18,7 @@ use Rattle.wcv_core.specs.declared.core_types.ValType.{ValType}
 use Rattle.wcv_core.specs.declared.core_types.ValType.TheVariants as val
 use Rattle.wcv_core.specs.declared.features.WasmFeatures.{WasmFeatures}
 use Rattle.wcv_core.proofs.Causes.{free_left, free_right}
+use Rattle.wcv_core.proofs.Ordered.{order-closed}
 use Rattle.wcv_core.proofs.Rowing.{length-map}
 use Rattle.wcv_core.proofs.Within.{mapped_of_all}
 
@@ -114,6 +115,8 @@ module _ (n len : ℕ) (es : List Core_entry) (known : All (IsKnown n) es) where
 pub written_closed : (fs : WasmFeatures) (n : ℕ) (es : List Core_entry) (w : Group) → All (IsKnown n) es → 0 < length w → IsFree (written_checks fs n es w) → IsClosed n (closed_group es w)
 written_closed fs n es w k s f =
     let indices : Checks = all_checks (index_checks n es (length w)) w in
-    let order : Checks = order_checks 0 (closed_group es w) in
+    let order : Checks = order_checks (length es) w in
     let rest : IsFree (indices ++ order) = free_right (group_needs fs w) (indices ++ order) f in
-    group_closed n (length w) es k w refl s (free_left indices order rest) (free_right indices order rest)
+    let right : IsFree indices = free_left indices order rest in
+    let same : order_checks 0 (closed_group es w) ≡ order = order-closed n (length w) es 0 (length es) w (omega arith) right in
+    group_closed n (length w) es k w refl s right (subst IsFree (sym same) (free_right indices order rest))

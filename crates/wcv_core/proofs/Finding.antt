@@ -1,32 +1,24 @@
 -- Where a group is found, once there is one more.
-use Rattle.std.proofs.Common.{◌≡◌, ℕ, ◌+◌, ◌≤◌, List, [], ◌∷◌, ◌++◌, length, Bool, true, false, cond, Option, Some, None, refl, sym, ◌∙◌, ap, arith, subst, Vec, zero-add}
+use Rattle.std.proofs.Common.{◌≡◌, ℕ, ◌+◌, ◌≤◌, List, [], ◌∷◌, ◌++◌, length, Bool, true, false, cond, Option, Some, None, refl, sym, ◌∙◌, ap, arith, Vec, zero-add}
 use Rattle.std.specs.BTreeMap.{BTreeMap, get, Updates}
 use Rattle.std.specs.Ordering.{is_eq}
 use Rattle.std.specs.Str.{bytes_eq}
 use Rattle.std.specs.declared.alloc.Global.{Global}
 use Rattle.std.proofs.lemmas.Map.Text.{is_eq-slice_cmp}
 use Rattle.std.proofs.lemmas.Slice.Eq.{bytes_eq-Decides}
+use Rattle.wcv_core.proofs.Among.{bytes_eq-sym, same_bytes}
 use Rattle.wcv_core.specs.CoreForm.{Group}
 use Rattle.wcv_core.specs.CoreCode.{code_of}
 use Rattle.wcv_core.specs.CoreGroups.{total, same_group, id_from, id_of, AreClosed}
 use Rattle.wcv_core.specs.CoreTable.{AreDistinct, code_order, AreCoded}
 use Rattle.wcv_core.proofs.Reading.{code_of-same}
 
-same_bytes : (a b : List ℕ) → bytes_eq a b ≡ true → a ≡ b
-same_bytes a b e = grind (arith, bytes_eq-Decides a b)
-
 bytes_eq-refl : (a : List ℕ) → bytes_eq a a ≡ true
 bytes_eq-refl a = grind (arith, bytes_eq-Decides a a)
-
-bytes_eq-sym : (a b : List ℕ) → bytes_eq a b ≡ bytes_eq b a
-bytes_eq-sym a b = grind (arith, bytes_eq-Decides a b, bytes_eq-Decides b a)
 
 -- the test answers equality of closed forms
 pub same_group-true : (g h : Group) → same_group g h ≡ true → g ≡ h
 same_group-true g h e = code_of-same g h (same_bytes (code_of g) (code_of h) e)
-
-pub same_group-equal : (g h : Group) → g ≡ h → same_group g h ≡ true
-same_group-equal g h e = subst (λ (x : Group). same_group g x ≡ true) e (bytes_eq-refl (code_of g))
 
 pub found_stays : (n : ℕ) (gs : List Group) (g : Group) (c : List ℕ) (i : ℕ) → id_from n gs c ≡ Some i → id_from n (gs ++ g ∷ []) c ≡ Some i
 found_stays n [] g c i e = cc

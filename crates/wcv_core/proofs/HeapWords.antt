@@ -9,170 +9,65 @@ use Rattle.wcv_core.specs.declared.core_types.AbstractHeap.TheVariants as name
 to_func : (a : AbstractHeap) → name_matches a name.Func ≡ true → (xs : List AbstractHeap) × Climbs a xs name.Func
 to_func name.Func e = ([], refl)
 to_func name.NoFunc e = (name.Func ∷ [], (inl refl, refl))
-to_func name.Extern e = cc
-to_func name.NoExtern e = cc
-to_func name.Any e = cc
-to_func name.Eq e = cc
-to_func name.I31 e = cc
-to_func name.Struct e = cc
-to_func name.Array e = cc
-to_func name.None e = cc
-to_func name.Exn e = cc
-to_func name.NoExn e = cc
+to_func _ e = cc
 
 to_nofunc : (a : AbstractHeap) → name_matches a name.NoFunc ≡ true → (xs : List AbstractHeap) × Climbs a xs name.NoFunc
-to_nofunc name.Func e = cc
 to_nofunc name.NoFunc e = ([], refl)
-to_nofunc name.Extern e = cc
-to_nofunc name.NoExtern e = cc
-to_nofunc name.Any e = cc
-to_nofunc name.Eq e = cc
-to_nofunc name.I31 e = cc
-to_nofunc name.Struct e = cc
-to_nofunc name.Array e = cc
-to_nofunc name.None e = cc
-to_nofunc name.Exn e = cc
-to_nofunc name.NoExn e = cc
+to_nofunc _ e = cc
 
 to_extern : (a : AbstractHeap) → name_matches a name.Extern ≡ true → (xs : List AbstractHeap) × Climbs a xs name.Extern
-to_extern name.Func e = cc
-to_extern name.NoFunc e = cc
 to_extern name.Extern e = ([], refl)
 to_extern name.NoExtern e = (name.Extern ∷ [], (inl refl, refl))
-to_extern name.Any e = cc
-to_extern name.Eq e = cc
-to_extern name.I31 e = cc
-to_extern name.Struct e = cc
-to_extern name.Array e = cc
-to_extern name.None e = cc
-to_extern name.Exn e = cc
-to_extern name.NoExn e = cc
+to_extern _ e = cc
 
 to_noextern : (a : AbstractHeap) → name_matches a name.NoExtern ≡ true → (xs : List AbstractHeap) × Climbs a xs name.NoExtern
-to_noextern name.Func e = cc
-to_noextern name.NoFunc e = cc
-to_noextern name.Extern e = cc
 to_noextern name.NoExtern e = ([], refl)
-to_noextern name.Any e = cc
-to_noextern name.Eq e = cc
-to_noextern name.I31 e = cc
-to_noextern name.Struct e = cc
-to_noextern name.Array e = cc
-to_noextern name.None e = cc
-to_noextern name.Exn e = cc
-to_noextern name.NoExn e = cc
+to_noextern _ e = cc
 
 to_any : (a : AbstractHeap) → name_matches a name.Any ≡ true → (xs : List AbstractHeap) × Climbs a xs name.Any
-to_any name.Func e = cc
-to_any name.NoFunc e = cc
-to_any name.Extern e = cc
-to_any name.NoExtern e = cc
 to_any name.Any e = ([], refl)
 to_any name.Eq e = (name.Any ∷ [], (inl refl, refl))
 to_any name.I31 e = (name.Eq ∷ name.Any ∷ [], (inl refl, (inl refl, refl)))
 to_any name.Struct e = (name.Eq ∷ name.Any ∷ [], (inl refl, (inl refl, refl)))
 to_any name.Array e = (name.Eq ∷ name.Any ∷ [], (inl refl, (inl refl, refl)))
 to_any name.None e = (name.I31 ∷ name.Eq ∷ name.Any ∷ [], (inl refl, (inl refl, (inl refl, refl))))
-to_any name.Exn e = cc
-to_any name.NoExn e = cc
+to_any _ e = cc
 
 to_eq : (a : AbstractHeap) → name_matches a name.Eq ≡ true → (xs : List AbstractHeap) × Climbs a xs name.Eq
-to_eq name.Func e = cc
-to_eq name.NoFunc e = cc
-to_eq name.Extern e = cc
-to_eq name.NoExtern e = cc
-to_eq name.Any e = cc
 to_eq name.Eq e = ([], refl)
 to_eq name.I31 e = (name.Eq ∷ [], (inl refl, refl))
 to_eq name.Struct e = (name.Eq ∷ [], (inl refl, refl))
 to_eq name.Array e = (name.Eq ∷ [], (inl refl, refl))
 to_eq name.None e = (name.I31 ∷ name.Eq ∷ [], (inl refl, (inl refl, refl)))
-to_eq name.Exn e = cc
-to_eq name.NoExn e = cc
+to_eq _ e = cc
 
 to_i31 : (a : AbstractHeap) → name_matches a name.I31 ≡ true → (xs : List AbstractHeap) × Climbs a xs name.I31
-to_i31 name.Func e = cc
-to_i31 name.NoFunc e = cc
-to_i31 name.Extern e = cc
-to_i31 name.NoExtern e = cc
-to_i31 name.Any e = cc
-to_i31 name.Eq e = cc
 to_i31 name.I31 e = ([], refl)
-to_i31 name.Struct e = cc
-to_i31 name.Array e = cc
 to_i31 name.None e = (name.I31 ∷ [], (inl refl, refl))
-to_i31 name.Exn e = cc
-to_i31 name.NoExn e = cc
+to_i31 _ e = cc
 
 to_struct : (a : AbstractHeap) → name_matches a name.Struct ≡ true → (xs : List AbstractHeap) × Climbs a xs name.Struct
-to_struct name.Func e = cc
-to_struct name.NoFunc e = cc
-to_struct name.Extern e = cc
-to_struct name.NoExtern e = cc
-to_struct name.Any e = cc
-to_struct name.Eq e = cc
-to_struct name.I31 e = cc
 to_struct name.Struct e = ([], refl)
-to_struct name.Array e = cc
 to_struct name.None e = (name.Struct ∷ [], (inr (inl refl), refl))
-to_struct name.Exn e = cc
-to_struct name.NoExn e = cc
+to_struct _ e = cc
 
 to_array : (a : AbstractHeap) → name_matches a name.Array ≡ true → (xs : List AbstractHeap) × Climbs a xs name.Array
-to_array name.Func e = cc
-to_array name.NoFunc e = cc
-to_array name.Extern e = cc
-to_array name.NoExtern e = cc
-to_array name.Any e = cc
-to_array name.Eq e = cc
-to_array name.I31 e = cc
-to_array name.Struct e = cc
 to_array name.Array e = ([], refl)
 to_array name.None e = (name.Array ∷ [], (inr (inr (inl refl)), refl))
-to_array name.Exn e = cc
-to_array name.NoExn e = cc
+to_array _ e = cc
 
 to_none : (a : AbstractHeap) → name_matches a name.None ≡ true → (xs : List AbstractHeap) × Climbs a xs name.None
-to_none name.Func e = cc
-to_none name.NoFunc e = cc
-to_none name.Extern e = cc
-to_none name.NoExtern e = cc
-to_none name.Any e = cc
-to_none name.Eq e = cc
-to_none name.I31 e = cc
-to_none name.Struct e = cc
-to_none name.Array e = cc
 to_none name.None e = ([], refl)
-to_none name.Exn e = cc
-to_none name.NoExn e = cc
+to_none _ e = cc
 
 to_exn : (a : AbstractHeap) → name_matches a name.Exn ≡ true → (xs : List AbstractHeap) × Climbs a xs name.Exn
-to_exn name.Func e = cc
-to_exn name.NoFunc e = cc
-to_exn name.Extern e = cc
-to_exn name.NoExtern e = cc
-to_exn name.Any e = cc
-to_exn name.Eq e = cc
-to_exn name.I31 e = cc
-to_exn name.Struct e = cc
-to_exn name.Array e = cc
-to_exn name.None e = cc
 to_exn name.Exn e = ([], refl)
 to_exn name.NoExn e = (name.Exn ∷ [], (inl refl, refl))
+to_exn _ e = cc
 
 to_noexn : (a : AbstractHeap) → name_matches a name.NoExn ≡ true → (xs : List AbstractHeap) × Climbs a xs name.NoExn
-to_noexn name.Func e = cc
-to_noexn name.NoFunc e = cc
-to_noexn name.Extern e = cc
-to_noexn name.NoExtern e = cc
-to_noexn name.Any e = cc
-to_noexn name.Eq e = cc
-to_noexn name.I31 e = cc
-to_noexn name.Struct e = cc
-to_noexn name.Array e = cc
-to_noexn name.None e = cc
-to_noexn name.Exn e = cc
 to_noexn name.NoExn e = ([], refl)
+to_noexn _ e = cc
 
 pub climbs : (a b : AbstractHeap) → name_matches a b ≡ true → (xs : List AbstractHeap) × Climbs a xs b
 climbs a name.Func e = to_func a e
@@ -205,142 +100,67 @@ itself name.NoExn = refl
 nofunc_func : (b : AbstractHeap) → name_matches name.Func b ≡ true → name_matches name.NoFunc b ≡ true
 nofunc_func name.Func e = refl
 nofunc_func name.NoFunc e = refl
-nofunc_func name.Extern e = e
-nofunc_func name.NoExtern e = e
-nofunc_func name.Any e = e
-nofunc_func name.Eq e = e
-nofunc_func name.I31 e = e
-nofunc_func name.Struct e = e
-nofunc_func name.Array e = e
-nofunc_func name.None e = e
-nofunc_func name.Exn e = e
-nofunc_func name.NoExn e = e
+nofunc_func _ e = e
 
 noextern_extern : (b : AbstractHeap) → name_matches name.Extern b ≡ true → name_matches name.NoExtern b ≡ true
-noextern_extern name.Func e = e
-noextern_extern name.NoFunc e = e
 noextern_extern name.Extern e = refl
 noextern_extern name.NoExtern e = refl
-noextern_extern name.Any e = e
-noextern_extern name.Eq e = e
-noextern_extern name.I31 e = e
-noextern_extern name.Struct e = e
-noextern_extern name.Array e = e
-noextern_extern name.None e = e
-noextern_extern name.Exn e = e
-noextern_extern name.NoExn e = e
+noextern_extern _ e = e
 
 eq_any : (b : AbstractHeap) → name_matches name.Any b ≡ true → name_matches name.Eq b ≡ true
-eq_any name.Func e = e
-eq_any name.NoFunc e = e
-eq_any name.Extern e = e
-eq_any name.NoExtern e = e
 eq_any name.Any e = refl
 eq_any name.Eq e = refl
-eq_any name.I31 e = e
-eq_any name.Struct e = e
-eq_any name.Array e = e
-eq_any name.None e = e
-eq_any name.Exn e = e
-eq_any name.NoExn e = e
+eq_any _ e = e
 
 i31_eq : (b : AbstractHeap) → name_matches name.Eq b ≡ true → name_matches name.I31 b ≡ true
-i31_eq name.Func e = e
-i31_eq name.NoFunc e = e
-i31_eq name.Extern e = e
-i31_eq name.NoExtern e = e
 i31_eq name.Any e = refl
 i31_eq name.Eq e = refl
 i31_eq name.I31 e = refl
-i31_eq name.Struct e = e
-i31_eq name.Array e = e
-i31_eq name.None e = e
-i31_eq name.Exn e = e
-i31_eq name.NoExn e = e
+i31_eq _ e = e
 
 struct_eq : (b : AbstractHeap) → name_matches name.Eq b ≡ true → name_matches name.Struct b ≡ true
-struct_eq name.Func e = e
-struct_eq name.NoFunc e = e
-struct_eq name.Extern e = e
-struct_eq name.NoExtern e = e
 struct_eq name.Any e = refl
 struct_eq name.Eq e = refl
-struct_eq name.I31 e = e
 struct_eq name.Struct e = refl
-struct_eq name.Array e = e
-struct_eq name.None e = e
-struct_eq name.Exn e = e
-struct_eq name.NoExn e = e
+struct_eq _ e = e
 
 array_eq : (b : AbstractHeap) → name_matches name.Eq b ≡ true → name_matches name.Array b ≡ true
-array_eq name.Func e = e
-array_eq name.NoFunc e = e
-array_eq name.Extern e = e
-array_eq name.NoExtern e = e
 array_eq name.Any e = refl
 array_eq name.Eq e = refl
-array_eq name.I31 e = e
-array_eq name.Struct e = e
 array_eq name.Array e = refl
-array_eq name.None e = e
-array_eq name.Exn e = e
-array_eq name.NoExn e = e
+array_eq _ e = e
 
 none_i31 : (b : AbstractHeap) → name_matches name.I31 b ≡ true → name_matches name.None b ≡ true
-none_i31 name.Func e = e
-none_i31 name.NoFunc e = e
-none_i31 name.Extern e = e
-none_i31 name.NoExtern e = e
 none_i31 name.Any e = refl
 none_i31 name.Eq e = refl
 none_i31 name.I31 e = refl
 none_i31 name.Struct e = refl
 none_i31 name.Array e = refl
 none_i31 name.None e = refl
-none_i31 name.Exn e = e
-none_i31 name.NoExn e = e
+none_i31 _ e = e
 
 none_struct : (b : AbstractHeap) → name_matches name.Struct b ≡ true → name_matches name.None b ≡ true
-none_struct name.Func e = e
-none_struct name.NoFunc e = e
-none_struct name.Extern e = e
-none_struct name.NoExtern e = e
 none_struct name.Any e = refl
 none_struct name.Eq e = refl
 none_struct name.I31 e = refl
 none_struct name.Struct e = refl
 none_struct name.Array e = refl
 none_struct name.None e = refl
-none_struct name.Exn e = e
-none_struct name.NoExn e = e
+none_struct _ e = e
 
 none_array : (b : AbstractHeap) → name_matches name.Array b ≡ true → name_matches name.None b ≡ true
-none_array name.Func e = e
-none_array name.NoFunc e = e
-none_array name.Extern e = e
-none_array name.NoExtern e = e
 none_array name.Any e = refl
 none_array name.Eq e = refl
 none_array name.I31 e = refl
 none_array name.Struct e = refl
 none_array name.Array e = refl
 none_array name.None e = refl
-none_array name.Exn e = e
-none_array name.NoExn e = e
+none_array _ e = e
 
 noexn_exn : (b : AbstractHeap) → name_matches name.Exn b ≡ true → name_matches name.NoExn b ≡ true
-noexn_exn name.Func e = e
-noexn_exn name.NoFunc e = e
-noexn_exn name.Extern e = e
-noexn_exn name.NoExtern e = e
-noexn_exn name.Any e = e
-noexn_exn name.Eq e = e
-noexn_exn name.I31 e = e
-noexn_exn name.Struct e = e
-noexn_exn name.Array e = e
-noexn_exn name.None e = e
 noexn_exn name.Exn e = refl
 noexn_exn name.NoExn e = refl
+noexn_exn _ e = e
 
 step : (a x b : AbstractHeap) → Among x (above a) → name_matches x b ≡ true → name_matches a b ≡ true
 step name.Func x b m e = elim m [ ]

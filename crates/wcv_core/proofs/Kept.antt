@@ -1,7 +1,7 @@
 -- What the fields of the rows keep, and what they tell.
 use Rattle.std.proofs.Common.{◌≡◌, ℕ, zero, suc, take, ◌+◌, ◌-◌, ◌<◌, ◌≤◌, List, [], ◌∷◌, ◌++◌, length, map, get_or, refl, sym, ◌∙◌, ap, arith, subst, None, length-append}
 use Rattle.wcv_core.specs.declared.core_types.RecGroup.{RecGroup}
-use Rattle.wcv_core.specs.CoreForm.{SubForm, Group, group_form}
+use Rattle.wcv_core.specs.CoreForm.{SubForm, Group, sub_form, group_form}
 use Rattle.wcv_core.specs.declared.core_rows.Row.{Row}
 use Rattle.wcv_core.specs.CoreGroups.{total, types_of, place_from, parent_in, parents_from, IsClosed, AreClosed, add_depths, depths_of}
 use Rattle.wcv_core.specs.CoreRows.{place_in, places_from, AreLow, AreRows}
@@ -46,6 +46,21 @@ depths_len gs ps ds r =
     let f : 0 + length (parents_from 0 gs) ≡ length (parents_from 0 gs) = omega arith in
     ap (length {A = ℕ}) r.depths_are ∙ (length-depths [] (parents_from 0 gs) ∙ (f ∙ e))
 
+-- the lists know an id of the table
+pub record Stored (gs : List Group) (ps : List Row) (ds : List ℕ) (i : ℕ) : Type 0 where
+  pub low : i < total gs
+  pub placed : i < length ps
+  pub deep : i < length ds
+
+pub stored : (gs vs : List Group) (ps : List Row) (ds : List ℕ) (i : ℕ) → gs ≡ vs → AreRows gs ps ds → i < total vs → Stored gs ps ds i
+stored gs vs ps ds i v r h =
+    let l : i < total gs = subst (λ (xs : List Group). i < total xs) (sym v) h in
+    record {
+      low = l;
+      placed = omega (arith, l, places_len gs ps ds r);
+      deep = omega (arith, l, depths_len gs ps ds r);
+    }
+
 -- one more group
 pub joined : (gs : List Group) (ps : List Row) (ds es : List ℕ) (g : Group) → AreRows gs ps ds → IsClosed (total gs) g
     → es ≡ add_depths ds (map (parent_in (length ps)) g) → AreLow es → AreRows (gs ++ g ∷ []) (ps ++ map (place_in (length gs) (length ps)) g) es
@@ -63,6 +78,19 @@ joined gs ps ds es g r c e low =
 
 pub group_is : (xs : List RecGroup) (k : ℕ) (r : RecGroup) → k < length xs → r ≡ get_or xs k r → get_or (map group_form xs) k [] ≡ group_form r
 group_is xs k r h e = mapped_at group_form xs k r [] h ∙ ap group_form (sym e)
+
+-- the group that a type stands in
+pub record Held (xs : List RecGroup) (p : Row) (r : RecGroup) : Type 0 where
+  pub group : get_or (map group_form xs) p.group [] ≡ group_form r
+  pub count : length (get_or (map group_form xs) p.group []) ≡ length r.types.items
+
+pub in_groups : (xs : List RecGroup) (i : ℕ) (p : Row) → Told (map group_form xs) i p → p.group < length xs
+in_groups xs i p t = omega (arith, t.number, length-map group_form xs)
+
+pub held : (xs : List RecGroup) (i : ℕ) (p : Row) (r : RecGroup) → Told (map group_form xs) i p → r ≡ get_or xs p.group r → Held xs p r
+held xs i p r t e =
+    let g : get_or (map group_form xs) p.group [] ≡ group_form r = group_is xs p.group r (in_groups xs i p t) e in
+    record { group = g; count = ap (length {A = SubForm}) g ∙ length-map sub_form r.types.items }
 
 pub map-append : {A B : Type 0} (f : A → B) (xs ys : List A) → map f (xs ++ ys) ≡ map f xs ++ map f ys
 map-append f [] ys = refl

@@ -1,6 +1,5 @@
 -- The tests on names and places answer equality.
 use Rattle.std.proofs.Common.{◌≡◌, [], ◌∷◌, Bool, true, ◌&&◌, eq-eqb, refl, ap, subst, arith}
-use Rattle.std.specs.Cmp.{IsEquivalence, decided}
 use Rattle.std.proofs.lemmas.Bool.{eqb-true}
 use Rattle.wcv_core.specs.Names.{Place, Name, number, stamp, base, at, stamped, aside, same_place, same}
 
@@ -29,9 +28,6 @@ same_place-refl (m ∷ p) = and_both _ _ (eq-eqb m m refl) (same_place-refl p)
 pub same_place-equal : (p q : Place) → p ≡ q → same_place p q ≡ true
 same_place-equal p q e = subst (λ (x : Place). same_place p x ≡ true) e (same_place-refl p)
 
-pub same_place-equiv : IsEquivalence same_place
-same_place-equiv = decided same_place (λ p q. (same_place-true p q, same_place-equal p q))
-
 pub same-true : (a b : Name) → same a b ≡ true → a ≡ b
 same-true (number m) (number n) h = ap number (eqb-true m n h)
 same-true (stamp m) (stamp n) h = ap stamp (eqb-true m n h)
@@ -54,6 +50,3 @@ same-refl (aside a) = same-refl a
 
 pub same-equal : (a b : Name) → a ≡ b → same a b ≡ true
 same-equal a b e = subst (λ (x : Name). same a x ≡ true) e (same-refl a)
-
-pub same-equiv : IsEquivalence same
-same-equiv = decided same (λ a b. (same-true a b, same-equal a b))

@@ -18,19 +18,19 @@ use Rattle.wcv_core.specs.declared.features.WasmFeatures.{WasmFeatures}
 
 -- ## What is seen in the group alone
 
--- the k-th type has a supertype of the group that does not stand before it
+-- the type with index k names its supertype by an index that is not below k
 abbrev pub is_late : ℕ → Option SuperType → Bool
 is_late k (Some (super.Index i)) = not (nat_lt i k)
 is_late k _ = false
 
--- so in a closed form whose first type is the k-th
+-- so in a group whose first type has the index k
 abbrev pub order_checks : ℕ → Group → Checks
 order_checks k [] = []
 order_checks k (s ∷ ss) = (kind.CoreType, is_late k s.supertype) ∷ order_checks (suc k) ss
 
 -- a group that is added behind these entries, over a table of n types
 abbrev pub written_checks : WasmFeatures → ℕ → List Core_entry → Group → Checks
-written_checks fs n es w = group_needs fs w ++ (all_checks (index_checks n es (length w)) w ++ order_checks 0 (closed_group es w))
+written_checks fs n es w = group_needs fs w ++ (all_checks (index_checks n es (length w)) w ++ order_checks (length es) w)
 
 -- ## What is seen in the table
 

@@ -1,5 +1,5 @@
 -- The types of core imports and exports: which types they name, and what they count in the type of a module.
-use Rattle.std.specs.Prelude.{ℕ, ◌+◌, ◌<◌, List, [], ◌∷◌, length}
+use Rattle.std.specs.Prelude.{ℕ, ◌+◌, ◌<◌, List, length}
 use Rattle.wcv_core.specs.CoreForm.{CompositeForm, func_form, struct_form, array_form, Group}
 use Rattle.wcv_core.specs.CoreGroups.{IsHeapWithin, IsValWithin}
 use Rattle.wcv_core.specs.CoreMatching.{type_at}

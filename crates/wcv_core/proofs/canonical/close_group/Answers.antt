@@ -49,5 +49,6 @@ returns-in-Err-check_order-clause-err g c =
     let w : Group = group_form c.args.rec in
     let xs : Group = map sub_form c.as_slice.result.now in
     let k : xs ≡ closed_group es w = search rules in
+    let f : IsFree (all_checks (index_checks c.args.known es c.len.result) w) = search rules in
     let b : CausedBy (order_checks 0 xs) c.args.offset c.in-Err-check_order.err = search rules in
-    order_caused fs c.args.known es w xs c.args.offset c.in-Err-check_order.err k b
+    order_caused fs c.args.known es w c.len.result xs c.args.offset c.in-Err-check_order.err k f b

@@ -1,46 +1,31 @@
-use Rattle.std.proofs.Common.{◌≡◌, ◌<◌, List, [], length, map, get_or, sym, ◌∙◌, ap, arith, subst}
+use Rattle.std.proofs.Common.{◌≡◌, List, [], length, map, get_or, sym, ◌∙◌, ap, arith}
 use Rattle.wcv_core.specs.declared.core_rows.Row.{Row}
-use Rattle.wcv_core.specs.CoreForm.{SubForm, Group, group_form, sub_form}
-use Rattle.wcv_core.specs.CoreGroups.{total, place_from}
-use Rattle.wcv_core.proofs.Rowing.{length-map}
-use Rattle.wcv_core.proofs.Kept.{Told, told, places_len, depths_len, group_is}
+use Rattle.wcv_core.specs.CoreForm.{Group, group_form}
+use Rattle.wcv_core.specs.CoreGroups.{place_from}
+use Rattle.wcv_core.proofs.Kept.{Told, told, Stored, stored, in_groups, Held, held}
 use Rattle.wcv_core.proofs.core_rows.Rows.group_of.Goals as goal
 
 pub index-place-requires : goal.index-place-requires
 index-place-requires c =
     let gs : List Group = map group_form c.self.inside.groups.items in
-    let v : gs ≡ c.args.self.now = c.self.view_is in
-    let h : c.args.id.index < total gs = subst (λ (xs : List Group). c.args.id.index < total xs) (sym v) c.requires in
-    let pl : length c.self.inside.places.items ≡ total gs = places_len gs c.self.inside.places.items c.self.inside.depths.items c.self.invariant in
-    let dl : length c.self.inside.depths.items ≡ total gs = depths_len gs c.self.inside.places.items c.self.inside.depths.items c.self.invariant in
-    omega arith
+    let s : Stored gs c.self.inside.places.items c.self.inside.depths.items c.args.id.index = stored gs c.args.self.now c.self.inside.places.items c.self.inside.depths.items c.args.id.index c.self.view_is c.self.invariant c.requires in
+    omega (arith, s.placed)
 
 pub index-group-requires : goal.index-group-requires
 index-group-requires c =
     let gs : List Group = map group_form c.self.inside.groups.items in
-    let v : gs ≡ c.args.self.now = c.self.view_is in
-    let h : c.args.id.index < total gs = subst (λ (xs : List Group). c.args.id.index < total xs) (sym v) c.requires in
-    let pl : length c.self.inside.places.items ≡ total gs = places_len gs c.self.inside.places.items c.self.inside.depths.items c.self.invariant in
-    let dl : length c.self.inside.depths.items ≡ total gs = depths_len gs c.self.inside.places.items c.self.inside.depths.items c.self.invariant in
+    let s : Stored gs c.self.inside.places.items c.self.inside.depths.items c.args.id.index = stored gs c.args.self.now c.self.inside.places.items c.self.inside.depths.items c.args.id.index c.self.view_is c.self.invariant c.requires in
     let p : Row = c.index-place.result.now in
-    let t : Told gs c.args.id.index p = told gs c.self.inside.places.items c.self.inside.depths.items c.args.id.index p c.self.invariant h c.index-place.ensures in
-    let nm : p.group < length gs = t.number in
-    let gl : length gs ≡ length c.self.inside.groups.items = length-map group_form c.self.inside.groups.items in
-    omega arith
+    let t : Told gs c.args.id.index p = told gs c.self.inside.places.items c.self.inside.depths.items c.args.id.index p c.self.invariant s.low c.index-place.ensures in
+    omega (arith, in_groups c.self.inside.groups.items c.args.id.index p t)
 
 pub returns-clause-place : goal.returns-clause-place
 returns-clause-place c =
     let gs : List Group = map group_form c.self.inside.groups.items in
-    let v : gs ≡ c.args.self.now = c.self.view_is in
-    let h : c.args.id.index < total gs = subst (λ (xs : List Group). c.args.id.index < total xs) (sym v) c.requires in
-    let pl : length c.self.inside.places.items ≡ total gs = places_len gs c.self.inside.places.items c.self.inside.depths.items c.self.invariant in
-    let dl : length c.self.inside.depths.items ≡ total gs = depths_len gs c.self.inside.places.items c.self.inside.depths.items c.self.invariant in
+    let s : Stored gs c.self.inside.places.items c.self.inside.depths.items c.args.id.index = stored gs c.args.self.now c.self.inside.places.items c.self.inside.depths.items c.args.id.index c.self.view_is c.self.invariant c.requires in
     let p : Row = c.index-place.result.now in
-    let t : Told gs c.args.id.index p = told gs c.self.inside.places.items c.self.inside.depths.items c.args.id.index p c.self.invariant h c.index-place.ensures in
-    let nm : p.group < length gs = t.number in
-    let gl : length gs ≡ length c.self.inside.groups.items = length-map group_form c.self.inside.groups.items in
+    let t : Told gs c.args.id.index p = told gs c.self.inside.places.items c.self.inside.depths.items c.args.id.index p c.self.invariant s.low c.index-place.ensures in
     let r = c.index-group.result.now in
-    let gi : get_or gs p.group [] ≡ group_form r = group_is c.self.inside.groups.items p.group r (omega arith) c.index-group.ensures in
-    let gn : length (get_or gs p.group []) ≡ length r.types.items = ap (length {A = SubForm}) gi ∙ length-map sub_form r.types.items in
-    let e : c.len.result ≡ length (get_or gs p.group []) = omega (arith, c.len.ensures, gn) in
-    (λ j. (p.first, e j)) ∙ (sym t.place_is ∙ ap (λ (xs : List Group). place_from 0 xs c.args.id.index) v)
+    let k : Held c.self.inside.groups.items p r = held c.self.inside.groups.items c.args.id.index p r t c.index-group.ensures in
+    let e : c.len.result ≡ length (get_or gs p.group []) = omega (arith, c.len.ensures, k.count) in
+    (λ j. (p.first, e j)) ∙ (sym t.place_is ∙ ap (λ (xs : List Group). place_from 0 xs c.args.id.index) c.self.view_is)
