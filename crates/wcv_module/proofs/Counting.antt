@@ -1,18 +1,16 @@
 -- What a module imports and exports: of the table, and counted in its size.
-use Rattle.std.proofs.Common.{◌≡◌, ℕ, zero, suc, ◌+◌, ◌-◌, ◌<◌, ◌≤◌, List, [], ◌∷◌, ◌++◌, length, map, refl, sym, ◌∙◌, ap, arith, subst, Option, Some, None, All, get_or, slice_get, append_assoc, length-append, not, nat_lt, false, true≢false, cond}
+use Rattle.std.proofs.Common.{◌≡◌, ℕ, suc, ◌+◌, ◌-◌, ◌<◌, ◌≤◌, List, [], ◌∷◌, ◌++◌, length, map, refl, sym, ◌∙◌, ap, arith, subst, Option, Some, None, All, slice_get, append-nil, append_assoc, not, nat_lt, false, true≢false, cond}
 use Rattle.std.specs.Option.{option_map, unwrap_or}
 use Rattle.std.proofs.lemmas.Bool.Decides.{nat_tests}
-use Rattle.std.proofs.lemmas.List.{get_or_append_left}
-use Rattle.std.proofs.lemmas.List.Elements.{All-append}
+use Rattle.std.proofs.lemmas.List.Elements.{All-append, All-cons}
 use Rattle.wcv_core.proofs.Causes.{free_left, free_right}
 use Rattle.wcv_core.proofs.Kept.{map-append}
 use Rattle.wcv_core.specs.Checks.{IsFree, is_none}
 use Rattle.wcv_core.specs.CoreFeatures.{ref_needs, val_needs}
-use Rattle.wcv_core.specs.CoreForm.{SubForm, Group, no_type}
-use Rattle.wcv_core.specs.CoreGroups.{total, types_of, IsHeapWithin, IsValWithin}
+use Rattle.wcv_core.specs.CoreForm.{Group}
+use Rattle.wcv_core.specs.CoreGroups.{total, IsHeapWithin, IsValWithin}
 use Rattle.wcv_core.specs.CoreJoining.{is_free, with_types, grown, group_ids}
-use Rattle.wcv_core.specs.CoreMatching.{type_at}
-use Rattle.wcv_core.specs.CoreSizes.{form_size, IsEntityWithin, entity_size}
+use Rattle.wcv_core.specs.CoreSizes.{IsEntityWithin, entity_size}
 use Rattle.wcv_core.specs.CoreWritten.{Core_entry, sub_entry, module_entry, is_module, IsKnown, heap_checks, val_checks, closed_index, closed_heap, closed_val, closed_group}
 use Rattle.wcv_core.specs.declared.core_types.CoreTypeId.{CoreTypeId}
 use Rattle.wcv_core.specs.declared.core_types.EntityType.{EntityType}
@@ -24,6 +22,7 @@ use Rattle.wcv_core.specs.declared.core_types.ValType.TheVariants as val
 use Rattle.wcv_core.specs.declared.features.WasmFeatures.{WasmFeatures}
 use Rattle.wcv_types.specs.Standing.{entity_sizes}
 use Rattle.wcv_types.proofs.CoreGrown.{within_more, sizes_stay, grown_by}
+use Rattle.wcv_types.proofs.Unfolding.{all_left, all_right}
 use Rattle.wcv_module.specs.Kept.{module_items, IsCounted}
 use Rattle.wcv_module.proofs.Growing.{Grows, known_named}
 use Rattle.wcv_module.proofs.Indices.{known_at, none_past}
@@ -91,48 +90,33 @@ sizes-append : (gs : List Group) (xs ys : List EntityType) → entity_sizes gs (
 sizes-append gs [] ys = omega arith
 sizes-append gs (x ∷ xs) ys = omega (arith, sizes-append gs xs ys)
 
-all_left : (P : EntityType → Type 0) (xs ys : List EntityType) → All P (xs ++ ys) → All P xs
-all_left P [] ys a k d l = Prim.absurd (omega arith)
-all_left P (x ∷ xs) ys a zero d l = a zero d (omega arith)
-all_left P (x ∷ xs) ys a (suc k) d l = all_left P xs ys (λ j c m. a (suc j) c (omega arith)) k d (omega arith)
-
-all_right : (P : EntityType → Type 0) (xs ys : List EntityType) → All P (xs ++ ys) → All P ys
-all_right P [] ys a = a
-all_right P (x ∷ xs) ys a = all_right P xs ys (λ j c m. a (suc j) c (omega arith))
-
-all_one : (P : EntityType → Type 0) (e : EntityType) → P e → All P (e ∷ [])
-all_one P e p zero d l = p
-all_one P e p (suc k) d l = Prim.absurd (omega arith)
-
 abbrev import_of : Core_import → EntityType
 import_of i = i.1
 
 abbrev export_of : Core_export → EntityType
 export_of e = e.1
 
-counted_import : (gs : List Group) (m : Module_type) (p : Text × Text) (e : EntityType) → IsEntityWithin (total gs) e → IsCounted gs m → IsCounted gs (with_import gs m p e)
-counted_import gs m p e w s =
+-- one more between the items of m makes p
+counted_between : (gs : List Group) (m p : Module_type) (xs ys : List EntityType) (e : EntityType) → module_items m ≡ xs ++ ys → module_items p ≡ xs ++ e ∷ ys → p.size ≡ m.size + entity_size gs e → IsEntityWithin (total gs) e → IsCounted gs m → IsCounted gs p
+counted_between gs m p xs ys e before after size w s =
     let P : EntityType → Type 0 = IsEntityWithin (total gs) in
-    let xs : List EntityType = map import_of m.imports in
-    let ys : List EntityType = map export_of m.exports in
-    let more : map import_of (m.imports ++ (p, e) ∷ []) ≡ xs ++ e ∷ [] = map-append import_of m.imports ((p, e) ∷ []) in
-    let one : entity_sizes gs (e ∷ []) ≡ entity_size gs e = omega arith in
+    let old : All P (xs ++ ys) = subst (All P) before s.within in
     record {
-      within = subst (λ (zs : List EntityType). All P (zs ++ ys)) (sym more) (All-append P (xs ++ e ∷ []) ys (All-append P xs (e ∷ []) (all_left P xs ys s.within) (all_one P e w)) (all_right P xs ys s.within));
-      size = subst (λ (zs : List EntityType). m.size + entity_size gs e ≡ suc (entity_sizes gs (zs ++ ys))) (sym more) (omega (arith, s.size, one, sizes-append gs xs ys, sizes-append gs (xs ++ e ∷ []) ys, sizes-append gs xs (e ∷ [])));
+      within = subst (All P) (sym after) (All-append P xs (e ∷ ys) (all_left P xs ys old) (All-cons P e ys w (all_right P xs ys old)));
+      size = subst (λ (zs : List EntityType). p.size ≡ suc (entity_sizes gs zs)) (sym after) (omega (arith, size, s.size ∙ ap (λ zs. suc (entity_sizes gs zs)) before, sizes-append gs xs ys, sizes-append gs xs (e ∷ ys)));
     }
 
-counted_export : (gs : List Group) (m : Module_type) (n : Text) (e : EntityType) → IsEntityWithin (total gs) e → IsCounted gs m → IsCounted gs (with_export gs m n e)
-counted_export gs m n e w s =
-    let P : EntityType → Type 0 = IsEntityWithin (total gs) in
+counted_import : (gs : List Group) (m : Module_type) (p : Text × Text) (e : EntityType) → IsEntityWithin (total gs) e → IsCounted gs m → IsCounted gs (with_import gs m p e)
+counted_import gs m p e =
     let xs : List EntityType = map import_of m.imports in
     let ys : List EntityType = map export_of m.exports in
-    let more : map export_of (m.exports ++ (n, e) ∷ []) ≡ ys ++ e ∷ [] = map-append export_of m.exports ((n, e) ∷ []) in
-    let one : entity_sizes gs (e ∷ []) ≡ entity_size gs e = omega arith in
-    record {
-      within = subst (λ (zs : List EntityType). All P (xs ++ zs)) (sym more) (All-append P xs (ys ++ e ∷ []) (all_left P xs ys s.within) (All-append P ys (e ∷ []) (all_right P xs ys s.within) (all_one P e w)));
-      size = subst (λ (zs : List EntityType). m.size + entity_size gs e ≡ suc (entity_sizes gs (xs ++ zs))) (sym more) (omega (arith, s.size, one, sizes-append gs xs ys, sizes-append gs xs (ys ++ e ∷ []), sizes-append gs ys (e ∷ [])));
-    }
+    counted_between gs m (with_import gs m p e) xs ys e refl (ap (λ zs. zs ++ ys) (map-append import_of m.imports ((p, e) ∷ [])) ∙ append_assoc xs (e ∷ []) ys) refl
+
+counted_export : (gs : List Group) (m : Module_type) (n : Text) (e : EntityType) → IsEntityWithin (total gs) e → IsCounted gs m → IsCounted gs (with_export gs m n e)
+counted_export gs m n e =
+    let xs : List EntityType = map import_of m.imports in
+    let ys : List EntityType = map export_of m.exports in
+    counted_between gs m (with_export gs m n e) (xs ++ ys) [] e (sym (append-nil (xs ++ ys))) (ap (λ zs. xs ++ zs) (map-append export_of m.exports ((n, e) ∷ [])) ∙ sym (append_assoc xs ys (e ∷ []))) refl
 
 counted_type : (gs : List Group) (m : Module_type) (i : ℕ) → IsCounted gs m → IsCounted gs (with_type m i)
 counted_type gs m i s = record { within = s.within; size = s.size }

@@ -1,5 +1,5 @@
 -- The table of core types only grows.
-use Rattle.std.proofs.Common.{◌≡◌, ℕ, zero, suc, ◌+◌, ◌<◌, ◌≤◌, List, [], ◌∷◌, ◌++◌, length, refl, sym, ◌∙◌, ap, arith, subst, Option, Some, None, Result, Ok, Err, OnOk, OnErr, All, get_or, append_assoc, inl, inr, slice_get}
+use Rattle.std.proofs.Common.{◌≡◌, ℕ, zero, suc, ◌+◌, ◌<◌, List, [], ◌∷◌, ◌++◌, length, refl, sym, ◌∙◌, ap, subst, Option, Some, None, Result, Ok, Err, OnOk, OnErr, All, get_or, slice_get}
 use Rattle.std.proofs.lemmas.Option.{slice_get_within, get_or_from_slice_get}
 use Rattle.std.proofs.lemmas.List.Elements.{All-get_or}
 use Rattle.std.specs.Option.{option_map}
@@ -7,10 +7,8 @@ use Rattle.wcv_core.proofs.Kept.{map-append}
 use Rattle.wcv_core.proofs.Ranges.{known_push, known_more}
 use Rattle.wcv_core.specs.CoreForm.{Group}
 use Rattle.wcv_core.specs.CoreGroups.{total}
-use Rattle.wcv_core.specs.CoreJoining.{IsLeft}
 use Rattle.wcv_core.specs.CoreWritten.{Core_entry, sub_entry, module_entry, IsKnown}
 use Rattle.wcv_core.specs.declared.error.Error.{Error}
-use Rattle.wcv_module.specs.Kept.{IsUndone}
 use Rattle.wcv_syntax.specs.CoreItems.{type_entry}
 use Rattle.wcv_syntax.specs.ModuleTypes.{Module_type, module_entries, with_type, at_index, on_entry, aliased}
 use Rattle.wcv_types.specs.Arena.{Arena}
@@ -27,10 +25,6 @@ Grows gs hs = (more : List Group) × (hs ≡ gs ++ more)
 
 pub extended : (a b : Arena) → Extends a b → Grows a.core b.core
 extended a b g = (g.groups, g.core)
-
-pub undone_left : (m n : Module_type) (gs hs : List Group) (g : Group) (e : Error) → IsLeft with_type (λ x. x) m n gs hs g e → IsUndone m n gs hs e
-undone_left m n gs hs g e (inl s) = inl s
-undone_left m n gs hs g e (inr s) = inr s.0
 
 -- ## Arenas of which the table alone grew
 

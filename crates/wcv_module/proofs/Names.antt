@@ -16,7 +16,7 @@ names_push (e ∷ es) n ty = λ j. e.0 ∷ names_push es n ty j
 pub named_push : (t n : Text) (ns : List Text) (es : List Core_export) (ty : EntityType) → is_among t ns ≡ is_among t (export_names es) → (bytes_eq t n || is_among t ns) ≡ is_among t (export_names (es ++ (n, ty) ∷ []))
 named_push t n ns es ty e = ap (λ (b : Bool). bytes_eq t n || b) e ∙ (is_among-joined t n (export_names es) ∙ ap (is_among t) (sym (names_push es n ty)))
 
-same_text : (a b : Text) → bytes_eq a b ≡ true → a ≡ b
+pub same_text : (a b : Text) → bytes_eq a b ≡ true → a ≡ b
 same_text a b e = grind (arith, bytes_eq-Decides a b)
 
 -- a name that is there changes nothing

@@ -1,6 +1,7 @@
 -- Pairs that stand twice.
 use Rattle.std.proofs.Common.{◌≡◌, ℕ, zero, suc, ◌+◌, ◌<◌, List, [], ◌∷◌, ◌++◌, length, take, get_or, Bool, true, false, ◌||◌, ◌&&◌, refl, sym, ◌∙◌, ap, arith, subst, add-one, ◌⊎◌, inl, inr}
-use Rattle.std.proofs.lemmas.Bool.{false≢true}
+use Rattle.std.proofs.Math.Bool.{or_assoc, or_comm, or-false, or-true}
+use Rattle.std.proofs.lemmas.Bool.{false≢true, or_cases}
 use Rattle.std.specs.Str.{bytes_eq}
 use Rattle.std.proofs.lemmas.Slice.Eq.{bytes_eq-Decides}
 use Rattle.wcv_core.proofs.Among.{bytes_eq-sym}
@@ -18,49 +19,30 @@ same_self p = ap (λ (b : Bool). b && bytes_eq p.1 p.1) (own p.0) ∙ own p.1
 same_sym : (p q : Text × Text) → same_pair p q ≡ same_pair q p
 same_sym p q = λ j. bytes_eq-sym p.0 q.0 j && bytes_eq-sym p.1 q.1 j
 
-or_false : (a : Bool) → (a || false) ≡ a
-or_false true = refl
-or_false false = refl
-
-or_true : (a : Bool) → (a || true) ≡ true
-or_true true = refl
-or_true false = refl
-
-or_assoc : (a b c : Bool) → (a || (b || c)) ≡ ((a || b) || c)
-or_assoc true b c = refl
-or_assoc false b c = refl
-
-or_split : (a b : Bool) → (a || b) ≡ true → (a ≡ true) ⊎ (b ≡ true)
-or_split true b e = inl refl
-or_split false b e = inr e
-
 -- a pair is among those of which it is one
 among_at : (ps : List (Text × Text)) (i : ℕ) (d : Text × Text) → i < length ps → is_pair_among (get_or ps i d) ps ≡ true
 among_at [] i d h = Prim.absurd (omega arith)
 among_at (p ∷ ps) zero d h = ap (λ (b : Bool). b || is_pair_among p ps) (same_self p)
-among_at (p ∷ ps) (suc i) d h = ap (λ (b : Bool). same_pair (get_or ps i d) p || b) (among_at ps i d (omega arith)) ∙ or_true (same_pair (get_or ps i d) p)
+among_at (p ∷ ps) (suc i) d h = ap (λ (b : Bool). same_pair (get_or ps i d) p || b) (among_at ps i d (omega arith)) ∙ or-true (same_pair (get_or ps i d) p)
 
 -- a pair that stands among those before it stands twice
 pub repeats_at : (ps : List (Text × Text)) (i : ℕ) (d : Text × Text) → i < length ps → is_pair_among (get_or ps i d) (take i ps) ≡ true → pairs_repeat ps ≡ true
 repeats_at [] i d h e = Prim.absurd (omega arith)
 repeats_at (p ∷ ps) zero d h e = Prim.absurd (false≢true e)
-repeats_at (p ∷ ps) (suc i) d h e = go (repeats_at ps i d (omega arith)) (or_split (same_pair (get_or ps i d) p) (is_pair_among (get_or ps i d) (take i ps)) e)
+repeats_at (p ∷ ps) (suc i) d h e = go (repeats_at ps i d (omega arith)) (or_cases (same_pair (get_or ps i d) p) (is_pair_among (get_or ps i d) (take i ps)) e)
   where
     go : (is_pair_among (get_or ps i d) (take i ps) ≡ true → pairs_repeat ps ≡ true) → (same_pair (get_or ps i d) p ≡ true) ⊎ (is_pair_among (get_or ps i d) (take i ps) ≡ true) → (is_pair_among p ps || pairs_repeat ps) ≡ true
     go more (inl s) = ap (λ (b : Bool). b || pairs_repeat ps) (subst (λ q. is_pair_among q ps ≡ true) (same_texts (get_or ps i d) p s) (among_at ps i d (omega arith)))
-    go more (inr r) = ap (λ (b : Bool). is_pair_among p ps || b) (more r) ∙ or_true (is_pair_among p ps)
+    go more (inr r) = ap (λ (b : Bool). is_pair_among p ps || b) (more r) ∙ or-true (is_pair_among p ps)
 
 -- ## One more pair at the end
 
 pub among_push : (p q : Text × Text) (ps : List (Text × Text)) → is_pair_among p (ps ++ q ∷ []) ≡ (is_pair_among p ps || same_pair p q)
-among_push p q [] = or_false (same_pair p q)
-among_push p q (r ∷ ps) = ap (λ (b : Bool). same_pair p r || b) (among_push p q ps) ∙ or_assoc (same_pair p r) (is_pair_among p ps) (same_pair p q)
+among_push p q [] = or-false (same_pair p q)
+among_push p q (r ∷ ps) = ap (λ (b : Bool). same_pair p r || b) (among_push p q ps) ∙ sym (or_assoc (same_pair p r) (is_pair_among p ps) (same_pair p q))
 
 or_four : (a b c d : Bool) → ((a || b) || (c || d)) ≡ ((a || c) || (b || d))
-or_four true b c d = refl
-or_four false true true d = refl
-or_four false true false d = refl
-or_four false false c d = refl
+or_four a b c d = grind arith
 
 pub repeat_push : (q : Text × Text) (ps : List (Text × Text)) → pairs_repeat (ps ++ q ∷ []) ≡ (pairs_repeat ps || is_pair_among q ps)
 repeat_push q [] = refl
@@ -79,12 +61,6 @@ take_next ps i d h = ap (λ (n : ℕ). take n ps) (add-one i) ∙ take_suc ps i 
 -- the pairs so far differ, and the next one is none of them
 pub none_next : (ps : List (Text × Text)) (i : ℕ) (d : Text × Text) → i < length ps → pairs_repeat (take i ps) ≡ false → is_pair_among (get_or ps i d) (take i ps) ≡ false → pairs_repeat (take (i + 1) ps) ≡ false
 none_next ps i d h e f = ap pairs_repeat (take_next ps i d h) ∙ repeat_push (get_or ps i d) (take i ps) ∙ λ j. e j || f j
-
-or_comm : (a b : Bool) → (a || b) ≡ (b || a)
-or_comm true true = refl
-or_comm true false = refl
-or_comm false true = refl
-or_comm false false = refl
 
 -- what a set has that had the pairs so far, and has the next one too
 pub seen_next : (p : Text × Text) (ps : List (Text × Text)) (i : ℕ) (d : Text × Text) → i < length ps → (same_pair p (get_or ps i d) || is_pair_among p (take i ps)) ≡ is_pair_among p (take (i + 1) ps)

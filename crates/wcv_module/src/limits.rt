@@ -1,7 +1,7 @@
 // Limits on lists and texts, which the calls of a module leave to their caller.
 ghost use Rattle.std.specs.Prelude.{length, map, ◌++◌, OnOk, IfErr};
 ghost use Rattle.wcv_core.specs.Checks.{IsFree, CausedBy, all_checks, too_many};
-ghost use Rattle.wcv_core.specs.CoreFeatures.{group_left};
+ghost use Rattle.wcv_core.specs.CoreFeatures.{max_core_list, group_left};
 ghost use Rattle.wcv_syntax.specs.ModuleTypes.{max_name, decl_left, module_left, written_group};
 ghost use Rattle.wcv_syntax.specs.View.{rec_view};
 
@@ -50,8 +50,8 @@ pub fn check_group(group: &RecGroup, offset: u64) -> Result<(), Error>
 }
 
 fn check_count(count: usize, offset: u64) -> Result<(), Error>
-    ensures ok { OnOk result (IsFree (too_many 100000 count)) }
-    ensures err { IfErr result (CausedBy (too_many 100000 count) offset) }
+    ensures ok { OnOk result (IsFree (too_many max_core_list count)) }
+    ensures err { IfErr result (CausedBy (too_many max_core_list count) offset) }
 {
     if count > MAX_DECLARATIONS {
         return Err(Error::new(
