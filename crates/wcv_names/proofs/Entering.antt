@@ -8,9 +8,8 @@ use Rattle.wcv_core.specs.Refusal.{error_kind, error_offset}
 use Rattle.wcv_core.specs.declared.error.Error.{Error}
 use Rattle.wcv_core.specs.declared.error.ErrorKind.TheVariants as kind
 use Rattle.wcv_core.specs.declared.features.WasmFeatures.{WasmFeatures}
-use Rattle.wcv_syntax.specs.ExternName.{Form, is_formed}
+use Rattle.wcv_syntax.specs.ExternName.{Form}
 use Rattle.wcv_syntax.specs.FormOf.{form_of}
-use Rattle.wcv_syntax.proofs.Formed.{sound}
 use Rattle.wcv_types.specs.Tree.{Text, Extern_name}
 use Rattle.wcv_types.specs.Entities.{entry_trees}
 use Rattle.wcv_types.specs.Unfold.{Type_tree}
@@ -18,27 +17,24 @@ use Rattle.wcv_types.specs.declared.info.TypeInfo.{TypeInfo}
 use Rattle.wcv_types.specs.declared.item_map.ComponentItem.{ComponentItem}
 use Rattle.wcv_names.specs.FuncTrees.{names_in}
 use Rattle.wcv_names.specs.Externs.{is_instance_tree, has_key, conflicts, breaks_rule, entry_names, extern_checks, too_large_with}
-use Rattle.wcv_names.specs.KeySet.{Key_set, HasKeys, key_text_of, keys_in}
+use Rattle.wcv_names.specs.KeySet.{HasKeys, key_text_of, keys_in}
 use Rattle.wcv_names.specs.ResourceNames.{Resource_names}
 use Rattle.wcv_names.specs.Rules.{Entries, follows}
 use Rattle.wcv_names.specs.WholeNames.{is_bad_name, lacks_feature, IsNameFault, NameRefused}
 
-pub form_formed : (t : Text) (f : Form) → Some f ≡ form_of t → is_formed f ≡ true
-form_formed t f h = (sound t f (sym h)).formed
-
 -- whether the key is taken, by the set of keys
-key_there : (s : Key_set) (names : List Text) (n : Text) (f : Form) → HasKeys s names → Some f ≡ form_of n → is_among (key_text_of f) s.keys ≡ conflicts names n
-key_there s names n f h e = h.keys (key_text_of f) ∙ ap (λ (o : Option Form). has_key o (keys_in names)) e
+key_there : (s : List Text) (names : List Text) (n : Text) (f : Form) → HasKeys s names → Some f ≡ form_of n → is_among (key_text_of f) s ≡ conflicts names n
+key_there s names n f h e = h (key_text_of f) ∙ ap (λ (o : Option Form). has_key o (keys_in names)) e
 
 not_is : (a b : Bool) → a ≡ not b → (a ≡ true → b ≡ false) × (a ≡ false → b ≡ true)
 not_is a true h = (λ e. let k : true ≡ false = sym e ∙ h in cc k, λ e. refl)
 not_is a false h = (λ e. refl, λ e. let k : false ≡ true = sym e ∙ h in cc k)
 
-pub key_new : (s : Key_set) (names : List Text) (n : Text) (f : Form) (added : Bool) → HasKeys s names → Some f ≡ form_of n → added ≡ not (is_among (key_text_of f) s.keys) → added ≡ true → conflicts names n ≡ false
-key_new s names n f added h e a k = sym (key_there s names n f h e) ∙ (not_is added (is_among (key_text_of f) s.keys) a).0 k
+pub key_new : (s : List Text) (names : List Text) (n : Text) (f : Form) (added : Bool) → HasKeys s names → Some f ≡ form_of n → added ≡ not (is_among (key_text_of f) s) → added ≡ true → conflicts names n ≡ false
+key_new s names n f added h e a k = sym (key_there s names n f h e) ∙ (not_is added (is_among (key_text_of f) s) a).0 k
 
-pub key_taken : (s : Key_set) (names : List Text) (n : Text) (f : Form) (added : Bool) → HasKeys s names → Some f ≡ form_of n → added ≡ not (is_among (key_text_of f) s.keys) → added ≡ false → conflicts names n ≡ true
-key_taken s names n f added h e a k = sym (key_there s names n f h e) ∙ (not_is added (is_among (key_text_of f) s.keys) a).1 k
+pub key_taken : (s : List Text) (names : List Text) (n : Text) (f : Form) (added : Bool) → HasKeys s names → Some f ≡ form_of n → added ≡ not (is_among (key_text_of f) s) → added ≡ false → conflicts names n ≡ true
+key_taken s names n f added h e a k = sym (key_there s names n f h e) ∙ (not_is added (is_among (key_text_of f) s) a).1 k
 
 -- the names of entries by ids are those of their trees
 pub names_same : (ts : List Type_tree) (es : List (Text × ComponentItem)) → entry_names (entry_trees ts es) ≡ names_in es
@@ -89,5 +85,5 @@ module _ (ts : List Type_tree) (items : List (Text × ComponentItem)) (ns : Reso
   by_memory e k = inl k
 
 -- the names with that of the entry
-pub keys_of_joined : (s : Key_set) (es fs : List (Text × ComponentItem)) (e : Text × ComponentItem) → fs ≡ es ++ e ∷ [] → HasKeys s (names_in es ++ e.0 ∷ []) → HasKeys s (names_in fs)
+pub keys_of_joined : (s : List Text) (es fs : List (Text × ComponentItem)) (e : Text × ComponentItem) → fs ≡ es ++ e ∷ [] → HasKeys s (names_in es ++ e.0 ∷ []) → HasKeys s (names_in fs)
 keys_of_joined s es fs e w h = subst (HasKeys s) (sym (ap names_in w ∙ map-append (λ (x : Text × ComponentItem). x.0) es (e ∷ []))) h

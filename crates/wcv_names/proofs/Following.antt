@@ -1,10 +1,9 @@
 -- Whether entities look as their names say.
-use Rattle.std.proofs.Common.{◌≡◌, ℕ, List, Bool, true, false, ◌&&◌, Option, Some, None, Decides, ◌-◌, arith, refl, sym, ap, ◌∙◌, subst}
+use Rattle.std.proofs.Common.{◌≡◌, List, Bool, true, false, ◌&&◌, Option, Some, None, Decides, refl, sym, ap, ◌∙◌}
 use Rattle.std.proofs.lemmas.Bool.Decides.{same_from_decides}
-use Rattle.std.specs.Prelude.{slice_get, ◌<◌, length}
-use Rattle.wcv_syntax.specs.ExternName.{Access, call, get, set, Form, item, constructor, method, static, interface, is_formed, access_of, getter_of, written}
-use Rattle.wcv_syntax.specs.FormOf.{form_of}
-use Rattle.wcv_syntax.proofs.Formed.{complete}
+use Rattle.std.specs.Prelude.{bytes_eq, option_map}
+use Rattle.std.specs.Map.{lookup}
+use Rattle.wcv_syntax.specs.ExternName.{Access, call, get, set, Form, access_of, getter_of, written}
 use Rattle.wcv_types.specs.Alike.{Alike}
 use Rattle.wcv_types.specs.Arena.{Arena}
 use Rattle.wcv_types.specs.Entities.{entity_tree, entry_trees, EntityStands}
@@ -19,16 +18,14 @@ use Rattle.wcv_types.specs.declared.shapes.ComponentFuncType.{ComponentFuncType}
 use Rattle.wcv_types.specs.declared.shapes.ComponentValType.TheVariants as v
 use Rattle.wcv_types.proofs.Unfolding.{sort_stands}
 use Rattle.wcv_names.specs.Externs.{is_set, is_instance_tree}
-use Rattle.wcv_names.specs.FuncTrees.{IsFunction, func_part, is_instance_id, names_in}
-use Rattle.wcv_names.specs.KeySet.{Key_set, HasKeys, is_getter}
-use Rattle.wcv_names.specs.Places.{position_of}
+use Rattle.wcv_names.specs.FuncTrees.{IsFunction, func_part, is_instance_id}
 use Rattle.wcv_names.specs.ResourceNames.{Resource_names}
-use Rattle.wcv_names.specs.Rules.{Entries, function_fits, is_free, fits, gotten, taken, nearest, by_name, is_given, is_paired_by, is_paired, follows}
+use Rattle.wcv_names.specs.Rules.{Entries, function_fits, is_free, fits, gotten, taken, getter_in, is_given, is_paired_by, is_paired, follows}
 use Rattle.wcv_names.specs.Shapes.{option_tree, param_trees}
 use Rattle.wcv_names.proofs.FuncTrees.{function_looks, function_pairs, other_looks, other_pairs, entity_is_func}
 use Rattle.wcv_names.specs.SameValues.{alike}
 use Rattle.wcv_names.proofs.SameTrees.{alike-decides}
-use Rattle.wcv_names.proofs.Nearest.{Found, found, not_found, found_within}
+use Rattle.wcv_names.proofs.Firsts.{first_tree}
 
 -- ## Getters and setters
 
@@ -42,36 +39,16 @@ is_setter-set call h = cc h
 is_setter-set get h = cc h
 is_setter-set set h = refl
 
--- the getter of a setter is known as one
-known_getter : (f : Form) → is_formed f ≡ true → access_of f ≡ set → is_getter (form_of (written (getter_of f))) ≡ true
-known_getter (item a l) h e = ap is_getter (complete (item get l) h)
-known_getter (method a r f) h e = ap is_getter (complete (method get r f) h)
-known_getter (static a r f) h e = ap is_getter (complete (static get r f) h)
-known_getter (constructor l) h e = cc e
-known_getter (interface n q i w) h e = cc e
+module _ (ts : List Type_tree) (f : Form) (sets : access_of f ≡ set) (es : List (Text × ComponentItem)) where
+  pair_is : (t : Type_tree) (o : Option ComponentItem) → o ≡ lookup (bytes_eq (written (getter_of f))) es → is_paired_by (access_of f) t (getter_in f (entry_trees ts es)) ≡ is_given t (option_map (λ (x : ComponentItem). entity_tree ts x.ty) o)
+  pair_is t o h = ap (λ (a : Access). is_paired_by a t (getter_in f (entry_trees ts es))) sets ∙ ap (is_given t) (first_tree ts (written (getter_of f)) es ∙ ap (option_map (λ (x : ComponentItem). entity_tree ts x.ty)) (sym h))
 
-module _ (ts : List Type_tree) (f : Form) (formed : is_formed f ≡ true) (sets : access_of f ≡ set) (s : Key_set) (es : List (Text × ComponentItem)) (keys : HasKeys s (names_in es)) where
-  pub pair_none : (t : Type_tree) → position_of (written (getter_of f)) s.getters ≡ None → false ≡ is_paired_by (access_of f) t (nearest (written (getter_of f)) (by_name (entry_trees ts es)))
-  pair_none t h =
-      let n = not_found ts (written (getter_of f)) 0 es (sym (keys.getters (written (getter_of f)) (known_getter f formed sets)) ∙ h) in
-      sym (ap (λ (a : Access). is_paired_by a t (nearest (written (getter_of f)) (by_name (entry_trees ts es)))) sets ∙ ap (is_given t) n)
+  pub pair_none : (t : Type_tree) → None ≡ lookup (bytes_eq (written (getter_of f))) es → false ≡ is_paired_by (access_of f) t (getter_in f (entry_trees ts es))
+  pair_none t h = sym (pair_is t None h)
 
-  pub getter_found : (k : ℕ) → position_of (written (getter_of f)) s.getters ≡ Some k → Found ts (written (getter_of f)) 0 es k
-  getter_found k h = found ts (written (getter_of f)) 0 es k (sym (keys.getters (written (getter_of f)) (known_getter f formed sets)) ∙ h)
-
-  pub getter_within : (k : ℕ) → position_of (written (getter_of f)) s.getters ≡ Some k → k < length es
-  getter_within k h = found_within ts (written (getter_of f)) es k (getter_found k h)
-
-  pub pair_some : (k : ℕ) (w g t : Type_tree) (b : Bool) → position_of (written (getter_of f)) s.getters ≡ Some k → ((e : Text × ComponentItem) → slice_get es k ≡ Some e → g ≡ gotten (entity_tree ts e.1.ty)) → w ≡ t → Decides b (Alike w g)
-      → b ≡ is_paired_by (access_of f) t (nearest (written (getter_of f)) (by_name (entry_trees ts es)))
-  pair_some k w g t b h gives takes d =
-      let at = getter_found k h in
-      let same : g ≡ gotten (entity_tree ts at.entry.1.ty) = gives at.entry (zero_less k at.entry at.there) in
-      let there : b ≡ is_given t (Some (entity_tree ts at.entry.1.ty)) = same_from_decides b (alike w g) d (alike-decides w g) ∙ (λ j. alike (takes j) (same j)) in
-      there ∙ sym (ap (λ (a : Access). is_paired_by a t (nearest (written (getter_of f)) (by_name (entry_trees ts es)))) sets ∙ ap (is_given t) at.is)
-    where
-      zero_less : (k : ℕ) (e : Text × ComponentItem) → slice_get es (k - 0) ≡ Some e → slice_get es k ≡ Some e
-      zero_less k e q = let z : k - 0 ≡ k = omega arith in ap (slice_get es) (sym z) ∙ q
+  pub pair_some : (x : ComponentItem) (w g t : Type_tree) (b : Bool) → Some x ≡ lookup (bytes_eq (written (getter_of f))) es → g ≡ gotten (entity_tree ts x.ty) → w ≡ t → Decides b (Alike w g)
+      → b ≡ is_paired_by (access_of f) t (getter_in f (entry_trees ts es))
+  pair_some x w g t b h gives takes d = same_from_decides b (alike w g) d (alike-decides w g) ∙ (λ j. alike (takes j) (gives j)) ∙ sym (pair_is t (Some x) h)
 
 -- ## Entities
 
@@ -83,7 +60,7 @@ module _ (a : Arena) (x : ComponentEntityType) (ns : Resource_names) (es : Entri
       sym (ap (λ (b : Bool). b && is_paired es f t) (function_looks a t s ns f (entity_is_func a x i s e h) ∙ k))
 
   pub func_yes : (i : ComponentFuncTypeId) (s : ComponentFuncType) (b : Bool) → func_part x ≡ Some i → IsFunction a (tree_at a (p.Func i)) s → function_fits ns f s.async_ (param_trees a s.params.items) (option_tree a s.result) ≡ true
-      → b ≡ is_paired_by (access_of f) (taken f (param_trees a s.params.items)) (nearest (written (getter_of f)) (by_name es)) → b ≡ follows ns es f (entity_tree (trees a.nodes) x)
+      → b ≡ is_paired_by (access_of f) (taken f (param_trees a s.params.items)) (getter_in f es) → b ≡ follows ns es f (entity_tree (trees a.nodes) x)
   func_yes i s b e h k d =
       let t : Type_tree = entity_tree (trees a.nodes) x in
       let is = entity_is_func a x i s e h in

@@ -2,7 +2,7 @@
 use Rattle.std.proofs.Common.{Bool, true, false, ◌≡◌, ℕ, List, [], ◌∷◌, Option, Some, None, refl, sym, ap, ◌∙◌, subst}
 use Rattle.std.specs.Prelude.{All}
 use Rattle.std.proofs.lemmas.List.Elements.{All-cons, All-nil, All-head, All-tail}
-use Rattle.wcv_syntax.specs.ExternName.{Form, access_of, getter_of, written}
+use Rattle.wcv_syntax.specs.ExternName.{Form, access_of}
 use Rattle.wcv_types.specs.Arena.{Arena}
 use Rattle.wcv_types.specs.Entities.{entity_tree, EntityStands, SlotStands}
 use Rattle.wcv_types.specs.Standing.{Stands, StandsBefore}
@@ -19,7 +19,7 @@ use Rattle.wcv_types.specs.declared.shapes.ComponentValType.{ComponentValType}
 use Rattle.wcv_types.specs.declared.shapes.ComponentValType.TheVariants as v
 use Rattle.wcv_types.proofs.Unfolding.{all_left, all_right, sort_stands}
 use Rattle.wcv_names.specs.ResourceNames.{Resource_names}
-use Rattle.wcv_names.specs.Rules.{Params, Entries, params, gives, function_fits, is_free, fits, gotten, if_ok, taken, nearest, by_name, is_paired_by, is_paired}
+use Rattle.wcv_names.specs.Rules.{Params, Entries, params, gives, function_fits, is_free, fits, gotten, if_ok, taken, getter_in, is_paired_by, is_paired}
 use Rattle.wcv_names.specs.Shapes.{option_tree, OptionStands, param_trees, ParamsStand, FuncStands, rest_of}
 use Rattle.wcv_names.specs.FuncTrees.{IsFunction, func_part}
 
@@ -83,9 +83,9 @@ pub function_gives : (a : Arena) (t : Type_tree) (s : ComponentFuncType) → IsF
 function_gives a t s h = sym (ap gotten h.1 ∙ ap if_ok (gives_is a s.params.items (option_slot s.result)))
 
 -- what it is for the function to be paired with the getter before it
-pub function_pairs : (a : Arena) (t : Type_tree) (s : ComponentFuncType) (es : Entries) (f : Form) → IsFunction a t s → is_paired es f t ≡ is_paired_by (access_of f) (taken f (param_trees a s.params.items)) (nearest (written (getter_of f)) (by_name es))
+pub function_pairs : (a : Arena) (t : Type_tree) (s : ComponentFuncType) (es : Entries) (f : Form) → IsFunction a t s → is_paired es f t ≡ is_paired_by (access_of f) (taken f (param_trees a s.params.items)) (getter_in f es)
 function_pairs a t s es f h =
-    ap (is_paired es f) h.1 ∙ ap (λ (ps : Params). is_paired_by (access_of f) (taken f ps) (nearest (written (getter_of f)) (by_name es))) (params_are a s.params.items (option_slot s.result))
+    ap (is_paired es f) h.1 ∙ ap (λ (ps : Params). is_paired_by (access_of f) (taken f ps) (getter_in f es)) (params_are a s.params.items (option_slot s.result))
 
 -- ## What is no function
 

@@ -1,4 +1,3 @@
-pub mod Placing
 pub mod ById
 pub mod ByNames
 pub mod Shaping
@@ -8,6 +7,6 @@ pub mod FuncTrees
 pub mod SameItems
 pub mod SameTrees
 pub mod Renamed
-pub mod Nearest
+pub mod Firsts
 pub mod Following
 pub mod Entering

@@ -1,5 +1,5 @@
 -- Why an entry may not join a list of imports or of exports.
-use Rattle.std.specs.Prelude.{ℕ, suc, max, ◌+◌, List, [], ◌∷◌, ◌++◌, map, Bool, true, false, not, Option, Some, None}
+use Rattle.std.specs.Prelude.{suc, max, ◌+◌, List, [], ◌∷◌, ◌++◌, map, Bool, true, false, not, Option, Some, None}
 use Rattle.wcv_core.specs.Checks.{Checks, too_many}
 use Rattle.wcv_core.specs.Label.{is_among}
 use Rattle.wcv_core.specs.declared.error.ErrorKind.TheVariants as kind

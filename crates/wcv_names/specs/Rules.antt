@@ -1,5 +1,6 @@
 -- What a function looks like that a name speaks of: constructors, methods, static functions, getters and setters.
-use Rattle.std.specs.Prelude.{List, [], ◌∷◌, map, Bool, true, false, not, ◌&&◌, Option, Some, None, bytes_eq, codes, if◌then◌else◌}
+use Rattle.std.specs.Prelude.{List, [], ◌∷◌, map, Bool, true, false, not, ◌&&◌, Option, Some, None, bytes_eq, codes}
+use Rattle.std.specs.Map.{lookup}
 use Rattle.wcv_core.specs.Names.{Name}
 use Rattle.wcv_core.specs.Label.{is_among}
 use Rattle.wcv_syntax.specs.ExternName.{Access, call, get, set, Form, item, constructor, method, static, interface, access_of, getter_of, written}
@@ -90,18 +91,13 @@ fits ns f t = is_free f
 abbrev pub Entries : Type 0
 Entries = List (Extern_name × Type_tree)
 
-abbrev pub or_else : {X : Type 0} → Option X → Option X → Option X
-or_else (Some x) o = Some x
-or_else None o = o
-
--- the last entry of that name
-abbrev pub nearest : {X : Type 0} → Text → List (Text × X) → Option X
-nearest t [] = None
-nearest t (e ∷ es) = or_else (nearest t es) (if bytes_eq t e.0 then Some e.1 else None)
-
 -- entries by their names alone
 abbrev pub by_name : Entries → List (Text × Type_tree)
 by_name es = map (λ e. (e.0.name, e.1)) es
+
+-- the first entry with the name of the getter of the same spelling
+abbrev pub getter_in : Form → Entries → Option Type_tree
+getter_in f es = lookup (bytes_eq (written (getter_of f))) (by_name es)
 
 -- the value that a getter gives
 abbrev pub gotten : Type_tree → Type_tree
@@ -128,7 +124,7 @@ is_paired_by set t o = is_given t o
 
 -- a setter takes what the getter of the same spelling gives that stands before it
 abbrev pub is_paired : Entries → Form → Type_tree → Bool
-is_paired es f (node (func i async) ps) = is_paired_by (access_of f) (taken f (params ps)) (nearest (written (getter_of f)) (by_name es))
+is_paired es f (node (func i async) ps) = is_paired_by (access_of f) (taken f (params ps)) (getter_in f es)
 is_paired es f t = true
 
 -- what has the name looks as the name says, also beside the getter before it

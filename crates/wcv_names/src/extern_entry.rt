@@ -93,7 +93,7 @@ impl ComponentNameContext {
             Err(error) => return Err(error),
         };
         self.check_member(&form, text, kind, ty, kind_names, items, types, offset)?;
-        let added = kind_names.insert(text, &form, items.len())?;
+        let added = kind_names.insert_key_of(&form, self.allocator())?;
         if !added {
             return Err(conflict(text, &form, kind, items, self.allocator(), offset));
         }

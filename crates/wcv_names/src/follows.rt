@@ -1,28 +1,28 @@
 // Whether an entity looks as its name says.
-ghost use Rattle.std.specs.Prelude.{◌≡◌, ◌⊎◌, ◌<◌, List, length, slice_get, All, Some, true, false, OnOk, IfOk, IfErr};
+ghost use Rattle.std.specs.Prelude.{◌≡◌, ◌⊎◌, All, true, false, bytes_eq, option_copied, OnOk, IfOk, IfErr};
+ghost use Rattle.std.specs.Map.{lookup};
 ghost use Rattle.wcv_core.specs.Refusal.{error_kind, error_offset};
 ghost use Rattle.wcv_core.specs.declared.error.ErrorKind.TheVariants as kinds;
-ghost use Rattle.wcv_syntax.specs.ExternName.{is_formed, access_of, getter_of, written};
+ghost use Rattle.wcv_syntax.specs.ExternName.{set as sets, access_of, getter_of};
 ghost use Rattle.wcv_syntax.specs.NameViews.{kind_view};
 ghost use Rattle.wcv_types.specs.Entities.{entity_tree, entry_trees, EntityStands, EntryStands};
-ghost use Rattle.wcv_types.specs.Tree.{Text as Name_text};
 ghost use Rattle.wcv_types.specs.Unfold.{trees};
-ghost use Rattle.wcv_types.specs.declared.item_map.ComponentItem.{ComponentItem};
 ghost use Rattle.wcv_names.specs.Externs.{is_set};
 ghost use Rattle.wcv_names.specs.FuncTrees.{names_in};
 ghost use Rattle.wcv_names.specs.KeySet.{HasKeys};
 ghost use Rattle.wcv_names.specs.ResourceNames.{names_of};
 ghost use Rattle.wcv_names.specs.Rules as rules;
-ghost use Rattle.wcv_names.specs.Rules.{nearest, by_name, follows};
-ghost use Rattle.wcv_names.specs.Shapes.{option_tree, OptionStands, param_trees, FuncStands};
+ghost use Rattle.wcv_names.specs.Rules.{follows};
+ghost use Rattle.wcv_names.specs.Shapes.{param_trees, FuncStands};
 
 use crate::context::ComponentNameContext;
 use crate::functions::{func_of, func_part, gotten, taken};
 use crate::name_set::NameSet;
 use crate::wanted::Wanted;
-use wcv_core::{Error, ErrorKind, Excerpt, ExternKind, OutOfMemory};
+use std::alloc::Global;
+use wcv_core::{Error, ErrorKind, Excerpt, ExternKind, OutOfMemory, Text};
 use wcv_syntax::ComponentNameKind;
-use wcv_types::{ComponentEntityType, ComponentFuncType, ComponentValType, ItemMap, TypeAlloc};
+use wcv_types::{ComponentEntityType, ComponentFuncType, ComponentItem, ItemMap, TypeAlloc};
 
 fn is_setter(kind: &ComponentNameKind<'_>) -> bool
     ensures { result ≡ is_set (access_of (kind_view kind.now)) }
@@ -45,17 +45,44 @@ fn is_free(kind: &ComponentNameKind<'_>) -> bool
     }
 }
 
-/// The value that the getter at a position gives.
-fn gotten_at(items: &ItemMap, position: usize, types: &TypeAlloc) -> Option<ComponentValType>
-    requires stand { All (EntryStands types.now) items.now }
-    requires within { position < length items.now }
-    ensures tree { (e : Name_text × ComponentItem) → slice_get items.now position ≡ Some e → option_tree types.now result ≡ rules.gotten (entity_tree (trees types.now.nodes) e.1.ty) }
-    ensures stands { OptionStands types.now result }
+/// The getter of the same spelling.
+fn getter_kind<'a>(kind: &ComponentNameKind<'a>) -> ComponentNameKind<'a>
+    requires { access_of (kind_view kind.now) ≡ sets }
+    ensures { kind_view result ≡ getter_of (kind_view kind.now) }
 {
-    match items.get_index(position) {
-        Some(entry) => gotten(&entry.1.ty, types),
-        None => unreachable!(),
+    match kind {
+        ComponentNameKind::Setter(label) => ComponentNameKind::Getter(label),
+        ComponentNameKind::MethodSetter(resource, function) => {
+            ComponentNameKind::MethodGetter(resource, function)
+        }
+        ComponentNameKind::StaticSetter(resource, function) => {
+            ComponentNameKind::StaticGetter(resource, function)
+        }
+        _ => unreachable!(),
     }
+}
+
+/// The item of the first entry of that name. What stands at the place where the key came is that entry, if it
+/// has the name and there are as many keys as entries; else the list is looked through.
+fn first_item<'a>(
+    name: &Text,
+    key: String,
+    names: &NameSet,
+    items: &'a ItemMap,
+) -> Option<&'a ComponentItem>
+    requires { HasKeys names.now (names_in items.now) }
+    ensures { option_copied result ≡ lookup (bytes_eq name.now) items.now }
+{
+    if names.len() == items.len() {
+        if let Some(place) = names.find(key) {
+            if let Some(entry) = items.get_index(place) {
+                if name.as_str() == entry.0.as_str() {
+                    return Some(&entry.1);
+                }
+            }
+        }
+    }
+    items.get(name)
 }
 
 /// Whether a setter takes what the getter of the same spelling gives that stands before it.
@@ -65,21 +92,22 @@ fn is_paired(
     names: &NameSet,
     items: &ItemMap,
     types: &TypeAlloc,
+    alloc: Global,
 ) -> Result<bool, OutOfMemory>
-    requires formed { is_formed (kind_view kind.now) ≡ true }
     requires func { FuncStands types.now func.now }
     requires items { All (EntryStands types.now) items.now }
     requires keys { HasKeys names.now (names_in items.now) }
-    ensures { IfOk result (λ b. b ≡ rules.is_paired_by (access_of (kind_view kind.now)) (rules.taken (kind_view kind.now) (param_trees types.now func.now.params.items)) (nearest (written (getter_of (kind_view kind.now))) (by_name (entry_trees (trees types.now.nodes) items.now)))) }
+    ensures { IfOk result (λ b. b ≡ rules.is_paired_by (access_of (kind_view kind.now)) (rules.taken (kind_view kind.now) (param_trees types.now func.now.params.items)) (rules.getter_in (kind_view kind.now) (entry_trees (trees types.now.nodes) items.now))) }
 {
     if !is_setter(kind) {
         return Ok(true);
     }
-    let position = match names.getter(kind)? {
-        Some(position) => position,
+    let name = kind.getter_for_setter(alloc)?;
+    let key = getter_kind(kind).key_text(alloc)?;
+    let given = match first_item(&name, key, names, items) {
+        Some(item) => gotten(&item.ty, types),
         None => return Ok(false),
     };
-    let given = gotten_at(items, position, types);
     let wanted = taken(kind, func, types);
     Ok(types.option_type_eq(wanted, given))
 }
@@ -94,7 +122,6 @@ impl ComponentNameContext {
         items: &ItemMap,
         types: &TypeAlloc,
     ) -> Result<bool, OutOfMemory>
-        requires formed { is_formed (kind_view kind.now) ≡ true }
         requires entity { EntityStands types.now ty.now }
         requires items { All (EntryStands types.now) items.now }
         requires keys { HasKeys names.now (names_in items.now) }
@@ -107,7 +134,7 @@ impl ComponentNameContext {
                 if !fits {
                     return Ok(false);
                 }
-                let paired = is_paired(kind, func, names, items, types)?;
+                let paired = is_paired(kind, func, names, items, types, self.allocator())?;
                 Ok(paired)
             }
             None => Ok(is_free(kind)),
@@ -126,7 +153,6 @@ impl ComponentNameContext {
         types: &TypeAlloc,
         offset: u64,
     ) -> Result<(), Error>
-        requires formed { is_formed (kind_view kind.now) ≡ true }
         requires entity { EntityStands types.now ty.now }
         requires items { All (EntryStands types.now) items.now }
         requires keys { HasKeys names.now (names_in items.now) }

@@ -8,7 +8,6 @@ mod extern_entry;
 mod follows;
 mod functions;
 mod name_set;
-mod places;
 mod shapes;
 mod values;
 mod wanted;

@@ -1,85 +1,88 @@
 // The keys of the names of one list.
-ghost use Rattle.std.specs.Prelude.{◌≡◌, [], ◌∷◌, ◌++◌, ℕ, List, Some, not, length, OnOk, IfOk};
+ghost use Rattle.std.specs.Prelude.{◌≡◌, ◌||◌, [], ◌∷◌, ◌++◌, ℕ, List, Some, length, not, bytes_eq, is_some, string_bytes, OnOk, OnErr, IfOk};
+ghost use Rattle.std.specs.List.{IsDistinct};
 ghost use Rattle.wcv_core.specs.Label.{is_among};
-ghost use Rattle.wcv_syntax.specs.ExternName.{set as sets, access_of, getter_of, written};
 ghost use Rattle.wcv_syntax.specs.FormOf.{form_of};
 ghost use Rattle.wcv_syntax.specs.NameViews.{kind_view};
-ghost use Rattle.wcv_names.specs.KeySet.{HasKeys, key_text_of, is_get};
-ghost use Rattle.wcv_names.specs.Places.{position_of};
+ghost use Rattle.wcv_names.specs.KeySet.{HasKeys, key_text_of};
 
-use crate::places::Places;
 use std::alloc::Global;
+use std::collections::BTreeMap;
 use std::marker::Model;
-use wcv_core::{LabelSet, OutOfMemory};
+use wcv_core::{OutOfMemory, mix};
 use wcv_syntax::ComponentNameKind;
 
-/// The keys of the names of one list, each once, and where the getters of the list stand.
+/// The keys of the names of one list, each once. Contracts see it as the list of their texts.
+///
+/// Each text stands behind the number that its bytes give, and has the place at which it came: that is where
+/// its name stands in a list that grew with the set.
 #[derive(Drop)]
 pub struct NameSet {
-    keys: LabelSet,
-    getters: Places,
-    alloc: Global,
+    places: BTreeMap<(u64, String), usize>,
 }
 
 impl Model for NameSet {
-    ghost use Rattle.wcv_names.specs.KeySet.{Key_set};
+    ghost use Rattle.std.specs.Prelude.{ℕ, List};
+    ghost use Rattle.wcv_names.specs.KeySet.{AllNumbered, placed};
 
-    ghost Value = { Key_set };
+    ghost Value = { List (List ℕ) };
 
-    ghost view = { λ s. record { keys = s.keys; getters = s.getters } };
-}
+    ghost view = { λ s. placed s.places.entries };
 
-fn is_getter(kind: &ComponentNameKind<'_>) -> bool
-    ensures { result ≡ is_get (access_of (kind_view kind.now)) }
-{
-    match kind {
-        ComponentNameKind::Getter(_)
-        | ComponentNameKind::MethodGetter(_, _)
-        | ComponentNameKind::StaticGetter(_, _) => true,
-        _ => false,
-    }
+    ghost invariant = { λ s. AllNumbered s.places.entries };
 }
 
 impl NameSet {
     /// No key. It takes no memory.
     pub fn new(alloc: Global) -> NameSet
-        ensures { HasKeys result [] }
+        ensures empty { result ≡ [] }
+        ensures keys { HasKeys result [] }
     {
         NameSet {
-            keys: LabelSet::new(alloc),
-            getters: Places::new(alloc),
-            alloc,
+            places: BTreeMap::new(alloc),
         }
     }
 
-    /// Adds the key of a name of that form, which stands at the position. The answer is false exactly where
-    /// the set has the key already.
-    #[tactic(auto, using(crate::proofs::KeySets::getter_joins, crate::proofs::KeySets::other_joins))]
-    pub fn insert(
-        &mut self,
-        name: &str,
-        kind: &ComponentNameKind<'_>,
-        position: usize,
-    ) -> Result<bool, OutOfMemory>
-        requires { Some (kind_view kind.now) ≡ form_of name.now }
-        ensures added { IfOk result (λ added. added ≡ not (is_among (key_text_of (kind_view kind.now)) self.old.keys)) }
-        ensures joins { OnOk result ((names : List (List ℕ)) → position ≡ length names → HasKeys self.old names → HasKeys self.new (names ++ name.now ∷ [])) }
+    /// How many keys there are. No two of them are one.
+    #[tactic(auto, using(crate::proofs::KeySets::texts_differ, crate::proofs::KeySets::as_many))]
+    pub fn len(&self) -> usize
+        ensures value { result ≡ length self.now }
+        ensures unique { IsDistinct bytes_eq self.now }
     {
-        let key = kind.key_text(self.alloc)?;
-        let added = self.keys.insert_text(key)?;
-        if is_getter(kind) {
-            let text = String::from_str(self.alloc, name)?;
-            self.getters.insert(text, position)?;
-        }
+        self.places.len()
+    }
+
+    /// Adds a key. The answer is false exactly where the set has it already.
+    pub(crate) fn insert(&mut self, key: String) -> Result<bool, OutOfMemory>
+        ensures added { IfOk result (λ added. added ≡ not (is_among (string_bytes key) self.old)) }
+        ensures has { OnOk result ((t : List ℕ) → is_among t self.new ≡ (bytes_eq t (string_bytes key) || is_among t self.old)) }
+        ensures err { OnErr result (self.new ≡ self.old) }
+    {
+        let number = mix(key.as_str());
+        let place = self.places.len();
+        let old = self.places.insert((number, key), place)?;
+        Ok(old.is_none())
+    }
+
+    /// Adds the key of a name of that form. The answer is false exactly where the set has it already.
+    pub(crate) fn insert_key_of(
+        &mut self,
+        kind: &ComponentNameKind<'_>,
+        alloc: Global,
+    ) -> Result<bool, OutOfMemory>
+        ensures added { IfOk result (λ added. added ≡ not (is_among (key_text_of (kind_view kind.now)) self.old)) }
+        ensures joins { OnOk result ((name : List ℕ) (names : List (List ℕ)) → Some (kind_view kind.now) ≡ form_of name → HasKeys self.old names → HasKeys self.new (names ++ name ∷ [])) }
+    {
+        let key = kind.key_text(alloc)?;
+        let added = self.insert(key)?;
         Ok(added)
     }
 
-    /// Where the last getter of the spelling of a setter stands.
-    pub fn getter(&self, kind: &ComponentNameKind<'_>) -> Result<Option<usize>, OutOfMemory>
-        requires { access_of (kind_view kind.now) ≡ sets }
-        ensures { IfOk result (λ place. place ≡ position_of (written (getter_of (kind_view kind.now))) self.now.getters) }
+    /// The place of a key.
+    pub(crate) fn find(&self, key: String) -> Option<usize>
+        ensures { is_some result ≡ is_among (string_bytes key) self.now }
     {
-        let text = kind.getter_text(self.alloc)?;
-        Ok(self.getters.get(text))
+        let number = mix(key.as_str());
+        self.places.get(&(number, key)).copied()
     }
 }

@@ -1,16 +1,11 @@
-use Rattle.std.proofs.Common.{List, ℕ}
-use Rattle.wcv_syntax.specs.ExternName.{Form}
 use Rattle.wcv_syntax.specs.NameViews.{kind_view}
 use Rattle.wcv_types.specs.Entities.{entity_tree}
 use Rattle.wcv_types.specs.Unfold.{trees}
 use Rattle.wcv_names.specs.FuncTrees.{names_in}
 use Rattle.wcv_names.specs.ResourceNames.{names_of}
 use Rattle.wcv_names.specs.WholeNames.{extern_name}
-use Rattle.wcv_names.proofs.Entering.{form_formed, key_new, key_taken, may_join, by_conflict}
+use Rattle.wcv_names.proofs.Entering.{key_new, key_taken, may_join, by_conflict}
 use Rattle.wcv_names.proofs.context.ComponentNameContext.check_extern.Goals as goal
-
-pub check_member-requires-clause-formed : goal.check_member-requires-clause-formed
-check_member-requires-clause-formed c = form_formed c.args.name.now.name (kind_view c.in-Ok.form) c.in-Ok.ensures.kind
 
 pub returns-then-not-added-clause-err : goal.returns-then-not-added-clause-err
 returns-then-not-added-clause-err c =

@@ -1,25 +1,27 @@
-use Rattle.std.proofs.Common.{◌||◌, ℕ, List, Some, cond, bytes_eq, refl, sym, ◌∙◌, ap, subst}
+use Rattle.std.proofs.Common.{rules, ◌||◌, ℕ, List, string_bytes, bytes_eq, not, sym, ◌∙◌, ap, subst}
 use Rattle.wcv_core.specs.Label.{is_among}
-use Rattle.wcv_syntax.specs.NameViews.{kind_view}
-use Rattle.wcv_names.specs.KeySet.{Key_set, HasKeys}
-use Rattle.wcv_names.specs.Places.{position_of}
-use Rattle.wcv_names.proofs.KeySets.{getter_joins, other_joins}
+use Rattle.wcv_core.specs.LabelSet.{Numbered, IsNumbered}
+use Rattle.wcv_names.specs.KeySet.{placed, AllNumbered}
+use Rattle.wcv_names.proofs.KeySets.{is_new, more_texts, stay_numbered}
 use Rattle.wcv_names.proofs.name_set.NameSet.insert.Goals as goal
 
-pub returns-in_ok-insert-clause-joins : goal.returns-in_ok-insert-clause-joins
-returns-in_ok-insert-clause-joins c names p k =
-    let old : Key_set = record { keys = c.self.inside.keys; getters = c.self.inside.getters } in
-    let new : Key_set = record { keys = c.insert_text.new.self; getters = c.insert.new.self } in
-    getter_joins c.args.name.now (kind_view c.args.kind.now) c.args.position old new names c.requires
-    (λ t. c.in_ok-added.ensures.has t ∙ ap (λ (u : List ℕ). bytes_eq t u || is_among t c.self.inside.keys) c.in_ok-key.ensures)
-    (λ t. c.in_ok-insert.ensures.has t ∙ ap (λ (u : List ℕ). cond (bytes_eq t u) (Some c.args.position) (position_of t c.self.inside.getters)) c.in_ok-text.ensures.ok)
-    p (subst (λ (s : Key_set). HasKeys s names) (sym c.self.view_is) k)
+pub invariant_of-self-2 : goal.invariant_of-self-2
+invariant_of-self-2 c =
+    let k : Numbered = (c.mix-number.result, c.args.key) in
+    let own : IsNumbered k = search rules in
+    subst AllNumbered (sym c.in_ok-old.ensures.entries) (stay_numbered k c.len-place.result c.self.inside.places.entries own c.self.invariant)
 
-pub returns-else-is_getter-clause-joins : goal.returns-else-is_getter-clause-joins
-returns-else-is_getter-clause-joins c names p k =
-    let old : Key_set = record { keys = c.self.inside.keys; getters = c.self.inside.getters } in
-    let new : Key_set = record { keys = c.insert_text.new.self; getters = c.self.inside.getters } in
-    other_joins c.args.name.now (kind_view c.args.kind.now) old new names c.requires
-    (sym c.is_getter.ensures ∙ c.if-is_getter.false)
-    (λ t. c.in_ok-added.ensures.has t ∙ ap (λ (u : List ℕ). bytes_eq t u || is_among t c.self.inside.keys) c.in_ok-key.ensures)
-    refl (subst (λ (s : Key_set). HasKeys s names) (sym c.self.view_is) k)
+pub returns-clause-added : goal.returns-clause-added
+returns-clause-added c =
+    let k : Numbered = (c.mix-number.result, c.args.key) in
+    let own : IsNumbered k = search rules in
+    is_new c.is_none.result c.in_ok-old.old k c.self.inside.places.entries own c.self.invariant c.is_none.ensures c.in_ok-old.ensures.old ∙
+    ap (λ (ts : List (List ℕ)). not (is_among (string_bytes c.args.key) ts)) c.self.view_is
+
+pub returns-clause-has : goal.returns-clause-has
+returns-clause-has c t =
+    let k : Numbered = (c.mix-number.result, c.args.key) in
+    let own : IsNumbered k = search rules in
+    ap (λ (es : List (Numbered × ℕ)). is_among t (placed es)) c.in_ok-old.ensures.entries ∙
+    more_texts t k c.len-place.result c.self.inside.places.entries own c.self.invariant ∙
+    ap (λ (ts : List (List ℕ)). bytes_eq t (string_bytes c.args.key) || is_among t ts) c.self.view_is
