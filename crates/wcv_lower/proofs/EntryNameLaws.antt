@@ -1,6 +1,6 @@
 -- The causes of a name are the same under a renaming.
 use Rattle.std.proofs.Common.{◌≡◌, List, [], ◌∷◌, ◌++◌, map, refl, ap, sym, ◌∙◌, Bool, true, false, not, ◌&&◌, cond, Some, None}
-use Rattle.std.specs.Prelude.{Option, bytes_eq, codes, if◌then◌else◌}
+use Rattle.std.specs.Prelude.{Option, bytes_eq, codes}
 use Rattle.std.specs.Map.{lookup}
 use Rattle.std.specs.Option.{option_map}
 use Rattle.std.proofs.lemmas.List.{map-append}
@@ -17,7 +17,7 @@ use Rattle.wcv_types.proofs.Identity.{same_under, identity-same}
 use Rattle.wcv_types.proofs.Lists.{map-map}
 use Rattle.wcv_names.specs.Externs as externs
 use Rattle.wcv_names.specs.ResourceNames.{Reference, Resource_names, same_reference, is_text, is_named_so}
-use Rattle.wcv_names.specs.Rules.{is_own, is_borrow, if_ok, is_left_out, Params, params, gives, takes_self, rest, is_empty, is_single, is_used_so, function_fits, fits, or_else, nearest, by_name, gotten, first_type, taken, is_given, is_paired_by, is_paired, follows}
+use Rattle.wcv_names.specs.Rules.{is_own, is_borrow, if_ok, is_left_out, Params, params, gives, takes_self, rest, is_empty, is_single, is_used_so, function_fits, fits, by_name, getter_in, gotten, first_type, taken, is_given, is_paired_by, is_paired, follows}
 use Rattle.wcv_names.specs.SameValues.{alike}
 use Rattle.wcv_names.specs.WholeNames.{is_bad_name, lacks_feature}
 use Rattle.wcv_names.proofs.Renamed.{alike-renamed}
@@ -129,14 +129,13 @@ module _ (w : Renaming) where
   by_name-same [] = refl
   by_name-same (e ∷ es) = ap (λ (xs : List (Text × Type_tree)). (e.0.name, to e.1) ∷ xs) (by_name-same es)
 
-  nearer : (o : Option Type_tree) (b : Bool) (t : Type_tree) → or_else (option_map to o) (if b then Some (to t) else None) ≡ option_map to (or_else o (if b then Some t else None))
-  nearer (Some u) b t = refl
-  nearer None true t = refl
-  nearer None false t = refl
-
-  nearest-same : (n : Text) (es : List (Text × Type_tree)) → nearest n (listed_to es) ≡ option_map to (nearest n es)
-  nearest-same n [] = refl
-  nearest-same n (e ∷ es) = ap (λ (o : Option Type_tree). or_else o (if bytes_eq n e.0 then Some (to e.1) else None)) (nearest-same n es) ∙ nearer (nearest n es) (bytes_eq n e.0) e.1
+  first-same : (n : Text) (es : List (Text × Type_tree)) → lookup (bytes_eq n) (listed_to es) ≡ option_map to (lookup (bytes_eq n) es)
+  first-same n [] = refl
+  first-same n (e ∷ es) = go (bytes_eq n e.0) (first-same n es)
+    where
+      go : (b : Bool) → lookup (bytes_eq n) (listed_to es) ≡ option_map to (lookup (bytes_eq n) es) → cond b (Some (to e.1)) (lookup (bytes_eq n) (listed_to es)) ≡ option_map to (cond b (Some e.1) (lookup (bytes_eq n) es))
+      go true h = refl
+      go false h = h
 
   gotten-same : (t : Type_tree) → gotten (to t) ≡ to (gotten t)
   gotten-same (node (func i async) ps) = ap if_ok (gives-same ps) ∙ ok (gives ps)
@@ -166,8 +165,8 @@ module _ (w : Renaming) where
   paired es n (node (func i async) ps) =
       let l : Text = written (getter_of n) in
       let a : taken n (params (rename_parts f g ps)) ≡ to (taken n (params ps)) = ap (taken n) (params-same ps) ∙ taken-same n (params ps) in
-      let b : nearest l (by_name (map (rename_entry f g) es)) ≡ option_map to (nearest l (by_name es)) = ap (nearest l) (by_name-same es) ∙ nearest-same l (by_name es) in
-      (λ j. is_paired_by (access_of n) (a j) (b j)) ∙ paired_by (access_of n) (taken n (params ps)) (nearest l (by_name es))
+      let b : getter_in n (map (rename_entry f g) es) ≡ option_map to (getter_in n es) = ap (lookup (bytes_eq l)) (by_name-same es) ∙ first-same l (by_name es) in
+      (λ j. is_paired_by (access_of n) (a j) (b j)) ∙ paired_by (access_of n) (taken n (params ps)) (getter_in n es)
   paired es n _ = refl
 
   -- ## Entries
