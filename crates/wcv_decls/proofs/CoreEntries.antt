@@ -4,7 +4,7 @@ use Rattle.std.specs.Prelude.{reverse}
 use Rattle.std.proofs.lemmas.List.{map-append, reverse-append}
 use Rattle.std.proofs.lemmas.List.Elements.{All-nil, All-cons, All-head, All-tail, All-push}
 use Rattle.wcv_core.specs.CoreGroups.{total}
-use Rattle.wcv_core.specs.CoreWritten.{Core_entry, IsKnown}
+use Rattle.wcv_core.specs.CoreWritten.{IsKnown}
 use Rattle.wcv_types.specs.Arena.{Arena}
 use Rattle.wcv_lower.specs.CoreItems.{core_entries, outer_entries}
 use Rattle.wcv_state.specs.Contents.{Contents, context_of, scope_of, core_entries_of, StateStands}

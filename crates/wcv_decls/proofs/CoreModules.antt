@@ -2,21 +2,23 @@
 use Rattle.std.proofs.Common.{◌≡◌, ℕ, suc, List, [], ◌∷◌, ◌++◌, map, length, refl, sym, ◌∙◌, ap, subst, arith, length-append, All, Option, Some, false, true}
 use Rattle.std.specs.Prelude.{reverse}
 use Rattle.std.specs.Option.{option_map}
-use Rattle.wcv_core.specs.Names.{Name, Place, number}
+use Rattle.wcv_core.specs.Names.{Place, number}
 use Rattle.wcv_core.specs.Refusal.{error_kind}
 use Rattle.wcv_core.specs.declared.error.Error.{Error}
 use Rattle.wcv_core.specs.declared.features.WasmFeatures.{WasmFeatures}
 use Rattle.wcv_syntax.specs.Model.{Module_decl, core_module_item, core_type_item, core_module_type}
-use Rattle.wcv_syntax.specs.ModuleTypes.{Core_import, Core_export, Module_type, Made, empty_module, all_declared, module_checks}
+use Rattle.wcv_syntax.specs.ModuleTypes.{Module_type, Made, empty_module, all_declared, module_checks}
 use Rattle.wcv_types.specs.Arena.{Arena}
 use Rattle.wcv_types.specs.CoreCalls.{with_core}
 use Rattle.wcv_types.specs.Standing.{Stands, Extends, with_node}
-use Rattle.wcv_types.specs.Tree.{core_module, core_item, core_import, core_export, core_imports, core_exports, Parts, none, part, node}
-use Rattle.wcv_types.specs.Unfold.{Type_tree, Slot, at, core_import_slots, core_export_slots, slot_parts, slot_tree, tree_at, tree_of, trees}
+use Rattle.wcv_types.specs.Tree.{module_type}
+use Rattle.wcv_types.specs.Unfold.{at, slot_tree, tree_at, tree_of, trees}
 use Rattle.wcv_types.specs.declared.arena.Node.TheVariants as n
 use Rattle.wcv_types.specs.declared.core_shapes.ModuleType.{ModuleType}
 use Rattle.wcv_types.specs.declared.ids.ComponentCoreModuleTypeId.{ComponentCoreModuleTypeId}
+use Rattle.wcv_types.specs.declared.ids.ComponentCoreTypeId.TheVariants as core_type
 use Rattle.wcv_types.specs.declared.ids.Part.TheVariants as p
+use Rattle.wcv_types.proofs.EntryParts.{module_node}
 use Rattle.wcv_types.proofs.Grown.{extends_push, length-trees}
 use Rattle.wcv_lower.specs.Checks.{Checks, IsFree, counts, no_type_room}
 use Rattle.wcv_lower.specs.Context.{Context, Core_space, core_types, core_modules, push_core}
@@ -31,20 +33,14 @@ use Rattle.wcv_state.specs.Contents.{Contents, Core_id, context_of, scope_of, co
 use Rattle.wcv_state.specs.Promises.{MemoryOrCausedBy, Keeps, Grew}
 use Rattle.wcv_state.proofs.Calls.{caused_more}
 use Rattle.wcv_state.proofs.Keeping.{state_stands, grown_context, same_context, keeps_grown, keeps_trans, keeps_with_core, with_core_context}
-use Rattle.wcv_decls.specs.CoreItems.{StoredModule, JoinedModule, MadeIn, FreeIn, CausedIn}
+use Rattle.wcv_decls.specs.CoreItems.{StoredModule, JoinedModule, core_space, with_module, MadeIn, FreeIn, CausedIn}
 use Rattle.wcv_decls.specs.Stack.{IsOpen, contexts_around}
+use Rattle.wcv_decls.specs.declared.core_module.ModuleSpace.{ModuleSpace}
+use Rattle.wcv_decls.specs.declared.core_module.ModuleSpace.TheVariants as space
 use Rattle.wcv_decls.proofs.CoreEntries.{spaces_same}
 use Rattle.wcv_decls.proofs.Naming.{node_names, node_given, node_name}
 
 -- ## The node
-
-exports_tree : (ts : List Type_tree) (es : List Core_export) → slot_parts ts (core_export_slots es) ≡ core_exports es none
-exports_tree ts [] = refl
-exports_tree ts (e ∷ es) = ap (λ (ps : Parts Name Name). part (core_export e.0) (node (core_item e.1) none) ps) (exports_tree ts es)
-
-entries_tree : (ts : List Type_tree) (is : List Core_import) (es : List Core_export) → slot_parts ts (core_import_slots is ++ core_export_slots es) ≡ core_imports is (core_exports es none)
-entries_tree ts [] es = exports_tree ts es
-entries_tree ts (i ∷ is) es = ap (λ (ps : Parts Name Name). part (core_import i.0.0 i.0.1) (node (core_item i.1) none) ps) (entries_tree ts is es)
 
 pub module_stored : (a b : Arena) (m : Module_type) (t : ModuleType) (i : ComponentCoreModuleTypeId) → t.info.size ≡ m.size → t.imports ≡ m.imports → t.exports ≡ m.exports → b ≡ with_node a (n.Module t) →
     Stands b (p.Module i) → tree_at b (p.Module i) ≡ tree_of (trees a.nodes) (n.Module t) → StoredModule a b m i
@@ -52,17 +48,16 @@ module_stored a b m t i es ei ee eb stands tree =
     let l : length (trees a.nodes) ≡ length a.nodes = length-trees a.nodes in
     record {
       stands = stands;
-      tree = tree ∙ (λ j. node (core_module (number (l j)) (es j)) (slot_parts (trees a.nodes) (core_import_slots (ei j) ++ core_export_slots (ee j)))) ∙
-          ap (λ (ps : Parts Name Name). node (core_module (number (length a.nodes)) m.size) ps) (entries_tree (trees a.nodes) m.imports m.exports);
+      tree = tree ∙ module_node (trees a.nodes) (length (trees a.nodes)) t ∙ λ j. module_type (number (l j)) (es j) (ei j) (ee j);
       nodes = ap (λ (y : Arena). length y.nodes) eb ∙ length-append a.nodes (n.Module t ∷ []) ∙ omega arith;
       core = ap (λ (y : Arena). y.core) eb;
       arena = subst (Extends a) (sym eb) (extends_push a (n.Module t));
     }
 
 -- it joins a space
-pub module_joined : (k : Core_space) (x : Core_id k) (a b : Arena) (s s' : Contents) (m : Module_type) (i : ComponentCoreModuleTypeId) → StateStands a s → s.spent ≡ false → core_slot k x ≡ at (p.Module i) →
+joined_as : (k : Core_space) (x : Core_id k) (a b : Arena) (s s' : Contents) (m : Module_type) (i : ComponentCoreModuleTypeId) → StateStands a s → s.spent ≡ false → core_slot k x ≡ at (p.Module i) →
     StoredModule a b m i → s' ≡ state.with_core k x s → JoinedModule k a b s s' m
-module_joined k x a b s s' m i h live slot w es =
+joined_as k x a b s s' m i h live slot w es =
     let tree : slot_tree (trees b.nodes) (core_slot k x) ≡ module_tree (number (length a.nodes)) m = ap (slot_tree (trees b.nodes)) slot ∙ w.tree in
     let same : context_of b s ≡ context_of a s = same_context a b w.arena w.core s h in
     subst (λ (z : Contents). JoinedModule k a b s z m) (sym es) (record {
@@ -71,6 +66,11 @@ module_joined k x a b s s' m i h live slot w es =
       live = live;
       keeps = keeps_trans a b b s s (state.with_core k x s) (keeps_grown a b s w.arena h) (keeps_with_core b k x s (state_stands a b w.arena s h) (subst (CoreStands b) (sym slot) w.stands));
     })
+
+pub module_joined : (j : ModuleSpace) (a b : Arena) (s s' : Contents) (m : Module_type) (i : ComponentCoreModuleTypeId) → StateStands a s → s.spent ≡ false →
+    StoredModule a b m i → s' ≡ with_module j i s → JoinedModule (core_space j) a b s s' m
+module_joined space.CoreTypes a b s s' m i h live w es = joined_as core_types (core_type.Module i) a b s s' m i h live refl w es
+module_joined space.CoreModules a b s s' m i h live w es = joined_as core_modules i a b s s' m i h live refl w es
 
 -- ## After the declarations that made it
 

@@ -1,16 +1,23 @@
 -- The innermost of the states that are open.
-use Rattle.std.proofs.Common.{◌≡◌, ℕ, zero, suc, ◌<◌, ◌-◌, List, [], ◌∷◌, ◌++◌, length, map, refl, ap, subst, sym, ◌∙◌, arith, slice_set, slice_index_or}
+use Rattle.std.proofs.Common.{◌≡◌, ℕ, zero, suc, ◌<◌, ◌-◌, List, [], ◌∷◌, ◌++◌, length, map, take, refl, ap, subst, sym, ◌∙◌, arith, slice_set, slice_index_or, All, true}
 use Rattle.std.specs.Prelude.{Bool}
+use Rattle.std.proofs.lemmas.List.{map-append, length-map, take_at}
+use Rattle.std.proofs.lemmas.List.Elements.{All-head, All-tail, AllZip-push}
 use Rattle.wcv_core.specs.Names.{Place}
 use Rattle.wcv_core.specs.declared.error.Error.{Error}
 use Rattle.wcv_syntax.specs.Model.{Form, Type_form}
 use Rattle.wcv_types.proofs.Lists.{map-id}
 use Rattle.wcv_types.specs.Arena.{Arena}
+use Rattle.wcv_types.specs.Standing.{Extends}
 use Rattle.wcv_lower.specs.Context.{Context}
-use Rattle.wcv_state.specs.Contents.{Contents, context_of, scope_of}
-use Rattle.wcv_state.specs.Promises.{Keeps, RefusesBy, Grew, Refuses}
+use Rattle.wcv_lower.specs.Growth.{call_checks}
+use Rattle.wcv_state.specs.Contents.{Contents, spent, context_of, scope_of}
+use Rattle.wcv_state.specs.Promises.{MemoryOrCausedBy, Keeps, Grew}
+use Rattle.wcv_state.proofs.Keeping.{keeps_grown, keeps_marked, keeps_trans}
+use Rattle.wcv_decls.specs.CoreItems.{CausedIn}
 use Rattle.wcv_decls.specs.Items.{declare_checks, Declared}
-use Rattle.wcv_decls.specs.Stack.{ChangesLast, DeclaresOn, RefusesOn, GrewOn, RefusedOn, KeepsOn, contexts_around}
+use Rattle.wcv_decls.specs.Stack.{IsOpen, all_spent, DeclaresOn, RefusesOn, GrewOn, RefusedOn, KeepsOn, contexts_around}
+use Rattle.wcv_decls.proofs.CoreEntries.{open_split}
 
 -- the last of a list, before and after it is set
 record LastSet {X : Type 0} (xs : List X) (k : ℕ) (x : X) (y : X) : Type 0 where
@@ -27,54 +34,92 @@ last_set (z ∷ w ∷ xs) (suc k) x y e h s =
     let r = last_set (w ∷ xs) k x y (omega (arith, e)) (omega arith) s in
     record { front = z ∷ r.front; was = ap (λ ws. z ∷ ws) r.was; becomes = ap (λ ws. z ∷ ws) r.becomes }
 
--- the states before and after a call on the innermost
-module _ (ss : List Contents) (k : ℕ) (s s' : Contents) (e : k ≡ length ss - 1) (h : 0 < length ss) (i : s ≡ slice_index_or ss k s) where
-  abbrev Before : List Contents
-  Before = map (λ x. x) ss
+-- ## What each state keeps
 
-  abbrev After : List Contents
-  After = map (λ x. x) (slice_set ss k s')
+module _ (a b : Arena) where
+  -- states that stayed while the arena grew
+  pub around_kept : Extends a b → (ss : List Contents) → All (IsOpen a) ss → KeepsOn a b ss ss
+  around_kept g [] h = tt
+  around_kept g (s ∷ ss) h = (keeps_grown a b s g (All-head (IsOpen a) s ss h).stands, around_kept g ss (All-tail (IsOpen a) s ss h))
 
-  pub declares_on : (limited : Bool) (a a' : Arena) (p : Place) (t : Type_form) → ((outer : List Context) (q : Place) → Declared limited a a' outer q s s' t) → DeclaresOn limited a a' p Before After t
-  declares_on limited a a' p t f =
-      let r = last_set ss k s s' e h i in
-      record {
-        last = record { outer = r.front; old = s; new = s'; was = map-id ss ∙ r.was; becomes = map-id (slice_set ss k s') ∙ r.becomes };
-        declared = f (contexts_around a r.front) p;
-      }
+  -- states of which each was marked after that
+  pub kept_marked : (ss ss' : List Contents) → KeepsOn a b ss ss' → KeepsOn a b ss (all_spent ss')
+  kept_marked [] [] h = tt
+  kept_marked [] (t ∷ ts) h = elim h [ ]
+  kept_marked (s ∷ ss) [] h = elim h [ ]
+  kept_marked (s ∷ ss) (t ∷ ts) h = (keeps_trans a b b s t (spent t) h.0 (keeps_marked b t t true refl h.0.stands), kept_marked ss ts h.1)
 
-  pub refuses_on : (limited : Bool) (a : Arena) (t : Type_form) (offset : ℕ) (x : Error) → ((outer : List Context) → RefusesBy (declare_checks limited (scope_of s outer) (context_of a s) t) s' offset x) →
-      RefusesOn limited a Before After t offset x
-  refuses_on limited a t offset x f =
-      let r = last_set ss k s s' e h i in
-      record {
-        last = record { outer = r.front; old = s; new = s'; was = map-id ss ∙ r.was; becomes = map-id (slice_set ss k s') ∙ r.becomes };
-        refused = f (contexts_around a r.front);
-      }
-
-  pub keeps_on : (a a' : Arena) → Keeps a a' s s' → KeepsOn a a' Before After
-  keeps_on a a' w =
-      let r = last_set ss k s s' e h i in
-      record {
-        last = record { outer = r.front; old = s; new = s'; was = map-id ss ∙ r.was; becomes = map-id (slice_set ss k s') ∙ r.becomes };
-        keeps = w;
-      }
-
--- ## Over the states themselves
+-- ## The states before and after a call on the innermost
 
 module _ (ss : List Contents) (k : ℕ) (s s' : Contents) (e : k ≡ length ss - 1) (h : 0 < length ss) (i : s ≡ slice_index_or ss k s) where
-  abbrev last_changes : ChangesLast ss (slice_set ss k s')
-  last_changes = let r = last_set ss k s s' e h i in record { outer = r.front; old = s; new = s'; was = r.was; becomes = r.becomes }
-
   pub grew_on : (a a' : Arena) (p : Place) (f : Form) → ((outer : List Contents) → ss ≡ outer ++ s ∷ [] → Grew a a' (contexts_around a outer) p s s' f) → GrewOn a a' p ss (slice_set ss k s') f
-  grew_on a a' p f g = record { last = last_changes; grew = g last_changes.outer last_changes.was }
+  grew_on a a' p f g = let r = last_set ss k s s' e h i in record {
+    last = record { outer = r.front; old = s; new = s'; was = r.was; becomes = r.becomes };
+    grew = g r.front r.was;
+  }
 
-  pub refused_on : (a : Arena) (f : Form) (offset : ℕ) (x : Error) → ((outer : List Contents) → ss ≡ outer ++ s ∷ [] → Refuses a (contexts_around a outer) s s' f offset x) → RefusedOn a ss (slice_set ss k s') f offset x
-  refused_on a f offset x g = record { last = last_changes; refused = g last_changes.outer last_changes.was }
+  pub declares_on : (limited : Bool) (a a' : Arena) (p : Place) (t : Type_form) → ((outer : List Context) (q : Place) → Declared limited a a' outer q s s' t) → DeclaresOn limited a a' p ss (slice_set ss k s') t
+  declares_on limited a a' p t f = let r = last_set ss k s s' e h i in record {
+    last = record { outer = r.front; old = s; new = s'; was = r.was; becomes = r.becomes };
+    declared = f (contexts_around a r.front) p;
+  }
 
-  pub kept_on : (a a' : Arena) → Keeps a a' s s' → KeepsOn a a' ss (slice_set ss k s')
-  kept_on a a' w = record { last = last_changes; keeps = w }
+  pub kept_on : (a a' : Arena) → All (IsOpen a) ss → Keeps a a' s s' → KeepsOn a a' ss (slice_set ss k s')
+  kept_on a a' o w =
+      let r = last_set ss k s s' e h i in
+      let around : All (IsOpen a) r.front = (open_split a r.front s (subst (All (IsOpen a)) r.was o)).0 in
+      subst (KeepsOn a a' ss) (sym r.becomes) (subst (λ (xs : List Contents). KeepsOn a a' xs (r.front ++ s' ∷ [])) (sym r.was)
+      (AllZip-push (Keeps a a') r.front r.front s s' (around_kept a a' w.arena r.front around) w))
+
+-- ## All are marked after that
+
+marked : (t : Contents) (front ts : List Contents) → ts ≡ front ++ t ∷ [] → all_spent ts ≡ all_spent front ++ spent t ∷ []
+marked t front ts w = ap all_spent w ∙ map-append spent front (t ∷ [])
+
+-- where the innermost alone became another before
+module _ (ss : List Contents) (k : ℕ) (s s' : Contents) (e : k ≡ length ss - 1) (h : 0 < length ss) (i : s ≡ slice_index_or ss k s) where
+  pub refused_on : (a : Arena) (f : Form) (offset : ℕ) (x : Error) → ((outer : List Contents) → ss ≡ outer ++ s ∷ [] → MemoryOrCausedBy (call_checks (scope_of s (contexts_around a outer)) (context_of a s) f) offset x) →
+      RefusedOn a ss (all_spent (slice_set ss k s')) f offset x
+  refused_on a f offset x g = let r = last_set ss k s s' e h i in record {
+    last = record { outer = r.front; old = s; new = spent s'; was = r.was; becomes = marked s' r.front (slice_set ss k s') r.becomes };
+    refused = (refl, g r.front r.was);
+  }
+
+  pub refuses_on : (limited : Bool) (a : Arena) (t : Type_form) (offset : ℕ) (x : Error) → ((outer : List Context) → MemoryOrCausedBy (declare_checks limited (scope_of s outer) (context_of a s) t) offset x) →
+      RefusesOn limited a ss (all_spent (slice_set ss k s')) t offset x
+  refuses_on limited a t offset x f = let r = last_set ss k s s' e h i in record {
+    last = record { outer = r.front; old = s; new = spent s'; was = r.was; becomes = marked s' r.front (slice_set ss k s') r.becomes };
+    refused = (refl, f (contexts_around a r.front));
+  }
+
+-- where no state became another before
+record Innermost (ss : List Contents) : Type 0 where
+  pub outer : List Contents
+  pub last : Contents
+  pub was : ss ≡ outer ++ last ∷ []
+
+innermost : (ss : List Contents) → 0 < length ss → Innermost ss
+innermost [] h = absurd (omega (arith, h))
+innermost (s ∷ []) h = record { outer = []; last = s; was = refl }
+innermost (s ∷ t ∷ ss) h = let r = innermost (t ∷ ss) (omega arith) in record { outer = s ∷ r.outer; last = r.last; was = ap (λ xs. s ∷ xs) r.was }
+
+pub refused_before : (a : Arena) (ss : List Contents) (f : Form) (offset : ℕ) (x : Error) → 0 < length ss → CausedIn a ss f offset x → RefusedOn a ss (all_spent ss) f offset x
+refused_before a ss f offset x h g = let r = innermost ss h in record {
+  last = record { outer = r.outer; old = r.last; new = spent r.last; was = r.was; becomes = marked r.last r.outer ss r.was };
+  refused = (refl, g r.outer r.last r.was);
+}
+
+-- what a vector holds once the states in it were marked
+pub written_back : (xs ys ts zs : List Contents) (n : ℕ) → n ≡ length xs → ts ≡ xs → ys ≡ all_spent ts → take n (ys ++ zs) ≡ all_spent xs
+written_back xs ys ts zs n l e w =
+    let same : ys ≡ all_spent xs = w ∙ ap all_spent e in
+    let long : n ≡ length ys = l ∙ sym (length-map xs spent) ∙ sym (ap length same) in
+    ap (λ m. take m (ys ++ zs)) long ∙ take_at ys zs (length ys) refl ∙ same
 
 -- what holds of the states holds of them as a trait sees them
 pub both_mapped : (P : List Contents → List Contents → Type 0) (ss ss' : List Contents) → P ss ss' → P (map (λ x. x) ss) (map (λ x. x) ss')
 both_mapped P ss ss' h = subst (P (map (λ x. x) ss)) (sym (map-id ss')) (subst (λ (xs : List Contents). P xs ss') (sym (map-id ss)) h)
+
+-- and what a trait says of the states holds of them
+pub unmapped : (P : List Contents → List Contents → Type 0) (ss ss' : List Contents) → P (map (λ x. x) ss) (map (λ x. x) ss') → P ss ss'
+unmapped P ss ss' h = subst (P ss) (map-id ss') (subst (λ (xs : List Contents). P xs (map (λ x. x) ss')) (map-id ss) h)

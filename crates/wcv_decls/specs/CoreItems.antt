@@ -8,14 +8,17 @@ use Rattle.wcv_types.specs.Arena.{Arena}
 use Rattle.wcv_types.specs.Standing.{Stands, Extends}
 use Rattle.wcv_types.specs.Unfold.{tree_at}
 use Rattle.wcv_types.specs.declared.ids.ComponentCoreModuleTypeId.{ComponentCoreModuleTypeId}
+use Rattle.wcv_types.specs.declared.ids.ComponentCoreTypeId.TheVariants as core_type
 use Rattle.wcv_types.specs.declared.ids.Part.TheVariants as part
 use Rattle.wcv_lower.specs.Checks.{IsFree}
-use Rattle.wcv_lower.specs.Context.{Core_space, push_core}
+use Rattle.wcv_lower.specs.Context.{Core_space, core_types, core_modules, push_core}
 use Rattle.wcv_lower.specs.CoreItems.{module_tree, outer_entries}
 use Rattle.wcv_lower.specs.Growth.{call_checks}
-use Rattle.wcv_state.specs.Contents.{Contents, context_of, scope_of}
+use Rattle.wcv_state.specs.Contents.{Contents, with_core, context_of, scope_of}
 use Rattle.wcv_state.specs.Promises.{MemoryOrCausedBy, Keeps}
 use Rattle.wcv_decls.specs.Stack.{contexts_around}
+use Rattle.wcv_decls.specs.declared.core_module.ModuleSpace.{ModuleSpace}
+use Rattle.wcv_decls.specs.declared.core_module.ModuleSpace.TheVariants as space
 
 -- the type of a module is the arena's next node
 pub record StoredModule (a b : Arena) (m : Module_type) (i : ComponentCoreModuleTypeId) : Type 0 where
@@ -24,6 +27,15 @@ pub record StoredModule (a b : Arena) (m : Module_type) (i : ComponentCoreModule
   pub nodes : length b.nodes ≡ suc (length a.nodes)
   pub core : b.core ≡ a.core
   pub arena : Extends a b
+
+-- the space that it joins, and what the state becomes
+abbrev pub core_space : ModuleSpace → Core_space
+core_space space.CoreTypes = core_types
+core_space space.CoreModules = core_modules
+
+abbrev pub with_module : ModuleSpace → ComponentCoreModuleTypeId → Contents → Contents
+with_module space.CoreTypes i s = with_core core_types (core_type.Module i) s
+with_module space.CoreModules i s = with_core core_modules i s
 
 -- it is, and joined a space of core items
 pub record JoinedModule (k : Core_space) (a b : Arena) (s s' : Contents) (m : Module_type) : Type 0 where

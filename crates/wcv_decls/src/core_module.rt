@@ -11,10 +11,10 @@ ghost use Rattle.wcv_syntax.specs.View.{code_decl_view};
 ghost use Rattle.wcv_types.specs.CoreCalls.{with_core};
 ghost use Rattle.wcv_types.specs.Standing.{Extends, entity_sizes};
 ghost use Rattle.wcv_lower.specs.Checks.{IsFree};
-ghost use Rattle.wcv_lower.specs.Context.{Context, core_types, core_modules};
-ghost use Rattle.wcv_state.specs.Contents.{StateStands};
+ghost use Rattle.wcv_lower.specs.Context.{Context};
+ghost use Rattle.wcv_state.specs.Contents.{StateStands, spent};
 ghost use Rattle.wcv_state.specs.Promises.{MemoryOrCausedBy, Keeps, Grew, Refuses};
-ghost use Rattle.wcv_decls.specs.CoreItems.{StoredModule, JoinedModule};
+ghost use Rattle.wcv_decls.specs.CoreItems.{StoredModule, JoinedModule, core_space, with_module};
 
 use wcv_core::{Error, ErrorKind, OutOfMemory};
 use wcv_module::{Module, NoOuter};
@@ -37,36 +37,33 @@ fn store_module(
     Ok(id)
 }
 
-/// The type of a module joins the core types. After an error the state is spent.
-pub fn join_core_types(
-    made: Module,
+/// Where the type of a module joins a state: as a core type, or as a core module of that type.
+#[derive(Clone, Copy)]
+pub enum ModuleSpace {
+    CoreTypes,
+    CoreModules,
+}
+
+/// The module type of that id joins a space of the state.
+fn push_module(
+    id: ComponentCoreModuleTypeId,
+    space: ModuleSpace,
     state: &mut ComponentState,
-    types: &mut TypeAlloc,
-) -> Result<(), Error>
+) -> Result<(), OutOfMemory>
     requires live { state.old.spent ≡ false }
-    requires stands { StateStands types.old state.old }
-    requires within { All (IsEntityWithin (total types.old.core)) (module_items made) }
-    requires size { made.size ≡ suc (entity_sizes types.old.core (module_items made)) }
-    ensures ok { OnOk result (JoinedModule core_types types.old types.new state.old state.new made) }
-    ensures spent { OnErr result (state.new.spent ≡ true) }
-    ensures err { IfErr result (λ e. error_kind e ≡ ErrorKind.OutOfMemory) }
-    ensures keeps { Keeps types.old types.new state.old state.new }
+    ensures ok { OnOk result (state.new ≡ with_module space id state.old) }
+    ensures err { OnErr result (state.new ≡ spent state.old) }
 {
-    match store_module(made, types) {
-        Ok(id) => {
-            state.push_core_type(ComponentCoreTypeId::Module(id))?;
-            Ok(())
-        }
-        Err(err) => {
-            state.mark_spent();
-            Err(Error::from(err))
-        }
+    match space {
+        ModuleSpace::CoreTypes => state.push_core_type(ComponentCoreTypeId::Module(id)),
+        ModuleSpace::CoreModules => state.push_core_module(id),
     }
 }
 
-/// One more core module, of the type of that module. After an error the state is spent.
-pub fn join_core_modules(
+/// The type of a module joins the arena and a space of the state. After an error the state is spent.
+pub fn join_module(
     made: Module,
+    space: ModuleSpace,
     state: &mut ComponentState,
     types: &mut TypeAlloc,
 ) -> Result<(), Error>
@@ -74,14 +71,14 @@ pub fn join_core_modules(
     requires stands { StateStands types.old state.old }
     requires within { All (IsEntityWithin (total types.old.core)) (module_items made) }
     requires size { made.size ≡ suc (entity_sizes types.old.core (module_items made)) }
-    ensures ok { OnOk result (JoinedModule core_modules types.old types.new state.old state.new made) }
+    ensures ok { OnOk result (JoinedModule (core_space space) types.old types.new state.old state.new made) }
     ensures spent { OnErr result (state.new.spent ≡ true) }
     ensures err { IfErr result (λ e. error_kind e ≡ ErrorKind.OutOfMemory) }
     ensures keeps { Keeps types.old types.new state.old state.new }
 {
     match store_module(made, types) {
         Ok(id) => {
-            state.push_core_module(id)?;
+            push_module(id, space, state)?;
             Ok(())
         }
         Err(err) => {
@@ -125,7 +122,7 @@ pub fn add_core_module_to(
     ensures keeps { Keeps types.old types.new state.old state.new }
 {
     match declare_module(decls, state, types, offset) {
-        Ok(made) => match join_core_modules(made, state, types) {
+        Ok(made) => match join_module(made, ModuleSpace::CoreModules, state, types) {
             Ok(()) => Ok(()),
             Err(err) => Err(err),
         },

@@ -11,11 +11,12 @@ ghost use Rattle.wcv_types.specs.Standing.{Extends, entity_sizes};
 ghost use Rattle.wcv_lower.specs.Context.{Context};
 ghost use Rattle.wcv_lower.specs.Growth.{call_checks};
 ghost use Rattle.wcv_state.specs.Contents.{Contents, context_of, scope_of, StateStands};
-ghost use Rattle.wcv_state.specs.Promises.{MemoryOrCausedBy, Keeps, Grew, Refuses};
+ghost use Rattle.wcv_state.specs.Promises.{MemoryOrCausedBy, Keeps, Grew};
 ghost use Rattle.wcv_decls.specs.CoreItems.{MadeIn, FreeIn, CausedIn};
 ghost use Rattle.wcv_decls.specs.Stack.{IsOpen, GrewOn, RefusedOn, KeepsOn};
 
-use crate::core_module::join_core_types;
+use crate::core_module::{ModuleSpace, join_module};
+use crate::marks::mark_all_spent;
 use crate::room::{check_core_types, check_types};
 use wcv_core::{Error, RecGroup};
 use wcv_module::{Enclosing, Module};
@@ -40,28 +41,6 @@ fn add_group(
     match types.intern_rec_group(state, rec, offset) {
         Ok(()) => Ok(()),
         Err(err) => Err(err),
-    }
-}
-
-/// A group of core types joins their space. After an error the state is spent.
-fn add_group_to(
-    rec: RecGroup,
-    state: &mut ComponentState,
-    types: &mut TypeAlloc,
-    offset: u64,
-) -> Result<(), Error>
-    requires live { state.old.spent ≡ false }
-    requires stands { StateStands types.old state.old }
-    ensures ok { OnOk result ((outer : List Context) (p : Place) → Grew types.old types.new outer p state.old state.new (core_type_item (core_rec (rec_view rec)))) }
-    ensures err { IfErr result (λ e. (outer : List Context) → Refuses types.old outer state.old state.new (core_type_item (core_rec (rec_view rec))) offset e) }
-    ensures keeps { Keeps types.old types.new state.old state.new }
-{
-    match add_group(rec, state, types, offset) {
-        Ok(()) => Ok(()),
-        Err(error) => {
-            state.mark_spent();
-            Err(error)
-        }
     }
 }
 
@@ -101,7 +80,7 @@ fn declare_type(
     }
 }
 
-/// A group of core types joins those of the innermost state.
+/// A group of core types joins those of the innermost state. After an error the states are spent.
 fn add_group_on(
     rec: RecGroup,
     components: &mut [ComponentState],
@@ -115,10 +94,16 @@ fn add_group_on(
     ensures keeps { KeepsOn types.old types.new components.old components.new }
 {
     let last = components.len() - 1;
-    add_group_to(rec, &mut components[last], types, offset)
+    match add_group(rec, &mut components[last], types, offset) {
+        Ok(()) => Ok(()),
+        Err(error) => {
+            mark_all_spent(components);
+            Err(error)
+        }
+    }
 }
 
-/// A module type joins the core types of the innermost state.
+/// A module type joins the core types of the innermost state. After an error the states are spent.
 fn add_module_type_on(
     decls: Vec<ModuleTypeDeclaration>,
     components: &mut [ComponentState],
@@ -133,19 +118,22 @@ fn add_module_type_on(
 {
     let last = components.len() - 1;
     match declare_type(decls, components, types, offset) {
-        Ok(made) => match join_core_types(made, &mut components[last], types) {
+        Ok(made) => match join_module(made, ModuleSpace::CoreTypes, &mut components[last], types) {
             Ok(()) => Ok(()),
-            Err(error) => Err(error),
+            Err(error) => {
+                mark_all_spent(components);
+                Err(error)
+            }
         },
         Err(error) => {
-            components[last].mark_spent();
+            mark_all_spent(components);
             Err(error)
         }
     }
 }
 
-/// A core type item joins the core types of the innermost state. After an error that state is spent.
-pub fn add_core_type_to(
+/// A core type item joins the core types of the innermost state. After an error the states are spent.
+pub fn add_core_type_on(
     components: &mut [ComponentState],
     ty: CoreType,
     types: &mut TypeAlloc,

@@ -14,6 +14,7 @@ mod func;
 mod limits;
 mod lists;
 mod lower;
+mod marks;
 mod names;
 mod number;
 mod resource;
@@ -26,7 +27,6 @@ mod values;
 
 pub use core_limits::{check_core_limits, check_core_module_limits};
 pub use core_module::add_core_module_to;
-pub use core_type::add_core_type_to;
 pub use declare::add_type_to;
 pub use limits::check_limits;
 pub use stack::Declare;

@@ -3,20 +3,22 @@ ghost use Rattle.std.specs.Prelude.{◌≡◌, ◌<◌, ◌≤◌, suc, true, le
 ghost use Rattle.wcv_core.specs.CoreGroups.{total};
 ghost use Rattle.wcv_core.specs.CoreSizes.{IsEntityWithin};
 ghost use Rattle.wcv_core.specs.Names.{Place};
-ghost use Rattle.wcv_core.specs.Refusal.{error_kind};
 ghost use Rattle.wcv_module.specs.Kept.{module_items};
 ghost use Rattle.wcv_syntax.specs.Model.{core_type_item};
+ghost use Rattle.wcv_syntax.specs.ModuleTypes.{whole_checks};
 ghost use Rattle.wcv_syntax.specs.View.{type_view, core_type_view};
 ghost use Rattle.wcv_types.specs.Standing.{entity_sizes};
+ghost use Rattle.wcv_lower.specs.Checks.{IsFree};
 ghost use Rattle.wcv_lower.specs.Context.{core_modules};
-ghost use Rattle.wcv_state.specs.Promises.{Keeps};
+ghost use Rattle.wcv_state.specs.Promises.{MemoryOrCausedBy, Keeps};
 ghost use Rattle.wcv_decls.specs.CoreItems.{JoinedModule};
 ghost use Rattle.wcv_decls.specs.Stack.{IsOpen, DeclaresOn, RefusesOn, GrewOn, RefusedOn, KeepsOn};
 
-use crate::core_module::join_core_modules;
-use crate::core_type::add_core_type_to;
+use crate::core_module::{ModuleSpace, join_module};
+use crate::core_type::add_core_type_on;
 use crate::declare::add_type_to;
-use wcv_core::{Error, ErrorKind};
+use crate::marks::mark_all_spent;
+use wcv_core::Error;
 use wcv_module::Module;
 use wcv_state::ComponentState;
 use wcv_syntax::{ComponentType, CoreType};
@@ -29,7 +31,7 @@ pub trait Declare: Sized {
     /// What the state holds.
     ghost contents: { Self → Contents };
 
-    /// A type item joins the types of the innermost state. After an error that state is spent.
+    /// A type item joins the types of the innermost state. After an error the states are spent.
     fn add_type(
         components: &mut Vec<Self>,
         ty: ComponentType,
@@ -43,7 +45,7 @@ pub trait Declare: Sized {
         ensures err { IfErr result (λ e. RefusesOn check_limit types.old (map contents components.old.items) (map contents components.new.items) (type_view ty) offset e) }
         ensures keeps { KeepsOn types.old types.new (map contents components.old.items) (map contents components.new.items) };
 
-    /// A core type item joins the core types of the innermost state. After an error that state is spent.
+    /// A core type item joins the core types of the innermost state. After an error the states are spent.
     fn add_core_type(
         components: &mut [Self],
         ty: CoreType,
@@ -56,7 +58,8 @@ pub trait Declare: Sized {
         ensures err { IfErr result (RefusedOn types.old (map contents components.old) (map contents components.new) (core_type_item (core_type_view ty)) offset) }
         ensures keeps { KeepsOn types.old types.new (map contents components.old) (map contents components.new) };
 
-    /// One more core module, of the type of that module. After an error the state is spent.
+    /// One more core module, of the type of that module, in which no pair of names is imported twice. After an
+    /// error the state is spent.
     fn add_core_module(
         &mut self,
         made: Module,
@@ -67,8 +70,9 @@ pub trait Declare: Sized {
         requires within { All (IsEntityWithin (total types.old.core)) (module_items made) }
         requires size { made.size ≡ suc (entity_sizes types.old.core (module_items made)) }
         ensures ok { OnOk result (JoinedModule core_modules types.old types.new (contents self.old) (contents self.new) made) }
+        ensures free { OnOk result (IsFree (whole_checks made)) }
         ensures spent { OnErr result ((contents self.new).spent ≡ true) }
-        ensures err { IfErr result (λ e. error_kind e ≡ ErrorKind.OutOfMemory) }
+        ensures err { IfErr result (MemoryOrCausedBy (whole_checks made) offset) }
         ensures keeps { Keeps types.old types.new (contents self.old) (contents self.new) };
 }
 
@@ -85,7 +89,13 @@ impl Declare for ComponentState {
         check_limit: bool,
     ) -> Result<(), Error> {
         let last = components.len() - 1;
-        add_type_to(ty, &mut components[last], types, offset, check_limit)
+        match add_type_to(ty, &mut components[last], types, offset, check_limit) {
+            Ok(()) => Ok(()),
+            Err(error) => {
+                mark_all_spent(components.as_mut_slice());
+                Err(error)
+            }
+        }
     }
 
     fn add_core_type(
@@ -94,7 +104,7 @@ impl Declare for ComponentState {
         types: &mut TypeAlloc,
         offset: u64,
     ) -> Result<(), Error> {
-        add_core_type_to(components, ty, types, offset)
+        add_core_type_on(components, ty, types, offset)
     }
 
     fn add_core_module(
@@ -103,7 +113,12 @@ impl Declare for ComponentState {
         types: &mut TypeAlloc,
         offset: u64,
     ) -> Result<(), Error> {
-        let _ = offset;
-        join_core_modules(made, self, types)
+        match made.check_whole(offset) {
+            Ok(()) => join_module(made, ModuleSpace::CoreModules, self, types),
+            Err(error) => {
+                self.mark_spent();
+                Err(error)
+            }
+        }
     }
 }

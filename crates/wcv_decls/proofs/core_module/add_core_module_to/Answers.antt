@@ -6,12 +6,12 @@ use Rattle.wcv_state.proofs.Keeping.{state_stands, keeps_grown_marked}
 use Rattle.wcv_decls.proofs.CoreModules.{core_module_grew}
 use Rattle.wcv_decls.proofs.core_module.add_core_module_to.Goals as goal
 
-pub join_core_modules-requires-clause-stands : goal.join_core_modules-requires-clause-stands
-join_core_modules-requires-clause-stands c = state_stands c.args.types.now c.declare_module.new.types c.in-Ok.ensures.grown c.args.state.now c.requires.stands
+pub join_module-requires-clause-stands : goal.join_module-requires-clause-stands
+join_module-requires-clause-stands c = state_stands c.args.types.now c.declare_module.new.types c.in-Ok.ensures.grown c.args.state.now c.requires.stands
 
-pub returns-in-Ok-join_core_modules-clause-ok : goal.returns-in-Ok-join_core_modules-clause-ok
-returns-in-Ok-join_core_modules-clause-ok c =
-    core_module_grew c.args.types.now c.declare_module.new.types c.join_core_modules.new.types c.args.state.now c.join_core_modules.new.state c.in-Ok.made c.requires.stands c.in-Ok.ensures.rest c.in-Ok.ensures.grown c.in-Ok-join_core_modules.ensures.ok
+pub returns-in-Ok-join_module-clause-ok : goal.returns-in-Ok-join_module-clause-ok
+returns-in-Ok-join_module-clause-ok c =
+    core_module_grew c.args.types.now c.declare_module.new.types c.join_module.new.types c.args.state.now c.join_module.new.state c.in-Ok.made c.requires.stands c.in-Ok.ensures.rest c.in-Ok.ensures.grown c.in-Ok-join_module.ensures.ok
     (map code_decl_view c.args.decls.items) c.in-Ok.ensures.ok c.in-Ok.ensures.free
 
 pub returns-in-Err-clause-keeps : goal.returns-in-Err-clause-keeps

@@ -1,35 +1,45 @@
-use Rattle.std.proofs.Common.{◌≡◌, ℕ, ◌-◌, length, refl, slice_index_or}
-use Rattle.std.proofs.lemmas.Result.{on_ok_weaker, IfErr-weaker}
-use Rattle.wcv_syntax.specs.Model.{core_type_item, core_rec}
+use Rattle.std.proofs.Common.{◌≡◌, ℕ, ◌-◌, List, length, refl, sym, subst, slice_index_or, slice_set}
+use Rattle.wcv_syntax.specs.Model.{Form, core_type_item, core_rec}
 use Rattle.wcv_syntax.specs.View.{rec_view}
-use Rattle.wcv_decls.specs.Stack.{contexts_around}
-use Rattle.wcv_decls.proofs.Stacks.{grew_on, refused_on, kept_on}
+use Rattle.wcv_state.specs.Contents.{Contents}
+use Rattle.wcv_decls.specs.Stack.{RefusedOn, KeepsOn, contexts_around}
+use Rattle.wcv_decls.proofs.Stacks.{grew_on, refused_on, kept_on, kept_marked}
 use Rattle.wcv_decls.proofs.core_type.add_group_on.Goals as goal
 
-pub returns-clause-ok : goal.returns-clause-ok
-returns-clause-ok c =
+pub returns-in-Ok-clause-ok : goal.returns-in-Ok-clause-ok
+returns-in-Ok-clause-ok c =
     let ss = c.args.components.now in
     let r = c.index-components-last.result in
     let k : ℕ = length ss - 1 in
     let same : slice_index_or ss k r ≡ slice_index_or ss k (slice_index_or ss k r) = cc (c.index-components-last.is) in
-    on_ok_weaker c.add_group_to.result
-    (λ f p. grew_on ss k (slice_index_or ss k r) c.add_group_to.new.state refl c.requires.some same c.args.types.now c.add_group_to.new.types p (core_type_item (core_rec (rec_view c.args.rec))) (λ outer e. f (contexts_around c.args.types.now outer) p))
-    c.add_group_to.ensures.ok
+    λ p. grew_on ss k (slice_index_or ss k r) c.add_group.new.state refl c.requires.some same c.args.types.now c.add_group.new.types p (core_type_item (core_rec (rec_view c.args.rec))) (λ outer e. c.in-Ok.ensures.ok (contexts_around c.args.types.now outer) p)
 
-pub returns-clause-err : goal.returns-clause-err
-returns-clause-err c =
+pub returns-in-Ok-clause-keeps : goal.returns-in-Ok-clause-keeps
+returns-in-Ok-clause-keeps c =
     let ss = c.args.components.now in
     let r = c.index-components-last.result in
     let k : ℕ = length ss - 1 in
     let same : slice_index_or ss k r ≡ slice_index_or ss k (slice_index_or ss k r) = cc (c.index-components-last.is) in
-    IfErr-weaker c.add_group_to.result _ _
-    (λ x f. refused_on ss k (slice_index_or ss k r) c.add_group_to.new.state refl c.requires.some same c.args.types.now (core_type_item (core_rec (rec_view c.args.rec))) c.args.offset x (λ outer e. f (contexts_around c.args.types.now outer)))
-    c.add_group_to.ensures.err
+    kept_on ss k (slice_index_or ss k r) c.add_group.new.state refl c.requires.some same c.args.types.now c.add_group.new.types c.requires.open c.add_group.ensures.keeps
 
-pub returns-clause-keeps : goal.returns-clause-keeps
-returns-clause-keeps c =
+pub returns-in-Err-clause-err : goal.returns-in-Err-clause-err
+returns-in-Err-clause-err c =
+    let a = c.args.types.now in
+    let ss = c.args.components.now in
+    let r = c.index-components-last.result in
+    let k : ℕ = length ss - 1 in
+    let f : Form = core_type_item (core_rec (rec_view c.args.rec)) in
+    let same : slice_index_or ss k r ≡ slice_index_or ss k (slice_index_or ss k r) = cc (c.index-components-last.is) in
+    subst (λ (ts : List Contents). RefusedOn a ss ts f c.args.offset c.in-Err.error) (sym c.mark_all_spent.ensures)
+    (refused_on ss k (slice_index_or ss k r) c.add_group.new.state refl c.requires.some same a f c.args.offset c.in-Err.error (λ outer e. c.in-Err.ensures.err (contexts_around a outer)))
+
+pub returns-in-Err-clause-keeps : goal.returns-in-Err-clause-keeps
+returns-in-Err-clause-keeps c =
+    let a = c.args.types.now in
+    let b = c.add_group.new.types in
     let ss = c.args.components.now in
     let r = c.index-components-last.result in
     let k : ℕ = length ss - 1 in
     let same : slice_index_or ss k r ≡ slice_index_or ss k (slice_index_or ss k r) = cc (c.index-components-last.is) in
-    kept_on ss k (slice_index_or ss k r) c.add_group_to.new.state refl c.requires.some same c.args.types.now c.add_group_to.new.types c.add_group_to.ensures.keeps
+    subst (KeepsOn a b ss) (sym c.mark_all_spent.ensures)
+    (kept_marked a b ss (slice_set ss k c.add_group.new.state) (kept_on ss k (slice_index_or ss k r) c.add_group.new.state refl c.requires.some same a b c.requires.open c.add_group.ensures.keeps))
