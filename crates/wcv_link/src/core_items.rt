@@ -10,9 +10,7 @@ ghost use Rattle.wcv_link.specs.Progress.{IsReady, AcceptsItem, RefusesItem};
 
 use std::slice::from_mut;
 use wcv_core::Error;
-use wcv_decls::{
-    add_core_module_to, add_core_type_to, check_core_limits, check_core_module_limits,
-};
+use wcv_decls::{Declare, add_core_module_to, check_core_limits, check_core_module_limits};
 use wcv_state::ComponentState;
 use wcv_syntax::{CoreType, ModuleDecl};
 use wcv_types::TypeAlloc;
@@ -29,7 +27,7 @@ fn add_core_type(
     ensures err { IfErr result (MemoryOrCausedBy (call_checks (scope_of state.old []) (context_of types.old state.old) (core_type_item (core_type_view ty))) offset) }
     ensures keeps { Keeps types.old types.new state.old state.new }
 {
-    add_core_type_to(from_mut(state), ty, types, offset)
+    ComponentState::add_core_type(from_mut(state), ty, types, offset)
 }
 
 /// Reads a core type: a group of types, or the type of a module.
