@@ -84,6 +84,14 @@ fn refusal_text(alloc: Global, error: &Error) -> Result<String, AllocError>
     Ok(text)
 }
 
+/// The report of a valid root, which is read no more.
+fn report_of(alloc: Global, accepted: Accepted) -> Result<String, AllocError>
+    requires { (features : WasmFeatures) × ((is : Items) × Accepts features is accepted) }
+    ensures { IfOk result (λ text. string_bytes text ≡ report (lengths_of_spaces accepted.state.spaces) ++ type_text accepted.types.core (root_tree accepted.types accepted.ty)) }
+{
+    report_text(alloc, &accepted)
+}
+
 /// The status and the text that are due with a listing.
 fn answer_listing(alloc: Global, listing: Listing) -> Result<(Status, String), AllocError>
     ensures kind { IfOk result (λ answer. IsOfListing answer.0) }
@@ -92,7 +100,7 @@ fn answer_listing(alloc: Global, listing: Listing) -> Result<(Status, String), A
 {
     match validate_sections(alloc, listing.features, listing.items, listing.end) {
         Ok(accepted) => {
-            let text = report_text(alloc, &accepted)?;
+            let text = report_of(alloc, accepted)?;
             Ok((Status::Done, text))
         }
         Err(error) => {
