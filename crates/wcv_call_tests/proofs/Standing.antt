@@ -30,6 +30,10 @@ one_more_stands a es later n x e h k = subst (All (EntryStands a)) (sym e) (All-
 pub one_item_more_stands : (a : Arena) (es later : List (Text × ComponentItem)) (e : Text × ComponentItem) → later ≡ es ++ e ∷ [] → EntityStands a e.1.ty → All (EntryStands a) es → All (EntryStands a) later
 one_item_more_stands a es later e q h k = subst (All (EntryStands a)) (sym q) (All-push (EntryStands a) es e k h)
 
+-- no type
+pub no_part_stands : (a : Arena) (ps : List Part) → ps ≡ [] → All (Stands a) ps
+no_part_stands a ps e = subst (All (Stands a)) (sym e) (All-nil (Stands a))
+
 -- types that stood stand in an arena that keeps them
 pub all_kept : (a b : Arena) (ps : List Part) → KeepsTrees a b → All (Stands a) ps → All (Stands b) ps
 all_kept a b ps k h = all-both (Stands a) (Stands a) (Stands b) (λ p i j. k.stands p i) ps h h

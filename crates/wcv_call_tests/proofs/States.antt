@@ -1,7 +1,7 @@
 -- A state with nothing in it, and one that is alone.
-use Rattle.std.proofs.Common.{◌≡◌, ℕ, ◌<◌, sym, subst, refl, ap, ◌∙◌, arith, length-append}
+use Rattle.std.proofs.Common.{◌≡◌, sym, subst, refl, ap, ◌∙◌, arith, length-append}
 use Rattle.std.specs.Prelude.{List, [], ◌∷◌, ◌++◌, length, slice_set, All, false}
-use Rattle.std.proofs.lemmas.List.Elements.{All-nil, All-cons, All-head}
+use Rattle.std.proofs.lemmas.List.Elements.{All-nil, All-cons}
 use Rattle.wcv_core.specs.Names.{Place}
 use Rattle.wcv_core.specs.declared.features.WasmFeatures.{WasmFeatures}
 use Rattle.wcv_syntax.specs.Model.{Form}
@@ -13,7 +13,8 @@ use Rattle.wcv_types.specs.declared.shapes.ComponentEntityType.TheVariants as en
 use Rattle.wcv_types.specs.declared.ids.AliasableResourceId.{AliasableResourceId}
 use Rattle.wcv_state.specs.Contents.{Contents, empty_state, StateStands}
 use Rattle.wcv_state.specs.Looking.{IsUnnamedIn, has_name, named_ids}
-use Rattle.wcv_state.specs.Promises.{IntroducesNew}
+use Rattle.std.proofs.lemmas.List.Elements.{length_all_zip}
+use Rattle.wcv_state.specs.Promises.{IntroducesNew, Keeps}
 use Rattle.wcv_state.specs.declared.kind.ComponentKind.{ComponentKind}
 use Rattle.wcv_state.proofs.Keeping.{empty_stands}
 use Rattle.wcv_decls.specs.Stack.{IsOpen, GrewOn, KeepsOn}
@@ -31,19 +32,18 @@ alone_behind : (outer ss : List Contents) (s : Contents) → outer ≡ [] → ss
 alone_behind outer ss s e h = subst (λ (os : List Contents). ss ≡ os ++ s ∷ []) e h
 
 -- the one state after a call on the innermost
-after_call : (a a' : Arena) (ss later : List Contents) → length ss ≡ 1 → (k : KeepsOn a a' ss later) → later ≡ k.last.new ∷ []
-after_call a a' ss later h k = alone_behind k.last.outer later k.last.new (none_around k.last.outer k.last.old (ap length (sym k.last.was) ∙ h)) k.last.becomes
-
 pub stays_one : (a a' : Arena) (ss later : List Contents) → length ss ≡ 1 → KeepsOn a a' ss later → length later ≡ 1
-stays_one a a' ss later h k = ap length (after_call a a' ss later h k)
+stays_one a a' ss later h k = sym (length_all_zip (Keeps a a') ss later k) ∙ h
+
+one_kept : (a a' : Arena) (ss : List Contents) (s : Contents) → KeepsOn a a' ss (s ∷ []) → StateStands a' s
+one_kept a a' [] s k = elim k [ ]
+one_kept a a' (t ∷ ts) s k = k.0.stands
 
 pub stays_open : (a a' : Arena) (p : Place) (ss later : List Contents) (f : Form) → length ss ≡ 1 → GrewOn a a' p ss later f → KeepsOn a a' ss later → All (IsOpen a') later
 stays_open a a' p ss later f h g k =
     let e : later ≡ g.last.new ∷ [] = alone_behind g.last.outer later g.last.new (none_around g.last.outer g.last.old (ap length (sym g.last.was) ∙ h)) g.last.becomes in
-    let d : later ≡ k.last.new ∷ [] = after_call a a' ss later h k in
-    let same : k.last.new ≡ g.last.new = cc (e, d) in
     subst (All (IsOpen a')) (sym e)
-    (All-cons (IsOpen a') g.last.new [] (record { live = g.grew.live; stands = subst (StateStands a') same k.keeps.stands }) (All-nil (IsOpen a')))
+    (All-cons (IsOpen a') g.last.new [] (record { live = g.grew.live; stands = one_kept a a' ss g.last.new (subst (KeepsOn a a' ss) e k) }) (All-nil (IsOpen a')))
 
 -- the one state is set
 pub one_set : (a : Arena) (ss : List Contents) (s : Contents) → length ss ≡ 1 → IsOpen a s → All (IsOpen a) (slice_set ss 0 s)

@@ -1,26 +1,45 @@
 // Labels, texts, places, refusals and maps.
+use crate::table::{Answers, hold};
+use std::alloc::Global;
 use std::test::Fail;
 use wcv_core::{
     Error, ErrorKind, Excerpt, IndexMapAppendOnly, KebabString, LabelSet, Place, Text, is_label,
 };
 
-const LABELS: &str = "a foo-x FOO-x a-1 a1-B2";
+// One text is empty.
+const LABELS: &str = "\
+a => true a
+foo-x => true foo-x
+FOO-x => true FOO-x
+a-1 => true a-1
+a1-B2 => true a1-B2
+ => false -
+- => false -
+-a => false -
+a- => false -
+a--b => false -
+1a => false -
+Foo => false -
+a_b => false -
+a.b => false -
+é => false -";
 
-// The first is the empty text.
-const OTHERS: &str = " - -a a- a--b 1a Foo a_b a.b é";
+// Whether a text is a label, by the question and by what is made of it.
+struct IsLabel;
+
+impl Answers for IsLabel {
+    fn answer(&self, alloc: Global, asked: &str) -> Result<String, Fail> {
+        let is = is_label(asked);
+        match KebabString::new(alloc, asked)? {
+            Some(label) => Ok(format!(in alloc; "{is} {}", label.as_str())?),
+            None => Ok(format!(in alloc; "{is} -")?),
+        }
+    }
+}
 
 #[test]
 fn labels_are_words_joined_by_dashes(rt: HostRuntime) -> Result<(), Fail> {
-    for text in LABELS.split(' ') {
-        assert!(rt; is_label(text), "{text}");
-        let label = KebabString::new(rt.alloc(), text)?.ok_or("no label")?;
-        assert_eq!(rt; label.as_str(), text);
-    }
-    for text in OTHERS.split(' ') {
-        assert!(rt; !is_label(text), "{text}");
-        assert!(rt; KebabString::new(rt.alloc(), text)?.is_none(), "{text}");
-    }
-    Ok(())
+    hold(rt.alloc(), LABELS, &IsLabel)
 }
 
 #[test]
@@ -36,21 +55,36 @@ fn labels_of_one_list_differ_in_more_than_case(rt: HostRuntime) -> Result<(), Fa
 }
 
 #[test]
-fn texts_places_and_messages_are_kept(rt: HostRuntime) -> Result<(), Fail> {
+fn texts_are_kept(rt: HostRuntime) -> Result<(), Fail> {
+    let text = Text::new(rt.alloc(), "naïve")?;
+    assert_eq!(rt; text.as_str(), "naïve");
+    Ok(())
+}
+
+#[test]
+fn places_are_kept(rt: HostRuntime) -> Result<(), Fail> {
     let alloc = rt.alloc();
-    assert_eq!(rt; Text::new(alloc, "naïve")?.as_str(), "naïve");
     let mut map = IndexMapAppendOnly::new(alloc);
     map.insert(5u64, Place::new(alloc, &[3, 0, 7])?)?;
     let place = map.get(&5).ok_or("no place")?;
     assert_eq!(rt; place.positions(), [3, 0, 7].as_slice());
+    Ok(())
+}
+
+#[test]
+fn messages_have_no_line_end(rt: HostRuntime) -> Result<(), Fail> {
     let excerpt = Excerpt("a\nb");
     let error = Error::new(ErrorKind::Name, 9, format_args!("`{excerpt}` is no name"));
-    assert_eq!(rt; error.to_string(alloc)?.as_str(), "`a\u{fffd}b` is no name");
+    let message = error.to_string(rt.alloc())?;
+    assert_eq!(rt; message.as_str(), "`a\u{fffd}b` is no name");
+    Ok(())
+}
+
+#[test]
+fn excerpts_are_cut_at_a_character(rt: HostRuntime) -> Result<(), Fail> {
     // 33 characters of two bytes: the first 32 are 64 bytes.
     let excerpt = Excerpt("ééééééééééééééééééééééééééééééééé");
-    assert_eq!(rt;
-        excerpt.to_string(alloc)?.as_str(),
-        "éééééééééééééééééééééééééééééééé.."
-    );
+    let cut = excerpt.to_string(rt.alloc())?;
+    assert_eq!(rt; cut.as_str(), "éééééééééééééééééééééééééééééééé..");
     Ok(())
 }

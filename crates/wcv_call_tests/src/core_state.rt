@@ -10,13 +10,13 @@ use crate::declared::empty;
 use crate::externs::whole_name;
 use crate::group_words::group;
 use crate::module_words::declarations;
-use crate::table::case;
+use crate::table::{Answers, hold};
 use bitflags::Flags;
 use std::alloc::Global;
 use std::fmt::Write;
 use std::test::Fail;
 use wcv_core::{Error, WasmFeatures};
-use wcv_decls::{add_core_module_to, add_core_type_to};
+use wcv_decls::{Declare, add_core_module_to};
 use wcv_state::{ComponentState, Space};
 use wcv_syntax::{
     ComponentExport, ComponentExternName, ComponentExternalKind, ComponentImport, ComponentTypeRef,
@@ -102,7 +102,7 @@ fn add_type(
     ensures one { length states.new ≡ 1 }
     ensures open { OnOk result (All (IsOpen types.new) states.new) }
 {
-    match add_core_type_to(states, ty, types, offset) {
+    match ComponentState::add_core_type(states, ty, types, offset) {
         Ok(()) => Ok(()),
         Err(error) => Err(error),
     }
@@ -353,11 +353,15 @@ fn found(alloc: Global, text: &str) -> Result<String, Fail> {
     added(alloc, text, &mut states, &mut types)
 }
 
+struct Items;
+
+impl Answers for Items {
+    fn answer(&self, alloc: Global, asked: &str) -> Result<String, Fail> {
+        found(alloc, asked)
+    }
+}
+
 #[test]
 fn core_items_join_a_state(rt: HostRuntime) -> Result<(), Fail> {
-    for line in ROWS.split('\n') {
-        let (asked, due) = case(line)?;
-        assert_eq!(rt; found(rt.alloc(), asked)?.as_str(), due, "{asked}");
-    }
-    Ok(())
+    hold(rt.alloc(), ROWS, &Items)
 }

@@ -7,7 +7,7 @@ ghost use Rattle.wcv_types.specs.Entities.{EntityStands, EntryStands};
 
 use crate::declared::{Question, answer_over};
 use crate::extern_rows::{COUNT, PLAIN, ROWS, TYPES, UPPER};
-use crate::table::case;
+use crate::table::{Answers, hold};
 use crate::written::value_word;
 use bitflags::Flags;
 use std::alloc::Global;
@@ -305,31 +305,41 @@ impl Question for Row<'_> {
     }
 }
 
+// The name of the first resource, and the features that hold.
+#[derive(Clone, Copy)]
+struct Rows {
+    name: &'static str,
+    features: WasmFeatures,
+}
+
 // What becomes of a row.
-fn found(alloc: Global, row: &Row<'_>) -> Result<String, Fail> {
-    let text = types_of(alloc, row.entries)?;
-    answer_over(alloc, text.as_str(), row)
+impl Answers for Rows {
+    fn answer(&self, alloc: Global, asked: &str) -> Result<String, Fail> {
+        let text = types_of(alloc, asked)?;
+        let row = Row {
+            name: self.name,
+            entries: asked,
+            features: &self.features,
+        };
+        answer_over(alloc, text.as_str(), &row)
+    }
+}
+
+// So of rows.
+fn hold_rows(
+    alloc: Global,
+    rows: &str,
+    name: &'static str,
+    features: WasmFeatures,
+) -> Result<(), Fail> {
+    hold(alloc, rows, &Rows { name, features })
 }
 
 #[test]
 fn entries_look_as_their_names_say(rt: HostRuntime) -> Result<(), Fail> {
-    let alloc = rt.alloc();
-    for (name, rows, features) in [
-        ("r", ROWS, WasmFeatures::all()),
-        ("FOO", UPPER, WasmFeatures::all()),
-        ("r", PLAIN, WasmFeatures::default()),
-    ] {
-        for line in rows.split('\n') {
-            let (asked, due) = case(line)?;
-            let row = Row {
-                name,
-                entries: asked,
-                features: &features,
-            };
-            assert_eq!(rt; found(alloc, &row)?.as_str(), due, "{asked}");
-        }
-    }
-    Ok(())
+    hold_rows(rt.alloc(), ROWS, "r", WasmFeatures::all())?;
+    hold_rows(rt.alloc(), UPPER, "FOO", WasmFeatures::all())?;
+    hold_rows(rt.alloc(), PLAIN, "r", WasmFeatures::default())
 }
 
 // A name, and the index of a resource.
@@ -369,18 +379,23 @@ impl Question for Asked<'_> {
     }
 }
 
+struct NamedResources;
+
+impl Answers for NamedResources {
+    fn answer(&self, alloc: Global, asked: &str) -> Result<String, Fail> {
+        let (name, index) = asked.split_once(' ').ok_or("a name has no index")?;
+        let index = index.parse()?;
+        answer_over(alloc, "resource; resource", &Asked { name, index })
+    }
+}
+
+const NAMES: &str = "\
+r-S 0 => true true
+r-s 0 => false false
+r-S 1 => false true
+ 0 => false false";
+
 #[test]
 fn resources_have_names(rt: HostRuntime) -> Result<(), Fail> {
-    let alloc = rt.alloc();
-    for (name, index, due) in [
-        ("r-S", 0, "true true"),
-        ("r-s", 0, "false false"),
-        ("r-S", 1, "false true"),
-        ("", 0, "false false"),
-    ] {
-        let asked = Asked { name, index };
-        let found = answer_over(alloc, "resource; resource", &asked)?;
-        assert_eq!(rt; found.as_str(), due, "{name} {index}");
-    }
-    Ok(())
+    hold(rt.alloc(), NAMES, &NamedResources)
 }

@@ -6,7 +6,7 @@ ghost use Rattle.wcv_types.specs.Unfold.{value_slot};
 ghost use Rattle.wcv_types.specs.declared.ids.Part.TheVariants as part;
 
 use crate::declared::{Question, answer_over_handles, last_type};
-use crate::table::case;
+use crate::table::{Answers, hold};
 use crate::text::{Parts, arena, exports, imports};
 use bitflags::Flags;
 use std::alloc::Global;
@@ -180,17 +180,22 @@ impl Question for InType {
     }
 }
 
+impl Answers for InValue {
+    fn answer(&self, alloc: Global, asked: &str) -> Result<String, Fail> {
+        answer_over_handles(alloc, asked, self)
+    }
+}
+
+impl Answers for InType {
+    fn answer(&self, alloc: Global, asked: &str) -> Result<String, Fail> {
+        answer_over_handles(alloc, asked, self)
+    }
+}
+
 #[test]
 fn resources_are_free_in_types(rt: HostRuntime) -> Result<(), Fail> {
-    let alloc = rt.alloc();
-    for line in ROWS.split('\n') {
-        let (asked, due) = case(line)?;
-        let in_value = answer_over_handles(alloc, asked, &InValue)?;
-        assert_eq!(rt; in_value.as_str(), due, "{asked}");
-        let in_type = answer_over_handles(alloc, asked, &InType)?;
-        assert_eq!(rt; in_type.as_str(), due, "{asked}");
-    }
-    Ok(())
+    hold(rt.alloc(), ROWS, &InValue)?;
+    hold(rt.alloc(), ROWS, &InType)
 }
 
 /// The resources in the exports join.

@@ -1,12 +1,12 @@
 // Groups of core types: equal groups have equal ids, and which types match.
-ghost use Rattle.std.specs.Prelude.{All, IfOk};
+ghost use Rattle.std.specs.Prelude.{◌<◌, All, IfOk};
 ghost use Rattle.wcv_core.specs.CoreGroups.{IsValWithin, total};
 ghost use Rattle.wcv_core.specs.CoreWritten.{IsKnown};
 
 use crate::group_rows::{GROUPS, MATCHES, PLAIN, SUPERTYPES, TYPES};
 use crate::group_space::CoreSpace;
 use crate::group_words::{group, value};
-use crate::table::case;
+use crate::table::{Answers, hold, hold_parted};
 use bitflags::Flags;
 use std::alloc::Global;
 use std::fmt::Write;
@@ -124,40 +124,36 @@ fn added(
 }
 
 // So in a space with no type.
-fn interned(alloc: Global, text: &str, features: WasmFeatures) -> Result<String, Fail> {
-    let mut core = CoreTypes::new(alloc);
-    let mut space = CoreSpace::new(alloc, features);
-    added(alloc, text, &mut space, &mut core)
+#[derive(Clone, Copy)]
+struct Interned {
+    features: WasmFeatures,
+}
+
+impl Answers for Interned {
+    fn answer(&self, alloc: Global, asked: &str) -> Result<String, Fail> {
+        let mut core = CoreTypes::new(alloc);
+        let mut space = CoreSpace::new(alloc, self.features);
+        added(alloc, asked, &mut space, &mut core)
+    }
+}
+
+fn interned_by(features: WasmFeatures) -> Interned {
+    Interned { features }
 }
 
 #[test]
 fn equal_groups_have_equal_ids(rt: HostRuntime) -> Result<(), Fail> {
-    for line in GROUPS.split('\n') {
-        let (asked, due) = case(line)?;
-        let found = interned(rt.alloc(), asked, WasmFeatures::all())?;
-        assert_eq!(rt; found.as_str(), due, "{asked}");
-    }
-    Ok(())
+    hold(rt.alloc(), GROUPS, &interned_by(WasmFeatures::all()))
 }
 
 #[test]
 fn supertypes_keep_the_rules(rt: HostRuntime) -> Result<(), Fail> {
-    for line in SUPERTYPES.split('\n') {
-        let (asked, due) = case(line)?;
-        let found = interned(rt.alloc(), asked, WasmFeatures::all())?;
-        assert_eq!(rt; found.as_str(), due, "{asked}");
-    }
-    Ok(())
+    hold(rt.alloc(), SUPERTYPES, &interned_by(WasmFeatures::all()))
 }
 
 #[test]
 fn core_types_need_features(rt: HostRuntime) -> Result<(), Fail> {
-    for line in PLAIN.split('\n') {
-        let (asked, due) = case(line)?;
-        let found = interned(rt.alloc(), asked, WasmFeatures::empty())?;
-        assert_eq!(rt; found.as_str(), due, "{asked}");
-    }
-    Ok(())
+    hold(rt.alloc(), PLAIN, &interned_by(WasmFeatures::empty()))
 }
 
 // A type with so many supertypes above it.
@@ -169,14 +165,19 @@ fn chain(alloc: Global, count: u32) -> Result<String, Fail> {
     Ok(text)
 }
 
+// Whether it is interned.
+struct Supertypes;
+
+impl Answers for Supertypes {
+    fn answer(&self, alloc: Global, asked: &str) -> Result<String, Fail> {
+        let text = chain(alloc, asked.parse()?)?;
+        interned_by(WasmFeatures::all()).answer(alloc, text.as_str())
+    }
+}
+
 #[test]
 fn a_type_has_at_most_63_supertypes(rt: HostRuntime) -> Result<(), Fail> {
-    let alloc = rt.alloc();
-    for (count, due) in [(63, "63"), (64, "Limit at 64")] {
-        let found = interned(alloc, chain(alloc, count)?.as_str(), WasmFeatures::all())?;
-        assert_eq!(rt; found.as_str(), due, "{count}");
-    }
-    Ok(())
+    hold_parted(rt.alloc(), "63 => 63|64 => Limit at 64", '|', &Supertypes)
 }
 
 /// A reference, with the id of the type at an index in place of that.
@@ -215,124 +216,122 @@ fn value_in(word: &str, space: &CoreSpace, core: &CoreTypes) -> Result<ValType, 
     }
 }
 
+// Whether it holds.
+fn yes_or_no(alloc: Global, holds: bool) -> Result<String, Fail> {
+    Ok(String::from_str(alloc, if holds { "yes" } else { "no" })?)
+}
+
 // Whether the first of two value types matches the second.
-fn matches(asked: &str, space: &CoreSpace, core: &CoreTypes) -> Result<&'static str, Fail> {
+fn matches(
+    alloc: Global,
+    asked: &str,
+    space: &CoreSpace,
+    core: &CoreTypes,
+) -> Result<String, Fail> {
     let (a, b) = asked.split_once(' ').ok_or("a line has no second type")?;
     let a = value_in(a, space, core)?;
     let b = value_in(b, space, core)?;
-    if core.val_type_matches(&a, &b) {
-        return Ok("yes");
+    yes_or_no(alloc, core.val_type_matches(&a, &b))
+}
+
+// The type of that number.
+fn type_of(word: &str, core: &CoreTypes) -> Result<CoreTypeId, Fail>
+    ensures { IfOk result (λ id. id.index < total core.now) }
+{
+    let index: u64 = word.parse()?;
+    if index >= core.len() as u64 {
+        return Err("no type is there".into());
     }
-    Ok("no")
+    Ok(CoreTypeId { index })
 }
 
 // The first id and the length of the group of a type, and whether the type is final.
-fn place(core: &CoreTypes, index: u64) -> Option<(u64, u64, bool)> {
-    if index >= core.len() as u64 {
-        return None;
-    }
-    let id = CoreTypeId { index };
+fn place(alloc: Global, asked: &str, core: &CoreTypes) -> Result<String, Fail> {
+    let id = type_of(asked, core)?;
     let (first, count) = core.group_of(id);
-    Some((first.index, count, core.get(id).is_final))
+    Ok(format!(in alloc; "{} {count} {}", first.index, core.get(id).is_final)?)
 }
 
 // Whether the first of two types is the second, or has it above it.
-fn is_below(core: &CoreTypes, a: u64, b: u64) -> Option<bool> {
-    let len = core.len() as u64;
-    if a >= len || b >= len {
-        return None;
-    }
-    Some(core.is_declared_subtype(CoreTypeId { index: a }, CoreTypeId { index: b }))
+fn is_below(alloc: Global, asked: &str, core: &CoreTypes) -> Result<String, Fail> {
+    let (a, b) = asked.split_once(' ').ok_or("a line has no second type")?;
+    let a = type_of(a, core)?;
+    let b = type_of(b, core)?;
+    yes_or_no(alloc, core.is_declared_subtype(a, b))
 }
 
-/// So in the table of these types.
-fn place_added(
+// What is asked over the table of the types.
+#[derive(Clone, Copy)]
+enum OverTypes {
+    // how many there are
+    Count,
+    Place,
+    Below,
+    Matches,
+}
+
+fn answer_over(
     alloc: Global,
-    index: u64,
-    space: &mut CoreSpace,
-    core: &mut CoreTypes,
-) -> Result<Option<(u64, u64, bool)>, Fail>
-    requires { All (IsKnown (total core.old)) space.old.0 }
-{
-    let _ = add_all(alloc, TYPES, space, core)?;
-    Ok(place(core, index))
-}
-
-fn place_of(alloc: Global, index: u64) -> Result<Option<(u64, u64, bool)>, Fail> {
-    let mut core = CoreTypes::new(alloc);
-    let mut space = CoreSpace::new(alloc, WasmFeatures::all());
-    place_added(alloc, index, &mut space, &mut core)
-}
-
-fn below_added(
-    alloc: Global,
-    a: u64,
-    b: u64,
-    space: &mut CoreSpace,
-    core: &mut CoreTypes,
-) -> Result<Option<bool>, Fail>
-    requires { All (IsKnown (total core.old)) space.old.0 }
-{
-    let _ = add_all(alloc, TYPES, space, core)?;
-    Ok(is_below(core, a, b))
-}
-
-fn is_below_of(alloc: Global, a: u64, b: u64) -> Result<Option<bool>, Fail> {
-    let mut core = CoreTypes::new(alloc);
-    let mut space = CoreSpace::new(alloc, WasmFeatures::all());
-    below_added(alloc, a, b, &mut space, &mut core)
-}
-
-#[test]
-fn types_stand_in_their_groups(rt: HostRuntime) -> Result<(), Fail> {
-    for (index, due) in [
-        (0, Some((0, 1, true))),
-        (1, Some((1, 1, false))),
-        (3, Some((3, 1, true))),
-        (8, Some((8, 1, true))),
-        (9, Some((9, 2, true))),
-        (10, Some((9, 2, true))),
-        (11, Some((11, 1, true))),
-        (12, None),
-    ] {
-        assert_eq!(rt; place_of(rt.alloc(), index)?, due, "{index}");
+    question: OverTypes,
+    asked: &str,
+    space: &CoreSpace,
+    core: &CoreTypes,
+) -> Result<String, Fail> {
+    match question {
+        OverTypes::Count => Ok(format!(in alloc; "{}", core.len())?),
+        OverTypes::Place => place(alloc, asked, core),
+        OverTypes::Below => is_below(alloc, asked, core),
+        OverTypes::Matches => matches(alloc, asked, space, core),
     }
-    for (a, b, due) in [
-        (3, 1, true),
-        (3, 3, true),
-        (1, 3, false),
-        (5, 4, true),
-        (5, 1, false),
-    ] {
-        assert_eq!(rt; is_below_of(rt.alloc(), a, b)?, Some(due), "{a} {b}");
-    }
-    Ok(())
 }
 
-/// So over the table of these types.
-fn matches_added(
+/// So once the types have joined.
+fn answer_added(
     alloc: Global,
+    question: OverTypes,
     asked: &str,
     space: &mut CoreSpace,
     core: &mut CoreTypes,
-) -> Result<&'static str, Fail>
+) -> Result<String, Fail>
     requires { All (IsKnown (total core.old)) space.old.0 }
 {
     let _ = add_all(alloc, TYPES, space, core)?;
-    matches(asked, space, core)
+    answer_over(alloc, question, asked, space, core)
 }
 
-fn matches_of(alloc: Global, asked: &str) -> Result<&'static str, Fail> {
-    let mut core = CoreTypes::new(alloc);
-    let mut space = CoreSpace::new(alloc, WasmFeatures::all());
-    matches_added(alloc, asked, &mut space, &mut core)
+impl Answers for OverTypes {
+    fn answer(&self, alloc: Global, asked: &str) -> Result<String, Fail> {
+        let mut core = CoreTypes::new(alloc);
+        let mut space = CoreSpace::new(alloc, WasmFeatures::all());
+        answer_added(alloc, *self, asked, &mut space, &mut core)
+    }
+}
+
+const PLACES: &str = "\
+0 => 0 1 true
+1 => 1 1 false
+3 => 3 1 true
+8 => 8 1 true
+9 => 9 2 true
+10 => 9 2 true
+11 => 11 1 true";
+
+const BELOW: &str = "\
+3 1 => yes
+3 3 => yes
+1 3 => no
+5 4 => yes
+5 1 => no";
+
+#[test]
+fn types_stand_in_their_groups(rt: HostRuntime) -> Result<(), Fail> {
+    let alloc = rt.alloc();
+    hold(alloc, "types => 12", &OverTypes::Count)?;
+    hold(alloc, PLACES, &OverTypes::Place)?;
+    hold(alloc, BELOW, &OverTypes::Below)
 }
 
 #[test]
 fn value_types_match(rt: HostRuntime) -> Result<(), Fail> {
-    for line in MATCHES.split('\n') {
-        let (asked, due) = case(line)?;
-        assert_eq!(rt; matches_of(rt.alloc(), asked)?, due, "{asked}");
-    }
-    Ok(())
+    hold(rt.alloc(), MATCHES, &OverTypes::Matches)
 }

@@ -3,7 +3,7 @@ ghost use Rattle.wcv_types.specs.Entities.{SlotStands};
 ghost use Rattle.wcv_types.specs.Unfold.{value_slot};
 
 use crate::declared::{Question, answer_over_handles, last_type};
-use crate::table::case;
+use crate::table::{Answers, hold};
 use std::alloc::Global;
 use std::test::Fail;
 use wcv_state::ComponentState;
@@ -124,12 +124,13 @@ impl Question for Layout {
     }
 }
 
+impl Answers for Layout {
+    fn answer(&self, alloc: Global, asked: &str) -> Result<String, Fail> {
+        answer_over_handles(alloc, asked, self)
+    }
+}
+
 #[test]
 fn value_types_have_their_layout(rt: HostRuntime) -> Result<(), Fail> {
-    for line in ROWS.split('\n') {
-        let (asked, due) = case(line)?;
-        let found = answer_over_handles(rt.alloc(), asked, &Layout)?;
-        assert_eq!(rt; found.as_str(), due, "{asked}");
-    }
-    Ok(())
+    hold(rt.alloc(), ROWS, &Layout)
 }

@@ -4,6 +4,8 @@
 #[cfg(test)]
 mod base;
 #[cfg(test)]
+mod core_ids;
+#[cfg(test)]
 mod core_readers;
 #[cfg(test)]
 mod core_state;
@@ -41,6 +43,26 @@ mod modules;
 mod name_rows;
 #[cfg(test)]
 mod names;
+#[cfg(test)]
+mod sort_call_rows;
+#[cfg(test)]
+mod sort_calls;
+#[cfg(test)]
+mod sort_entries;
+#[cfg(test)]
+mod sort_name_rows;
+#[cfg(test)]
+mod sort_names;
+#[cfg(test)]
+mod sort_shapes;
+#[cfg(test)]
+mod sort_text;
+#[cfg(test)]
+mod sort_text_rows;
+#[cfg(test)]
+mod sorts;
+#[cfg(test)]
+mod stacks;
 #[cfg(test)]
 mod state;
 #[cfg(test)]

@@ -7,7 +7,7 @@ ghost use Rattle.wcv_syntax.specs.ModuleTypes.{module_entries};
 use crate::module_entries::{export_words, import_words};
 use crate::module_rows::{PLAIN, ROWS};
 use crate::module_words::declarations;
-use crate::table::case;
+use crate::table::{Answers, hold};
 use bitflags::Flags;
 use std::alloc::Global;
 use std::fmt::Write;
@@ -82,16 +82,23 @@ fn declared(alloc: Global, text: &str, features: WasmFeatures) -> Result<String,
     added(alloc, text, &mut made, &mut types)
 }
 
+#[derive(Clone, Copy)]
+struct DeclaredModule {
+    features: WasmFeatures,
+}
+
+impl Answers for DeclaredModule {
+    fn answer(&self, alloc: Global, asked: &str) -> Result<String, Fail> {
+        declared(alloc, asked, self.features)
+    }
+}
+
 #[test]
 fn declarations_make_a_module(rt: HostRuntime) -> Result<(), Fail> {
-    for (rows, features) in [(ROWS, WasmFeatures::all()), (PLAIN, WasmFeatures::empty())] {
-        for line in rows.split('\n') {
-            let (asked, due) = case(line)?;
-            let found = declared(rt.alloc(), asked, features)?;
-            assert_eq!(rt; found.as_str(), due, "{asked}");
-        }
-    }
-    Ok(())
+    let features = WasmFeatures::all();
+    hold(rt.alloc(), ROWS, &DeclaredModule { features })?;
+    let features = WasmFeatures::empty();
+    hold(rt.alloc(), PLAIN, &DeclaredModule { features })
 }
 
 // A function type with many parameters, and so many imports of it.

@@ -1,6 +1,6 @@
 // Names of imports and exports: their forms, their keys and their versions.
 use crate::name_rows::{PLAIN, ROWS, SETTERS, VERSIONS};
-use crate::table::case;
+use crate::table::{Answers, hold};
 use bitflags::Flags;
 use std::alloc::Global;
 use std::test::Fail;
@@ -80,27 +80,26 @@ fn both(alloc: Global, name: &ComponentName) -> Result<String, Fail> {
 }
 
 // What a text is as a name.
-fn read(alloc: Global, text: &str, features: WasmFeatures) -> Result<String, Fail> {
-    match ComponentName::new_with_features(alloc, text, 5, features) {
-        Ok(name) => both(alloc, &name),
-        Err(error) => Ok(format!(in alloc; "{}", error.kind())?),
+#[derive(Clone, Copy)]
+struct Read {
+    features: WasmFeatures,
+}
+
+impl Answers for Read {
+    fn answer(&self, alloc: Global, asked: &str) -> Result<String, Fail> {
+        match ComponentName::new_with_features(alloc, asked, 5, self.features) {
+            Ok(name) => both(alloc, &name),
+            Err(error) => Ok(format!(in alloc; "{}", error.kind())?),
+        }
     }
 }
 
 #[test]
 fn names_have_forms_and_keys(rt: HostRuntime) -> Result<(), Fail> {
-    let alloc = rt.alloc();
-    for line in ROWS.split('\n') {
-        let (text, due) = case(line)?;
-        let found = read(alloc, text, WasmFeatures::CM_ACCESSORS)?;
-        assert_eq!(rt; found.as_str(), due, "{text}");
-    }
-    for line in PLAIN.split('\n') {
-        let (text, due) = case(line)?;
-        let found = read(alloc, text, WasmFeatures::default())?;
-        assert_eq!(rt; found.as_str(), due, "{text}");
-    }
-    Ok(())
+    let features = WasmFeatures::CM_ACCESSORS;
+    hold(rt.alloc(), ROWS, &Read { features })?;
+    let features = WasmFeatures::default();
+    hold(rt.alloc(), PLAIN, &Read { features })
 }
 
 // The name of the getter of a setter.
@@ -113,15 +112,19 @@ fn getter(alloc: Global, kind: &ComponentNameKind<'_>) -> Result<Text, Fail> {
     }
 }
 
+struct Getters;
+
+impl Answers for Getters {
+    fn answer(&self, alloc: Global, asked: &str) -> Result<String, Fail> {
+        let kind = ComponentNameKind::read(asked).ok_or("no name")?;
+        let getter = getter(alloc, &kind)?;
+        Ok(String::from_str(alloc, getter.as_str())?)
+    }
+}
+
 #[test]
 fn setters_have_getters(rt: HostRuntime) -> Result<(), Fail> {
-    let alloc = rt.alloc();
-    for line in SETTERS.split('\n') {
-        let (text, due) = case(line)?;
-        let kind = ComponentNameKind::read(text).ok_or("no name")?;
-        assert_eq!(rt; getter(alloc, &kind)?.as_str(), due, "{text}");
-    }
-    Ok(())
+    hold(rt.alloc(), SETTERS, &Getters)
 }
 
 // The interface that a text names.
@@ -133,22 +136,21 @@ fn interface(text: &str) -> Result<InterfaceName<'_>, Fail> {
 }
 
 // The version of an interface, with the rest that stands beside it.
-fn version(alloc: Global, text: &str) -> Result<String, Fail> {
-    let (name, rest) = text.split_once(' ').ok_or("a name has nothing beside it")?;
-    let suffix = if rest == "-" { None } else { Some(rest) };
-    match interface(name)?.version(alloc, suffix, 5) {
-        Ok(None) => Ok(String::from_str(alloc, "-")?),
-        Ok(Some(version)) => Ok(format!(in alloc; "{version}")?),
-        Err(error) => Ok(format!(in alloc; "{}", error.kind())?),
+struct Versions;
+
+impl Answers for Versions {
+    fn answer(&self, alloc: Global, asked: &str) -> Result<String, Fail> {
+        let (name, rest) = asked.split_once(' ').ok_or("a name has nothing beside it")?;
+        let suffix = if rest == "-" { None } else { Some(rest) };
+        match interface(name)?.version(alloc, suffix, 5) {
+            Ok(None) => Ok(String::from_str(alloc, "-")?),
+            Ok(Some(version)) => Ok(format!(in alloc; "{version}")?),
+            Err(error) => Ok(format!(in alloc; "{}", error.kind())?),
+        }
     }
 }
 
 #[test]
 fn interfaces_have_versions(rt: HostRuntime) -> Result<(), Fail> {
-    let alloc = rt.alloc();
-    for line in VERSIONS.split('\n') {
-        let (text, due) = case(line)?;
-        assert_eq!(rt; version(alloc, text)?.as_str(), due, "{text}");
-    }
-    Ok(())
+    hold(rt.alloc(), VERSIONS, &Versions)
 }

@@ -5,6 +5,7 @@ ghost use Rattle.wcv_state.specs.Contents.{empty_state};
 ghost use Rattle.wcv_state.specs.declared.kind.ComponentKind.TheVariants as kind;
 
 use crate::declared::{Question, answer_over};
+use crate::table::{Answers, hold_parted};
 use std::alloc::Global;
 use std::test::Fail;
 use wcv_core::{
@@ -281,17 +282,18 @@ impl Question for FuncAt {
     }
 }
 
+struct Written;
+
+impl Answers for Written {
+    fn answer(&self, alloc: Global, asked: &str) -> Result<String, Fail> {
+        let index = asked.parse()?;
+        answer_over(alloc, "resource; fn -> -", &FuncAt { index })
+    }
+}
+
+const WRITTEN: &str = "0 => WrongSort at 5|1 => func 0|2 => OutOfBounds at 5|7 => OutOfBounds at 5";
+
 #[test]
 fn a_written_function_type_gives_its_entity(rt: HostRuntime) -> Result<(), Fail> {
-    for (index, due) in [
-        (0, "WrongSort at 5"),
-        (1, "func 0"),
-        (2, "OutOfBounds at 5"),
-        (7, "OutOfBounds at 5"),
-    ] {
-        let asked = FuncAt { index };
-        let found = answer_over(rt.alloc(), "resource; fn -> -", &asked)?;
-        assert_eq!(rt; found.as_str(), due, "{index}");
-    }
-    Ok(())
+    hold_parted(rt.alloc(), WRITTEN, '|', &Written)
 }

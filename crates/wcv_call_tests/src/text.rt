@@ -8,7 +8,7 @@ ghost use Rattle.wcv_types.specs.Unfold.{value_slot};
 ghost use Rattle.wcv_types.specs.declared.arena.Node.TheVariants as node;
 ghost use Rattle.wcv_types.specs.declared.ids.Part.TheVariants as part;
 
-use crate::table::case;
+use crate::table::{Answers, hold_parted};
 use std::alloc::Global;
 use std::test::Fail;
 use wcv_core::{OutOfMemory, Place, PrimitiveValType, Text, WasmFeatures};
@@ -227,12 +227,31 @@ imported r1 [1,0]
 defined r2 [10]
 ";
 
-#[test]
-fn a_component_type_has_its_text(rt: HostRuntime) -> Result<(), Fail> {
-    let alloc = rt.alloc();
-    let (types, parts) = arena(alloc)?;
-    let ins = imports(alloc, &parts)?;
-    let outs = exports(alloc, &parts)?;
+/// The text of a component type, behind these words.
+pub fn text_behind(
+    alloc: Global,
+    before: &str,
+    types: &TypeAlloc,
+    ty: &ComponentType,
+) -> Result<String, OutOfMemory>
+    requires { ComponentStands types.now ty.now }
+{
+    let mut text = String::from_str(alloc, before)?;
+    push_type(alloc, &mut text, types, ty)?;
+    Ok(text)
+}
+
+/// The text of the component type with these imports and exports.
+fn whole(alloc: Global, types: &TypeAlloc, parts: &Parts) -> Result<String, OutOfMemory>
+    requires first { Stands types.now (part.Resource parts.now.first) }
+    requires alias { Stands types.now (part.Resource parts.now.alias) }
+    requires second { Stands types.now (part.Resource parts.now.second) }
+    requires third { Stands types.now (part.Resource parts.now.third) }
+    requires plain { Stands types.now (part.Func parts.now.plain) }
+    requires other { Stands types.now (part.Func parts.now.other) }
+{
+    let ins = imports(alloc, parts)?;
+    let outs = exports(alloc, parts)?;
     let ty = component(
         alloc,
         ins,
@@ -240,8 +259,17 @@ fn a_component_type_has_its_text(rt: HostRuntime) -> Result<(), Fail> {
         parts.second.resource,
         parts.third.resource,
     )?;
-    let mut text = String::from_str(alloc, "before\n")?;
-    push_type(alloc, &mut text, &types, &ty)?;
+    text_behind(alloc, "before\n", types, &ty)
+}
+
+fn whole_in_arena(alloc: Global) -> Result<String, OutOfMemory> {
+    let (types, parts) = arena(alloc)?;
+    whole(alloc, &types, &parts)
+}
+
+#[test]
+fn a_component_type_has_its_text(rt: HostRuntime) -> Result<(), Fail> {
+    let text = whole_in_arena(rt.alloc())?;
     assert_eq!(rt; text.as_str(), WHOLE);
     Ok(())
 }
@@ -280,25 +308,30 @@ pub fn text_of(
     requires { SlotStands types.now (value_slot value) }
 {
     let ty = of_one_value(alloc, name, value)?;
-    let mut text = String::new(alloc);
-    push_type(alloc, &mut text, types, &ty)?;
-    Ok(text)
+    text_behind(alloc, "", types, &ty)
+}
+
+// The text of a value under a name.
+fn quoted(alloc: Global, name: &str, types: &TypeAlloc) -> Result<String, Fail> {
+    let value = ComponentValType::Primitive(PrimitiveValType::F32);
+    Ok(text_of(alloc, types, name, value)?)
+}
+
+// So in an arena with no type.
+struct QuotedNames;
+
+impl Answers for QuotedNames {
+    fn answer(&self, alloc: Global, asked: &str) -> Result<String, Fail> {
+        let types = TypeAlloc::new(alloc, WasmFeatures::default());
+        quoted(alloc, asked, &types)
+    }
 }
 
 // Names, and how they are quoted. A bar parts the rows.
 const NAMES: &str =
-    " => \"\"|a\"b\\c => \"a\\\"b\\\\c\"|\0\x07\t\n\x1f => \"\\x00\\x07\\x09\\x0a\\x1f\"| ~\x7f => \" ~\\x7f\"|gr\u{fc}n \u{80} \u{1f600} => \"gr\u{fc}n \u{80} \u{1f600}\"";
+    " => import \"\" value f32\n|a\"b\\c => import \"a\\\"b\\\\c\" value f32\n|\0\x07\t\n\x1f => import \"\\x00\\x07\\x09\\x0a\\x1f\" value f32\n| ~\x7f => import \" ~\\x7f\" value f32\n|gr\u{fc}n \u{80} \u{1f600} => import \"gr\u{fc}n \u{80} \u{1f600}\" value f32\n";
 
 #[test]
 fn names_stand_between_quotes(rt: HostRuntime) -> Result<(), Fail> {
-    let alloc = rt.alloc();
-    let types = TypeAlloc::new(alloc, WasmFeatures::default());
-    let value = ComponentValType::Primitive(PrimitiveValType::F32);
-    for row in NAMES.split('|') {
-        let (name, quoted) = case(row)?;
-        let text = text_of(alloc, &types, name, value)?;
-        let due = format!(in alloc; "import {quoted} value f32\n")?;
-        assert_eq!(rt; text, due);
-    }
-    Ok(())
+    hold_parted(rt.alloc(), NAMES, '|', &QuotedNames)
 }

@@ -1,5 +1,5 @@
 // The arena, its ids, sizes and depths, and items by name.
-use crate::table::{case, number};
+use crate::table::{Answers, hold, hold_parted, number};
 use std::alloc::Global;
 use std::fmt::Write;
 use std::test::Fail;
@@ -64,13 +64,17 @@ fn combined(alloc: Global, line: &str) -> Result<String, Fail> {
     Ok(text)
 }
 
+struct CombinedSizes;
+
+impl Answers for CombinedSizes {
+    fn answer(&self, alloc: Global, asked: &str) -> Result<String, Fail> {
+        combined(alloc, asked)
+    }
+}
+
 #[test]
 fn sizes_and_depths_are_combined_up_to_their_limits(rt: HostRuntime) -> Result<(), Fail> {
-    for line in SIZES.split('\n') {
-        let (asked, due) = case(line)?;
-        assert_eq!(rt; combined(rt.alloc(), asked)?.as_str(), due, "{asked}");
-    }
-    Ok(())
+    hold(rt.alloc(), SIZES, &CombinedSizes)
 }
 
 // An item of that function type.
@@ -83,15 +87,44 @@ fn item(index: u64) -> ComponentItem {
     }
 }
 
+// One name twice.
+fn fill(alloc: Global, map: &mut ItemMap) -> Result<(), Fail> {
+    for index in 3..5 {
+        map.push((Text::new(alloc, "f")?, item(index)))?;
+    }
+    Ok(())
+}
+
+// What has the name.
+fn named(alloc: Global, name: &str, map: &ItemMap) -> Result<String, Fail> {
+    let name = Text::new(alloc, name)?;
+    match map.get(&name) {
+        Some(
+            ComponentItem {
+                ty: ComponentEntityType::Func(id),
+                ..
+            },
+        ) => Ok(format!(in alloc; "{} of {}", id.index, map.len())?),
+        Some(_) => Err("an item is no function".into()),
+        None => Ok(String::from_str(alloc, "-")?),
+    }
+}
+
+fn named_in(alloc: Global, name: &str, map: &mut ItemMap) -> Result<String, Fail> {
+    fill(alloc, map)?;
+    named(alloc, name, map)
+}
+
+struct FirstItem;
+
+impl Answers for FirstItem {
+    fn answer(&self, alloc: Global, asked: &str) -> Result<String, Fail> {
+        let mut map = ItemMap::new(alloc);
+        named_in(alloc, asked, &mut map)
+    }
+}
+
 #[test]
 fn a_map_of_items_gives_the_first(rt: HostRuntime) -> Result<(), Fail> {
-    let alloc = rt.alloc();
-    let mut map = ItemMap::new(alloc);
-    map.push((Text::new(alloc, "f")?, item(3)))?;
-    map.push((Text::new(alloc, "f")?, item(4)))?;
-    assert_eq!(rt; map.len(), 2);
-    let found = map.get(&Text::new(alloc, "f")?).ok_or("no item")?;
-    assert_eq!(rt; found.ty, item(3).ty);
-    assert!(rt; map.get(&Text::new(alloc, "F")?).is_none());
-    Ok(())
+    hold_parted(rt.alloc(), "f => 3 of 2|F => -", '|', &FirstItem)
 }

@@ -138,16 +138,12 @@ pub fn written(alloc: Global, words: &str) -> Result<ComponentDefinedType, Fail>
     }
 }
 
-// Parameters: a name and a type, and so on.
+// Parameters: a name and a type, parted by a colon.
 fn params(alloc: Global, words: &str) -> Result<Vec<(Text, ComponentValType)>, Fail> {
     let mut params = Vec::new(alloc);
-    let mut name = "";
     for word in words.split(' ') {
-        if name.is_empty() {
-            name = word;
-        } else {
-            params.push((Text::new(alloc, name)?, value_word(word)?))?;
-            name = "";
+        if let Some((name, ty)) = word.split_once(':') {
+            params.push((Text::new(alloc, name)?, value_word(ty)?))?;
         }
     }
     Ok(params)
@@ -162,7 +158,7 @@ fn func(alloc: Global, async_: bool, words: &str) -> Result<ComponentFuncType, F
     })
 }
 
-/// So of a type of any sort: a defined type; `resource`; `fn NAME TYPE .. -> RESULT`, maybe behind `async`.
+/// So of a type of any sort: a defined type; `resource`; `fn NAME:TYPE .. -> RESULT`, maybe behind `async`.
 pub fn written_type(alloc: Global, words: &str) -> Result<ComponentType, Fail> {
     if words == "resource" {
         return Ok(ComponentType::Resource {
