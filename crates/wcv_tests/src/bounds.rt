@@ -94,6 +94,25 @@ fn parameters_and_texts_have_limits(rt: HostRuntime) -> Result<(), Fail> {
 }
 
 #[test]
+fn external_ids_have_a_limit(rt: HostRuntime) -> Result<(), Fail> {
+    let alloc = rt.alloc();
+    for (bytes, due) in [
+        (100_000, "0\naccepted\n"),
+        (100_001, "1\nrefused Limit at 1\n"),
+    ] {
+        let id = "i".repeat(alloc, bytes)?;
+        let ty = "{\"at\":0,\"type\":{\"func\":{\"params\":[]}}}";
+        let name = format!(in alloc; "{{\"name\":\"x\",\"id\":\"{id}\"}}")?;
+        let listing = format!(in alloc;
+            "{{\"version\":1,\"features\":[\"cm-implements\"],\"items\":[{ty},{{\"at\":1,\"import\":{{\"name\":{name},\"type\":{{\"func\":0}}}}}}],\"end\":9}}"
+        )?;
+        let text = answer(alloc, "validate", listing.into_bytes(), &[], &[])?;
+        assert!(rt; text.starts_with(due), "an id of {bytes} bytes");
+    }
+    Ok(())
+}
+
+#[test]
 fn the_bytes_of_a_listing_are_bounded(rt: HostRuntime) -> Result<(), Fail> {
     let alloc = rt.alloc();
     for (spaces, due) in [

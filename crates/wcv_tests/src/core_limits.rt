@@ -347,47 +347,47 @@ fn wrong_made(alloc: Global, line: &str) -> Result<Option<String>, Fail> {
     Ok(Some(answer))
 }
 
+// The first of the lines that is not answered as it says, and its answer.
+fn first_wrong(alloc: Global, lines: &str) -> Result<Option<String>, Fail> {
+    for line in lines.split('\n') {
+        if let Some(answer) = wrong_made(alloc, line)? {
+            return Ok(Some(format!(in alloc; "{line}\nis answered with {answer}")?));
+        }
+    }
+    Ok(None)
+}
+
 #[test]
 fn core_types_have_limits(rt: HostRuntime) -> Result<(), Fail> {
-    for line in MADE.split('\n') {
-        let wrong = wrong_made(rt.alloc(), line)?;
-        assert!(rt; wrong.is_none(), "{line}\nis answered with {wrong:?}");
-    }
+    let wrong = first_wrong(rt.alloc(), MADE)?;
+    assert!(rt; wrong.is_none(), "{wrong:?}");
     Ok(())
 }
 
 #[test]
 fn a_component_has_a_million_types_that_differ(rt: HostRuntime) -> Result<(), Fail> {
-    for line in DISTINCT.split('\n') {
-        let wrong = wrong_made(rt.alloc(), line)?;
-        assert!(rt; wrong.is_none(), "{line}\nis answered with {wrong:?}");
-    }
+    let wrong = first_wrong(rt.alloc(), DISTINCT)?;
+    assert!(rt; wrong.is_none(), "{wrong:?}");
     Ok(())
 }
 
 #[test]
 fn types_of_modules_count(rt: HostRuntime) -> Result<(), Fail> {
-    for line in OF_MODULES.split('\n') {
-        let wrong = wrong_made(rt.alloc(), line)?;
-        assert!(rt; wrong.is_none(), "{line}\nis answered with {wrong:?}");
-    }
+    let wrong = first_wrong(rt.alloc(), OF_MODULES)?;
+    assert!(rt; wrong.is_none(), "{wrong:?}");
     Ok(())
 }
 
 #[test]
 fn a_space_has_a_million_types(rt: HostRuntime) -> Result<(), Fail> {
-    for line in EQUAL.split('\n') {
-        let wrong = wrong_made(rt.alloc(), line)?;
-        assert!(rt; wrong.is_none(), "{line}\nis answered with {wrong:?}");
-    }
+    let wrong = first_wrong(rt.alloc(), EQUAL)?;
+    assert!(rt; wrong.is_none(), "{wrong:?}");
     Ok(())
 }
 
 #[test]
 fn the_last_of_a_million_types_counts(rt: HostRuntime) -> Result<(), Fail> {
-    for line in LAST_TYPES.split('\n') {
-        let wrong = wrong_made(rt.alloc(), line)?;
-        assert!(rt; wrong.is_none(), "{line}\nis answered with {wrong:?}");
-    }
+    let wrong = first_wrong(rt.alloc(), LAST_TYPES)?;
+    assert!(rt; wrong.is_none(), "{wrong:?}");
     Ok(())
 }

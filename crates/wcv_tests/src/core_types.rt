@@ -85,6 +85,11 @@ core-type {"module":[]} ; [{"array":{"type":{"ref":0}}}] => WrongSort
 type {"func":{"params":[]}} ; [{"func":[[{"ref":0}],[{"ref":0}]]}] => ok
 type {"func":{"params":[]}} ; [{"func":[[{"ref":1}],[]]}] => OutOfBounds
 [{"func":[[],[]]}] ; import {"name":"f","type":{"func":0}} => OutOfBounds
+core-type {"module":[]} ; [{"super":0,"func":[[],[]]}] => WrongSort
+core-type {"module":[]} ; [{"final":false,"struct":[]},{"super":0,"struct":[]}] => WrongSort
+[{"super":1,"func":[[],[]]}] => OutOfBounds
+[{"final":false,"func":[[],[]]}] ; [{"super":2,"func":[[],[]]}] => OutOfBounds
+[{"struct":[{"type":{"ref":1,"null":true},"mut":true}]},{"array":{"type":{"ref":0}}}] => ok
 "#;
 
 // Declared supertypes: which types may be one.
@@ -106,6 +111,8 @@ const SUPERTYPES: &str = r#"
 ["shared-everything-threads","gc"] | [{"final":false,"shared":true,"func":[[],[]]}] ; [{"super":0,"func":[[],[]]}] => CoreType
 ["shared-everything-threads","gc"] | [{"final":false,"func":[[],[]]}] ; [{"super":0,"shared":true,"func":[[],[]]}] => CoreType
 ["shared-everything-threads","gc"] | [{"final":false,"shared":true,"func":[[],[]]}] ; [{"super":0,"shared":true,"func":[[],[]]}] => ok
+[{"final":false,"struct":[]}] ; [{"final":false,"super":0,"struct":[]}] ; [{"super":1,"struct":[]}] ; [{"final":false,"func":[[],[{"ref":0}]]}] ; [{"super":3,"func":[[],[{"ref":2}]]}] => ok
+[{"final":false,"struct":[]}] ; [{"final":false,"super":0,"struct":[]}] ; [{"super":1,"struct":[]}] ; [{"final":false,"func":[[],[{"ref":2}]]}] ; [{"super":3,"func":[[],[{"ref":0}]]}] => CoreType
 "#;
 
 // And whether its form fits.
@@ -206,7 +213,19 @@ extern any CoreType
 noextern any CoreType
 noexn exn ok
 exn noexn CoreType
-noexn any CoreType";
+noexn any CoreType
+nofunc nofunc ok
+none none ok
+i31 i31 ok
+exn exn ok
+extern func CoreType
+func extern CoreType
+nofunc extern CoreType
+noextern func CoreType
+none exn CoreType
+noexn none CoreType
+i31 none CoreType
+any struct CoreType";
 
 // Shared types hold shared references alone.
 const SHARED: &str = r#"
@@ -274,6 +293,16 @@ const FEATURES: &str = r#"
 [{"func":[[{"ref":"func","null":true,"shared":true}],[]]}] => Feature
 ["shared-everything-threads"] | [{"func":[[{"ref":"func","null":true,"shared":true}],[]]}] => ok
 [] | [{"func":[[{"ref":"func","null":true,"shared":false}],[]]}] => ok
+["exceptions"] | [{"func":[[{"ref":"exn"}],[]]}] => Feature
+["function-references"] | [{"func":[[{"ref":"exn"}],[]]}] => Feature
+["exceptions","function-references"] | [{"func":[[{"ref":"exn"}],[]]}] => ok
+["gc"] | [{"array":{"type":"v128"}}] => Feature
+["gc","simd"] | [{"array":{"type":"v128"}}] => ok
+["gc"] | [{"func":[[],[]]},{"func":[[],["v128"]]}] => Feature
+["gc"] | [{"func":[[],[]]},{"shared":true,"func":[[],[]]}] => Feature
+["gc","shared-everything-threads"] | [{"func":[[],[]]},{"shared":true,"func":[[],[]]}] => ok
+["gc"] | [{"struct":[{"type":{"ref":"func","null":true,"shared":true}}]}] => Feature
+["gc","shared-everything-threads"] | [{"struct":[{"type":{"ref":"func","null":true,"shared":true}}]}] => ok
 "#;
 
 // The line with each group in it as an item.

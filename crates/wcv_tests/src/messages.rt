@@ -30,6 +30,18 @@ TI
 => refused MethodName at 2
 item 2: export `[method]a.b` must be a function whose first parameter is `self`, a borrow of the resource that is named `a` here
 
+A constructor with no result.
+T
+{"at":1,"import":{"name":"[constructor]a","type":{"func":0}}}
+=> refused MethodName at 1
+item 1: import `[constructor]a` must be a function, not async, whose result owns the resource that is named `a` here, or is a `result` with that as its ok type
+
+A static function of no resource.
+T
+{"at":1,"import":{"name":"[static]a.b","type":{"func":0}}}
+=> refused MethodName at 1
+item 1: import `[static]a.b` must be a function, where a resource is named `a` here
+
 `error-context`.
 -
 {"at":0,"type":{"func":{"params":[["x","error-context"]]}}}

@@ -108,6 +108,44 @@ wcv validate
 0: func {"a-1" u8, "AB" u8, "a-B2-c" u8, "a1" u8} -> -
 import "a-1" func 0
 import "AB" func 0
+
+A resource with a constructor, a method and a static function.
+wcv validate
+{"version":1,"items":[
+{"at":0,"import":{"name":"r","type":"sub-resource"}},
+{"at":1,"type":{"defined":{"own":0}}},
+{"at":2,"type":{"defined":{"borrow":0}}},
+{"at":3,"type":{"func":{"params":[],"result":1}}},
+{"at":4,"type":{"func":{"params":[["self",2]]}}},
+{"at":5,"import":{"name":"[constructor]r","type":{"func":3}}},
+{"at":6,"import":{"name":"[method]r.f","type":{"func":4}}},
+{"at":7,"import":{"name":"[static]r.g","type":{"func":4}}}],"end":99}
+=> accepted 5 3
+0: resource r0
+import "r" type 0 of 0
+1: own 0
+2: func {} -> 1
+import "[constructor]r" func 2
+3: borrow 0
+4: func {"self" 3} -> -
+import "[method]r.f" func 4
+import "[static]r.g" func 4
+imported r0 [0]
+
+Ids beside the names of a resource, a function and an export.
+wcv validate
+{"version":1,"items":[
+{"at":0,"import":{"name":{"name":"r","id":"a \" b"},"type":"sub-resource"}},
+{"at":1,"type":{"func":{"params":[]}}},
+{"at":2,"import":{"name":{"name":"f","id":""},"type":{"func":1}}},
+{"at":3,"export":{"name":{"name":"g","id":"x"},"sort":"func","index":0}}],"end":99,"features":["cm-implements"]}
+=> accepted 2 2
+0: resource r0
+import "r" type 0 of 0 id "a \" b"
+1: func {} -> -
+import "f" func 1 id ""
+export "g" func 1 id "x"
+imported r0 [0]
 "#;
 
 const REFUSED: &str = r#"
