@@ -3,38 +3,39 @@ use Rattle.std.proofs.Common.{◌≡◌, ◌⊎◌, ℕ, List, [], ◌∷◌, �
 use Rattle.std.specs.Prelude.{not}
 use Rattle.std.proofs.lemmas.List.{map-append}
 use Rattle.wcv_core.specs.Checks.{Checks, Cause, IsFree, MemoryOrCausedBy}
-use Rattle.wcv_core.specs.Label.{is_among}
 use Rattle.wcv_core.specs.Refusal.{error_kind, error_offset}
 use Rattle.wcv_core.specs.declared.error.Error.{Error}
 use Rattle.wcv_core.specs.declared.error.ErrorKind.TheVariants as kind
 use Rattle.wcv_core.specs.declared.features.WasmFeatures.{WasmFeatures}
 use Rattle.wcv_syntax.specs.ExternName.{Form}
 use Rattle.wcv_syntax.specs.FormOf.{form_of}
+use Rattle.wcv_syntax.specs.Keys.{key_of}
+use Rattle.wcv_syntax.specs.declared.key.NameKey.{NameKey}
 use Rattle.wcv_types.specs.Tree.{Text, Extern_name}
 use Rattle.wcv_types.specs.Entities.{entry_trees}
 use Rattle.wcv_types.specs.Unfold.{Type_tree}
 use Rattle.wcv_types.specs.declared.info.TypeInfo.{TypeInfo}
 use Rattle.wcv_types.specs.declared.item_map.ComponentItem.{ComponentItem}
 use Rattle.wcv_names.specs.FuncTrees.{names_in}
-use Rattle.wcv_names.specs.Externs.{is_instance_tree, has_key, conflicts, breaks_rule, entry_names, extern_checks, too_large_with}
-use Rattle.wcv_names.specs.KeySet.{HasKeys, key_text_of, keys_in}
+use Rattle.wcv_names.specs.Externs.{is_instance_tree, is_taken, conflicts, breaks_rule, entry_names, extern_checks, too_large_with}
+use Rattle.wcv_names.specs.KeySet.{HasKeys, has_key, keys_in}
 use Rattle.wcv_names.specs.ResourceNames.{Resource_names}
 use Rattle.wcv_names.specs.Rules.{Entries, follows}
 use Rattle.wcv_names.specs.WholeNames.{is_bad_name, lacks_feature, IsNameFault, NameRefused}
 
 -- whether the key is taken, by the set of keys
-key_there : (s : List Text) (names : List Text) (n : Text) (f : Form) → HasKeys s names → Some f ≡ form_of n → is_among (key_text_of f) s ≡ conflicts names n
-key_there s names n f h e = h (key_text_of f) ∙ ap (λ (o : Option Form). has_key o (keys_in names)) e
+key_there : (s : List NameKey) (names : List Text) (n : Text) (f : Form) → HasKeys s names → Some f ≡ form_of n → has_key (key_of f) s ≡ conflicts names n
+key_there s names n f h e = h (key_of f) ∙ ap (λ (o : Option Form). is_taken o (keys_in names)) e
 
 not_is : (a b : Bool) → a ≡ not b → (a ≡ true → b ≡ false) × (a ≡ false → b ≡ true)
 not_is a true h = (λ e. let k : true ≡ false = sym e ∙ h in cc k, λ e. refl)
 not_is a false h = (λ e. refl, λ e. let k : false ≡ true = sym e ∙ h in cc k)
 
-pub key_new : (s : List Text) (names : List Text) (n : Text) (f : Form) (added : Bool) → HasKeys s names → Some f ≡ form_of n → added ≡ not (is_among (key_text_of f) s) → added ≡ true → conflicts names n ≡ false
-key_new s names n f added h e a k = sym (key_there s names n f h e) ∙ (not_is added (is_among (key_text_of f) s) a).0 k
+pub key_new : (s : List NameKey) (names : List Text) (n : Text) (f : Form) (added : Bool) → HasKeys s names → Some f ≡ form_of n → added ≡ not (has_key (key_of f) s) → added ≡ true → conflicts names n ≡ false
+key_new s names n f added h e a k = sym (key_there s names n f h e) ∙ (not_is added (has_key (key_of f) s) a).0 k
 
-pub key_taken : (s : List Text) (names : List Text) (n : Text) (f : Form) (added : Bool) → HasKeys s names → Some f ≡ form_of n → added ≡ not (is_among (key_text_of f) s) → added ≡ false → conflicts names n ≡ true
-key_taken s names n f added h e a k = sym (key_there s names n f h e) ∙ (not_is added (is_among (key_text_of f) s) a).1 k
+pub key_taken : (s : List NameKey) (names : List Text) (n : Text) (f : Form) (added : Bool) → HasKeys s names → Some f ≡ form_of n → added ≡ not (has_key (key_of f) s) → added ≡ false → conflicts names n ≡ true
+key_taken s names n f added h e a k = sym (key_there s names n f h e) ∙ (not_is added (has_key (key_of f) s) a).1 k
 
 -- the names of entries by ids are those of their trees
 pub names_same : (ts : List Type_tree) (es : List (Text × ComponentItem)) → entry_names (entry_trees ts es) ≡ names_in es
@@ -85,5 +86,5 @@ module _ (ts : List Type_tree) (items : List (Text × ComponentItem)) (ns : Reso
   by_memory e k = inl k
 
 -- the names with that of the entry
-pub keys_of_joined : (s : List Text) (es fs : List (Text × ComponentItem)) (e : Text × ComponentItem) → fs ≡ es ++ e ∷ [] → HasKeys s (names_in es ++ e.0 ∷ []) → HasKeys s (names_in fs)
+pub keys_of_joined : (s : List NameKey) (es fs : List (Text × ComponentItem)) (e : Text × ComponentItem) → fs ≡ es ++ e ∷ [] → HasKeys s (names_in es ++ e.0 ∷ []) → HasKeys s (names_in fs)
 keys_of_joined s es fs e w h = subst (HasKeys s) (sym (ap names_in w ∙ map-append (λ (x : Text × ComponentItem). x.0) es (e ∷ []))) h

@@ -1,23 +1,22 @@
 -- The first entry of a name: where the keys of a list differ, any entry of the name is the first.
-use Rattle.std.proofs.Common.{◌≡◌, ◌⊎◌, inl, inr, ℕ, zero, suc, ◌≤◌, List, [], ◌∷◌, Bool, true, false, ◌||◌, cond, Option, Some, None, bytes_eq, length, refl, sym, ap, ◌∙◌, subst, arith}
+use Rattle.std.proofs.Common.{◌≡◌, ◌⊎◌, inl, inr, ℕ, zero, suc, ◌≤◌, List, [], ◌∷◌, Bool, true, false, cond, Option, Some, None, bytes_eq, length, refl, sym, ap, ◌∙◌, subst, arith}
 use Rattle.std.specs.Prelude.{All, option_map, slice_get}
 use Rattle.std.specs.List.{IsDistinct}
 use Rattle.std.specs.Map.{lookup}
-use Rattle.std.specs.Set.{is_member}
-use Rattle.std.proofs.lemmas.Cmp.{nat_list_eq_equiv}
 use Rattle.std.proofs.lemmas.List.Elements.{All-head, All-tail}
 use Rattle.std.proofs.lemmas.Map.Made.{length-le_from_is_member}
 use Rattle.std.proofs.lemmas.Slice.Eq.{bytes_eq-Decides}
-use Rattle.wcv_core.specs.Label.{is_among}
 use Rattle.wcv_syntax.specs.ExternName.{Form}
 use Rattle.wcv_syntax.specs.FormOf.{form_of}
+use Rattle.wcv_syntax.specs.declared.key.NameKey.{NameKey}
 use Rattle.wcv_types.specs.Arena.{Arena}
 use Rattle.wcv_types.specs.Entities.{entity_tree, entry_trees, EntityStands, EntryStands}
 use Rattle.wcv_types.specs.Tree.{Text}
 use Rattle.wcv_types.specs.Unfold.{Type_tree}
 use Rattle.wcv_types.specs.declared.item_map.ComponentItem.{ComponentItem}
 use Rattle.wcv_names.specs.FuncTrees.{names_in}
-use Rattle.wcv_names.specs.KeySet.{HasKeys, with_key, keys_in}
+use Rattle.wcv_names.specs.Ranked.{same_key, same_key-equivalence}
+use Rattle.wcv_names.specs.KeySet.{HasKeys, has_key, with_key, keys_in}
 use Rattle.wcv_names.specs.Rules.{by_name}
 use Rattle.wcv_names.proofs.KeySets.{key_once, keys_swap, key_on}
 
@@ -33,11 +32,11 @@ some e = cc e
 -- ## Names that repeat
 
 -- the key of a name that stands later is one of the keys already
-again : (t x : Text) (k : ℕ) (es : List Entry) (e : Entry) → slice_get es k ≡ Some e → x ≡ e.0 → is_among t (with_key (form_of x) (keys_in (names_in es))) ≡ is_among t (keys_in (names_in es))
+again : (t : NameKey) (x : Text) (k : ℕ) (es : List Entry) (e : Entry) → slice_get es k ≡ Some e → x ≡ e.0 → has_key t (with_key (form_of x) (keys_in (names_in es))) ≡ has_key t (keys_in (names_in es))
 again t x k [] e h w = cc h
 again t x zero (y ∷ es) e h w =
     let same : x ≡ y.0 = w ∙ sym (ap (λ (z : Entry). z.0) (some h)) in
-    ap (λ (z : Text). is_among t (with_key (form_of z) (with_key (form_of y.0) (keys_in (names_in es))))) same ∙ key_once t (form_of y.0) (keys_in (names_in es))
+    ap (λ (z : Text). has_key t (with_key (form_of z) (with_key (form_of y.0) (keys_in (names_in es))))) same ∙ key_once t (form_of y.0) (keys_in (names_in es))
 again t x (suc k) (y ∷ es) e h w =
     keys_swap t (form_of x) (form_of y.0) (keys_in (names_in es)) ∙ key_on t (form_of y.0) (with_key (form_of x) (keys_in (names_in es))) (keys_in (names_in es)) (again t x k es e h w)
 
@@ -45,7 +44,7 @@ again t x (suc k) (y ∷ es) e h w =
 record Repeats (es : List Entry) : Type 0 where
   rest : List Entry
   longer : length es ≡ suc (length rest)
-  same : (t : Text) → is_among t (keys_in (names_in es)) ≡ is_among t (keys_in (names_in rest))
+  same : (t : NameKey) → has_key t (keys_in (names_in es)) ≡ has_key t (keys_in (names_in rest))
 
 first_or : (g : Text) (k : ℕ) (es : List Entry) (e : Entry) → slice_get es k ≡ Some e → bytes_eq g e.0 ≡ true → (lookup (bytes_eq g) es ≡ Some e.1) ⊎ Repeats es
 first_or g k [] e h q = cc h
@@ -65,10 +64,6 @@ first_or g (suc k) (x ∷ es) e h q = go (bytes_eq g x.0) refl (first_or g k es 
 
 -- ## A set with as many keys as there are names
 
-member_is : (t : Text) (us : List Text) → is_member bytes_eq us t ≡ is_among t us
-member_is t [] = refl
-member_is t (u ∷ us) = ap (λ (b : Bool). bytes_eq t u || b) (member_is t us)
-
 fewer_keys : (ns : List Text) → length (keys_in ns) ≤ length ns
 fewer_keys [] = omega arith
 fewer_keys (n ∷ ns) = go (form_of n) (fewer_keys ns)
@@ -82,16 +77,15 @@ as_many_names [] = refl
 as_many_names (e ∷ es) = ap suc (as_many_names es)
 
 -- then the entry is the first of its name
-pub first_at : (g : Text) (k : ℕ) (set : List Text) (es : List Entry) (e : Entry) → HasKeys set (names_in es) → IsDistinct bytes_eq set → length set ≡ length es → slice_get es k ≡ Some e → bytes_eq g e.0 ≡ true → Some e.1 ≡ lookup (bytes_eq g) es
+pub first_at : (g : Text) (k : ℕ) (set : List NameKey) (es : List Entry) (e : Entry) → HasKeys set (names_in es) → IsDistinct same_key set → length set ≡ length es → slice_get es k ≡ Some e → bytes_eq g e.0 ≡ true → Some e.1 ≡ lookup (bytes_eq g) es
 first_at g k set es e has apart many h q = go (first_or g k es e h q)
   where
     go : (lookup (bytes_eq g) es ≡ Some e.1) ⊎ Repeats es → Some e.1 ≡ lookup (bytes_eq g) es
     go (inl r) = sym r
     go (inr r) =
-        let keys : List Text = keys_in (names_in r.rest) in
+        let keys : List NameKey = keys_in (names_in r.rest) in
         let few : length set ≤ length keys =
-        length-le_from_is_member nat_list_eq_equiv set keys apart
-        (λ t i. member_is t keys ∙ sym (has t ∙ r.same t) ∙ sym (member_is t set) ∙ i)
+        length-le_from_is_member same_key-equivalence set keys apart (λ t i. sym (has t ∙ r.same t) ∙ i)
         in
         let names : length keys ≤ length (names_in r.rest) = fewer_keys (names_in r.rest) in
         absurd (omega (arith, few, names, many, r.longer, as_many_names r.rest))

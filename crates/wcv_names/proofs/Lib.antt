@@ -3,6 +3,7 @@ pub mod ByNames
 pub mod Shaping
 pub mod NameRules
 pub mod KeySets
+pub mod Placing
 pub mod FuncTrees
 pub mod SameItems
 pub mod SameTrees

@@ -1,11 +1,12 @@
 -- Why an entry may not join a list of imports or of exports.
 use Rattle.std.specs.Prelude.{suc, max, ◌+◌, List, [], ◌∷◌, ◌++◌, map, Bool, true, false, not, Option, Some, None}
 use Rattle.wcv_core.specs.Checks.{Checks, too_many}
-use Rattle.wcv_core.specs.Label.{is_among}
 use Rattle.wcv_core.specs.declared.error.ErrorKind.TheVariants as kind
 use Rattle.wcv_core.specs.declared.features.WasmFeatures.{WasmFeatures}
 use Rattle.wcv_syntax.specs.ExternName.{Form, Access, call, get, set}
 use Rattle.wcv_syntax.specs.FormOf.{form_of}
+use Rattle.wcv_syntax.specs.Keys.{key_of}
+use Rattle.wcv_syntax.specs.declared.key.NameKey.{NameKey}
 use Rattle.wcv_syntax.specs.declared.name.ComponentExternName.{ComponentExternName}
 use Rattle.wcv_types.specs.Info.{max_size, max_depth}
 use Rattle.wcv_types.specs.Measure.{size, depth}
@@ -14,7 +15,7 @@ use Rattle.wcv_types.specs.Unfold.{Type_tree}
 use Rattle.wcv_types.specs.declared.info.TypeInfo.{TypeInfo}
 use Rattle.wcv_types.specs.declared.item_map.ComponentItem.{ComponentItem}
 use Rattle.wcv_types.specs.declared.shapes.ComponentEntityType.{ComponentEntityType}
-use Rattle.wcv_names.specs.KeySet.{key_text_of, keys_in}
+use Rattle.wcv_names.specs.KeySet.{has_key, keys_in}
 use Rattle.wcv_names.specs.ResourceNames.{Resource_names}
 use Rattle.wcv_names.specs.Rules.{Entries, follows}
 use Rattle.wcv_names.specs.WholeNames.{is_bad_name, lacks_feature}
@@ -35,13 +36,13 @@ abbrev pub breaks_rule : Resource_names → Entries → Option Form → Type_tre
 breaks_rule ns es None t = false
 breaks_rule ns es (Some f) t = not (follows ns es f t)
 
-abbrev pub has_key : Option Form → List Text → Bool
-has_key None ks = false
-has_key (Some f) ks = is_among (key_text_of f) ks
+abbrev pub is_taken : Option Form → List NameKey → Bool
+is_taken None ks = false
+is_taken (Some f) ks = has_key (key_of f) ks
 
 -- one of the names has the key of that name
 abbrev pub conflicts : List Text → Text → Bool
-conflicts names t = has_key (form_of t) (keys_in names)
+conflicts names t = is_taken (form_of t) (keys_in names)
 
 -- the names of entries
 abbrev pub entry_names : {X : Type 0} → List (Extern_name × X) → List Text

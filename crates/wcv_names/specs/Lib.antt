@@ -4,6 +4,7 @@ pub mod SameValues
 pub mod Rules
 pub mod Shapes
 pub mod WholeNames
+pub mod Ranked
 pub mod KeySet
 pub mod FuncTrees
 pub mod Externs

@@ -21,7 +21,7 @@ use crate::name_set::NameSet;
 use crate::wanted::Wanted;
 use std::alloc::Global;
 use wcv_core::{Error, ErrorKind, Excerpt, ExternKind, OutOfMemory, Text};
-use wcv_syntax::ComponentNameKind;
+use wcv_syntax::{ComponentNameKind, NameKey};
 use wcv_types::{ComponentEntityType, ComponentFuncType, ComponentItem, ItemMap, TypeAlloc};
 
 fn is_setter(kind: &ComponentNameKind<'_>) -> bool
@@ -66,7 +66,7 @@ fn getter_kind<'a>(kind: &ComponentNameKind<'a>) -> ComponentNameKind<'a>
 /// has the name and there are as many keys as entries; else the list is looked through.
 fn first_item<'a>(
     name: &Text,
-    key: String,
+    key: NameKey,
     names: &NameSet,
     items: &'a ItemMap,
 ) -> Option<&'a ComponentItem>
@@ -103,7 +103,7 @@ fn is_paired(
         return Ok(true);
     }
     let name = kind.getter_for_setter(alloc)?;
-    let key = getter_kind(kind).key_text(alloc)?;
+    let key = getter_kind(kind).uniqueness_key(alloc)?;
     let given = match first_item(&name, key, names, items) {
         Some(item) => gotten(&item.ty, types),
         None => return Ok(false),

@@ -8,6 +8,7 @@ mod extern_entry;
 mod follows;
 mod functions;
 mod name_set;
+mod ranked;
 mod shapes;
 mod values;
 mod wanted;
