@@ -1,10 +1,11 @@
 -- Depths and declared supertypes.
+use Rattle.wcv_core.specs.Limits.{max_supertypes}
 use Rattle.std.proofs.Common.{◌≡◌, ℕ, zero, suc, ◌+◌, ◌-◌, ◌<◌, ◌≤◌, List, [], ◌∷◌, ◌++◌, length, map, get_or, eqb, Bool, true, false, ◌||◌, ◌⊎◌, inl, inr, Option, Some, None, IfSome, refl, sym, ◌∙◌, ap, arith, subst, length-append, eq-eqb, nat_lt}
 use Rattle.std.proofs.lemmas.Bool.{eqb-true}
 use Rattle.wcv_core.specs.CoreForm.{Group}
 use Rattle.wcv_core.specs.CoreGroups.{total, parent_in, parents_from, AreOrdered, AreClosed, depth_after, add_depths, depths_of}
 use Rattle.wcv_core.specs.Checks.{Cause}
-use Rattle.wcv_core.specs.CoreRules.{max_supertypes, super_checks, type_checks}
+use Rattle.wcv_core.specs.CoreRules.{super_checks, type_checks}
 use Rattle.wcv_core.specs.declared.error.ErrorKind.{ErrorKind}
 use Rattle.wcv_core.specs.declared.error.ErrorKind.TheVariants as kind
 use Rattle.wcv_core.specs.CoreAbove.{if_parent, climbs, is_declared}

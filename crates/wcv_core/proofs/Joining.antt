@@ -1,15 +1,20 @@
 -- The causes of a written group, put together.
-use Rattle.std.proofs.Common.{◌≡◌, ℕ, zero, suc, ◌+◌, ◌<◌, ◌≤◌, List, [], ◌∷◌, ◌++◌, length, Bool, true, false, cond, not, ◌==◌, ◌&&◌, Some, refl, sym, ◌∙◌, ap, arith, subst, inl, inr}
+use Rattle.wcv_core.specs.Limits.{max_entries}
+use Rattle.std.proofs.Common.{◌≡◌, ℕ, zero, suc, ◌+◌, ◌<◌, ◌≤◌, List, [], ◌∷◌, ◌++◌, length, Bool, true, false, cond, not, ◌==◌, ◌&&◌, Some, None, nat_lt, refl, sym, ◌∙◌, ap, arith, subst, inl, inr}
+use Rattle.std.specs.List.{range_with_len}
+use Rattle.std.specs.Option.{unwrap_or}
 use Rattle.std.specs.Str.{bytes_eq}
-use Rattle.wcv_core.specs.Checks.{Checks, IsFree, CausedBy, MemoryOrCausedBy, all_checks}
+use Rattle.wcv_core.specs.Checks.{Checks, IsFree, CausedBy, MemoryOrCausedBy, all_checks, too_many}
 use Rattle.wcv_core.specs.CoreCode.{code_of}
 use Rattle.wcv_core.specs.CoreFeatures.{group_needs}
 use Rattle.wcv_core.specs.CoreForm.{SubForm, Group}
 use Rattle.wcv_core.specs.CoreGroups.{total, id_from, id_of}
-use Rattle.wcv_core.specs.CoreJoining.{order_checks, written_checks, table_checks, grown, is_free, then_checks, group_checks}
-use Rattle.wcv_core.specs.CoreTable.{with_group}
+use Rattle.wcv_core.specs.CoreJoining.{group_ids, order_checks, rule_checks, written_checks, table_checks, grown, is_free, then_checks, group_checks}
+use Rattle.wcv_core.specs.CoreRules.{type_checks}
+use Rattle.wcv_core.specs.CoreTable.{joined_to, with_group, passes, limit_checks}
 use Rattle.wcv_core.specs.CoreWritten.{Core_entry, index_checks, closed_sub, closed_group}
 use Rattle.wcv_core.specs.declared.error.Error.{Error}
+use Rattle.wcv_core.specs.declared.error.ErrorKind.TheVariants as kind
 use Rattle.wcv_core.specs.declared.features.WasmFeatures.{WasmFeatures}
 use Rattle.wcv_core.proofs.Causes.{free_both}
 use Rattle.wcv_core.proofs.Finding.{same_group-true}
@@ -71,7 +76,41 @@ pub some_grown : (gs : List Group) (g : Group) → 0 < length g → grown gs g �
 some_grown gs [] h = Prim.absurd (omega arith)
 some_grown gs (s ∷ g) h = refl
 
--- ## A group that the table has, and one that it has not
+pub some_checks : (gs : List Group) (g : Group) → 0 < length g → rule_checks gs g ≡ table_checks gs g
+some_checks gs [] h = Prim.absurd (omega arith)
+some_checks gs (s ∷ g) h = refl
+
+-- ## A group that the table has not
+
+limit_new : (gs : List Group) (g : Group) (n : ℕ) → id_of gs g ≡ None → n ≡ length g → too_many max_entries (total gs + n) ≡ limit_checks gs g
+limit_new gs g n a l = (λ j. (kind.Limit, nat_lt max_entries (total gs + l j)) ∷ []) ∙ sym (λ j. (kind.Limit, passes (a j) gs g) ∷ [])
+
+rules_new : (gs hs : List Group) (g : Group) (i n : ℕ) → id_of gs g ≡ None → hs ≡ gs ++ g ∷ [] → i ≡ total gs → n ≡ length g
+    → all_checks (type_checks hs) (range_with_len i n) ≡ all_checks (type_checks (with_group gs g)) (group_ids gs g)
+rules_new gs hs g i n a h f l =
+    (λ j. all_checks (type_checks (h j)) (range_with_len (f j) (l j))) ∙ sym (λ j. all_checks (type_checks (joined_to (a j) gs g)) (range_with_len (unwrap_or (a j) (total gs)) (length g)))
+
+pub limit_free : (gs : List Group) (g : Group) (n : ℕ) → id_of gs g ≡ None → n ≡ length g → IsFree (too_many max_entries (total gs + n)) → IsFree (limit_checks gs g)
+limit_free gs g n a l f = subst IsFree (limit_new gs g n a l) f
+
+pub limit_caused : (gs : List Group) (g : Group) (n offset : ℕ) (e : Error) → id_of gs g ≡ None → n ≡ length g → CausedBy (too_many max_entries (total gs + n)) offset e → MemoryOrCausedBy (limit_checks gs g) offset e
+limit_caused gs g n offset e a l c = inr (subst (λ (cs : Checks). CausedBy cs offset e) (limit_new gs g n a l) c)
+
+pub rules_free : (gs hs : List Group) (g : Group) (i n : ℕ) → id_of gs g ≡ None → hs ≡ gs ++ g ∷ [] → i ≡ total gs → n ≡ length g
+    → IsFree (too_many max_entries (total gs + n)) → IsFree (all_checks (type_checks hs) (range_with_len i n)) → IsFree (rule_checks gs g)
+rules_free gs hs g i n a h f l r c =
+    free_both (limit_checks gs g) (all_checks (type_checks (with_group gs g)) (group_ids gs g)) (limit_free gs g n a l r) (subst IsFree (rules_new gs hs g i n a h f l) c)
+
+pub room_caused : (gs : List Group) (g : Group) (n offset : ℕ) (e : Error) → id_of gs g ≡ None → n ≡ length g → CausedBy (too_many max_entries (total gs + n)) offset e → MemoryOrCausedBy (rule_checks gs g) offset e
+room_caused gs g n offset e a l c =
+    inr (caused_left (limit_checks gs g) (all_checks (type_checks (with_group gs g)) (group_ids gs g)) offset e (subst (λ (cs : Checks). CausedBy cs offset e) (limit_new gs g n a l) c))
+
+pub rules_caused : (gs hs : List Group) (g : Group) (i n offset : ℕ) (e : Error) → id_of gs g ≡ None → hs ≡ gs ++ g ∷ [] → i ≡ total gs → n ≡ length g
+    → CausedBy (all_checks (type_checks hs) (range_with_len i n)) offset e → MemoryOrCausedBy (rule_checks gs g) offset e
+rules_caused gs hs g i n offset e a h f l c =
+    inr (caused_right (limit_checks gs g) (all_checks (type_checks (with_group gs g)) (group_ids gs g)) offset e (subst (λ (cs : Checks). CausedBy cs offset e) (rules_new gs hs g i n a h f l) c))
+
+-- ## A group that the table has
 
 found_room : (n : ℕ) (gs : List Group) (g : Group) (i : ℕ) → id_from n gs (code_of g) ≡ Some i → i + length g ≤ n + total gs
 found_room n [] g i e = cc

@@ -25,9 +25,6 @@ pub same_place-refl : (p : Place) → same_place p p ≡ true
 same_place-refl [] = refl
 same_place-refl (m ∷ p) = and_both _ _ (eq-eqb m m refl) (same_place-refl p)
 
-pub same_place-equal : (p q : Place) → p ≡ q → same_place p q ≡ true
-same_place-equal p q e = subst (λ (x : Place). same_place p x ≡ true) e (same_place-refl p)
-
 pub same-true : (a b : Name) → same a b ≡ true → a ≡ b
 same-true (number m) (number n) h = ap number (eqb-true m n h)
 same-true (stamp m) (stamp n) h = ap stamp (eqb-true m n h)

@@ -1,4 +1,5 @@
 -- The features that core types need, and the limits on their lists.
+use Rattle.wcv_core.specs.Limits.{max_list, max_params}
 use Rattle.std.specs.Prelude.{ℕ, List, [], ◌∷◌, ◌++◌, length, Bool, true, false, ◌&&◌, not, eqb, is_some, codes}
 use Rattle.wcv_core.specs.Checks.{Checks, all_checks, too_many}
 use Rattle.wcv_core.specs.CoreForm.{CompositeForm, func_form, struct_form, array_form, SubForm, Group}
@@ -86,24 +87,16 @@ group_needs fs w = needs fs gc (not (eqb (length w) 1)) ++ all_checks (sub_needs
 
 -- ## Limits on lists, which the interning of a group leaves to its caller
 
--- the most parameters of a core function, and the most results
-abbrev pub max_core_params : ℕ
-max_core_params = 1000
-
--- the most fields of a struct, and the most types of a group
-abbrev pub max_core_list : ℕ
-max_core_list = 100000
-
 abbrev pub form_left : CompositeForm → Checks
-form_left (func_form ps rs) = too_many max_core_params (length ps) ++ too_many max_core_params (length rs)
-form_left (struct_form ts) = too_many max_core_list (length ts)
+form_left (func_form ps rs) = too_many max_params (length ps) ++ too_many max_params (length rs)
+form_left (struct_form ts) = too_many max_list (length ts)
 form_left (array_form t) = []
 
 abbrev pub sub_left : SubForm → Checks
 sub_left s = form_left s.inner
 
 abbrev pub group_left : Group → Checks
-group_left w = too_many max_core_list (length w) ++ all_checks sub_left w
+group_left w = too_many max_list (length w) ++ all_checks sub_left w
 
 -- ## Words
 

@@ -1,4 +1,5 @@
 -- Rules over a table that has the group. Types are named by ids.
+use Rattle.wcv_core.specs.Limits.{max_supertypes}
 use Rattle.std.specs.Prelude.{ℕ, ◌+◌, List, [], ◌∷◌, map, Bool, true, false, ◌&&◌, ◌||◌, not, eqb, nat_lt, Option, None, Some, get_or}
 use Rattle.std.specs.List.{list_all}
 use Rattle.std.specs.Str.{bytes_eq}
@@ -106,10 +107,6 @@ form_shared gs (struct_form fs) = list_all (field_shared gs) fs
 form_shared gs (array_form f) = field_shared gs f
 
 -- ## Each type of the table
-
--- the most declared supertypes above a type
-abbrev pub max_supertypes : ℕ
-max_supertypes = 63
 
 -- a type with this declared supertype
 abbrev pub super_checks : List Group → ℕ → Option ℕ → Checks

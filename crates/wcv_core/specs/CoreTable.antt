@@ -1,4 +1,5 @@
 -- The table of core types: groups, each once.
+use Rattle.wcv_core.specs.Limits.{max_entries}
 use Rattle.std.specs.Prelude.{◌≡◌, ℕ, ◌+◌, List, [], ◌∷◌, ◌++◌, length, Bool, Option, None, Some, Vec, nat_lt, false}
 use Rattle.std.specs.BTreeMap.{BTreeMap}
 use Rattle.std.specs.Ordering.{nat_cmp}
@@ -19,13 +20,9 @@ joined_to (Some i) gs g = gs
 abbrev pub with_group : List Group → Group → List Group
 with_group gs g = joined_to (id_of gs g) gs g
 
--- the most types of a table where there is a limit
-abbrev pub max_core_types : ℕ
-max_core_types = 1000000
-
 -- the groups would have too many types
 abbrev pub passes : Option ℕ → List Group → Group → Bool
-passes None gs g = nat_lt max_core_types (total gs + length g)
+passes None gs g = nat_lt max_entries (total gs + length g)
 passes (Some i) gs g = false
 
 abbrev pub passes_limit : List Group → Group → Bool

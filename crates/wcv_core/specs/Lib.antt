@@ -1,5 +1,6 @@
 pub mod Dashes
 pub mod Features
+pub mod Limits
 pub mod Label
 pub mod Kebab
 pub mod Kinds

@@ -1,18 +1,17 @@
 // Whether the types of a group keep the rules, once the group stands in the rows of a table.
+ghost use Rattle.wcv_core.specs.Limits.{max_supertypes};
 ghost use Rattle.std.specs.Prelude.{◌≡◌, ℕ, ◌+◌, ◌≤◌, ◌<◌, Some, get_or, OnOk, IfErr};
 ghost use Rattle.std.specs.List.{range_with_len};
 ghost use Rattle.wcv_core.specs.Checks.{IsFree, CausedBy, all_checks};
 ghost use Rattle.wcv_core.specs.CoreGroups.{total, depths_of};
 ghost use Rattle.wcv_core.specs.CoreMatching.{type_at};
-ghost use Rattle.wcv_core.specs.CoreRules.{form_at, form_matches, form_shared, max_supertypes, super_checks, type_checks};
+ghost use Rattle.wcv_core.specs.CoreRules.{form_at, form_matches, form_shared, super_checks, type_checks};
 ghost use Rattle.wcv_core.specs.Refusal.{error_kind, error_offset};
 
 use crate::core_rows::Rows;
 use crate::core_types::CoreTypeId;
 use crate::error::{Error, ErrorKind};
-
-/// The most declared supertypes above a type.
-const MAX_SUPERTYPES: u64 = 63;
+use crate::limits::MAX_SUPERTYPES;
 
 /// A refusal of the type at this position of its group.
 fn refused(kind: ErrorKind, position: u64, what: &str, offset: u64) -> Error

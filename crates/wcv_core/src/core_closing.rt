@@ -13,7 +13,7 @@ use crate::rec_group::InternRecGroup;
 
 /// Where a group is put into closed form: how many types the table has, how many the group, and the offset
 /// of its item.
-#[derive(Clone, Copy, Debug)]
+#[derive(Clone, Copy)]
 pub struct Site {
     pub known: u64,
     pub len: u64,

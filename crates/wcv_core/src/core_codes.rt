@@ -1,14 +1,13 @@
 // The code of a group, by which the table looks groups up.
 ghost use Rattle.std.specs.Prelude.{◌≡◌, ◌+◌, ◌*◌, ◌++◌, OnOk, IfOk};
 ghost use Rattle.wcv_core.specs.CoreCode.{bit, abstract_number, heap_kind, heap_number, ref_mark, val_code, vals_code, storage_kind, storage_rest, field_code, fields_code, composite_code, super_kind, super_number, sub_mark, sub_code, code_of};
-ghost use Rattle.wcv_core.specs.CoreForm.{func_form, struct_form, composite_form, sub_form, group_form};
+ghost use Rattle.wcv_core.specs.CoreForm.{func_form, composite_form, sub_form, group_form};
 
 use crate::core_types::{
     AbstractHeap, CompositeInnerType, FieldType, FuncType, HeapType, RecGroup, RefType,
-    StorageType, StructType, SubType, SuperType, ValType,
+    StorageType, SubType, SuperType, ValType,
 };
-use crate::memory::OutOfMemory;
-use std::alloc::Global;
+use std::alloc::{AllocError, Global};
 
 fn abstract_number(name: AbstractHeap) -> u64
     ensures { result ≡ abstract_number name }
@@ -52,24 +51,20 @@ pub fn ref_mark(r: RefType) -> u64
     base + nullable + shared
 }
 
-fn push_val(code: &mut Vec<u64>, ty: ValType) -> Result<(), OutOfMemory>
+fn push_val(code: &mut Vec<u64>, ty: ValType) -> Result<(), AllocError>
     ensures { OnOk result (code.new.items ≡ code.old.items ++ val_code ty) }
 {
     match ty {
-        ValType::I32 => code.push(0)?,
-        ValType::I64 => code.push(1)?,
-        ValType::F32 => code.push(2)?,
-        ValType::F64 => code.push(3)?,
-        ValType::V128 => code.push(4)?,
-        ValType::Ref(r) => {
-            code.push(ref_mark(r))?;
-            code.push(heap_number(r.heap))?;
-        }
+        ValType::I32 => code.extend_from_slice(&[0]),
+        ValType::I64 => code.extend_from_slice(&[1]),
+        ValType::F32 => code.extend_from_slice(&[2]),
+        ValType::F64 => code.extend_from_slice(&[3]),
+        ValType::V128 => code.extend_from_slice(&[4]),
+        ValType::Ref(r) => code.extend_from_slice(&[ref_mark(r), heap_number(r.heap)]),
     }
-    Ok(())
 }
 
-fn push_vals(code: &mut Vec<u64>, types: &[ValType]) -> Result<(), OutOfMemory>
+fn push_vals(code: &mut Vec<u64>, types: &[ValType]) -> Result<(), AllocError>
     ensures { OnOk result (code.new.items ≡ code.old.items ++ vals_code types.now) }
 {
     for ty in types {
@@ -89,18 +84,17 @@ fn field_mark(field: FieldType) -> u64
     if field.mutable { kind + 1 } else { kind }
 }
 
-fn push_field(code: &mut Vec<u64>, field: FieldType) -> Result<(), OutOfMemory>
+fn push_field(code: &mut Vec<u64>, field: FieldType) -> Result<(), AllocError>
     ensures { OnOk result (code.new.items ≡ code.old.items ++ field_code field) }
 {
-    code.push(field_mark(field))?;
+    code.extend_from_slice(&[field_mark(field)])?;
     match field.storage {
-        StorageType::I8 => Ok(()),
-        StorageType::I16 => Ok(()),
         StorageType::Val(ty) => push_val(code, ty),
+        _ => Ok(()),
     }
 }
 
-fn push_fields(code: &mut Vec<u64>, fields: &[FieldType]) -> Result<(), OutOfMemory>
+fn push_fields(code: &mut Vec<u64>, fields: &[FieldType]) -> Result<(), AllocError>
     ensures { OnOk result (code.new.items ≡ code.old.items ++ fields_code fields.now) }
 {
     for field in fields {
@@ -109,32 +103,25 @@ fn push_fields(code: &mut Vec<u64>, fields: &[FieldType]) -> Result<(), OutOfMem
     Ok(())
 }
 
-fn push_func(code: &mut Vec<u64>, func: &FuncType) -> Result<(), OutOfMemory>
+fn push_func(code: &mut Vec<u64>, func: &FuncType) -> Result<(), AllocError>
     ensures { OnOk result (code.new.items ≡ code.old.items ++ composite_code (func_form func.now.params.items func.now.results.items)) }
 {
-    code.push(0)?;
-    code.push(func.params.len() as u64)?;
-    code.push(func.results.len() as u64)?;
+    code.extend_from_slice(&[0, func.params.len() as u64, func.results.len() as u64])?;
     push_vals(code, func.params.as_slice())?;
     push_vals(code, func.results.as_slice())
 }
 
-fn push_struct(code: &mut Vec<u64>, ty: &StructType) -> Result<(), OutOfMemory>
-    ensures { OnOk result (code.new.items ≡ code.old.items ++ composite_code (struct_form ty.now.fields.items)) }
-{
-    code.push(1)?;
-    code.push(ty.fields.len() as u64)?;
-    push_fields(code, ty.fields.as_slice())
-}
-
-fn push_composite(code: &mut Vec<u64>, ty: &CompositeInnerType) -> Result<(), OutOfMemory>
+fn push_composite(code: &mut Vec<u64>, ty: &CompositeInnerType) -> Result<(), AllocError>
     ensures { OnOk result (code.new.items ≡ code.old.items ++ composite_code (composite_form ty.now)) }
 {
     match ty {
         CompositeInnerType::Func(func) => push_func(code, func),
-        CompositeInnerType::Struct(ty) => push_struct(code, ty),
+        CompositeInnerType::Struct(ty) => {
+            code.extend_from_slice(&[1, ty.fields.len() as u64])?;
+            push_fields(code, ty.fields.as_slice())
+        }
         CompositeInnerType::Array(ty) => {
-            code.push(2)?;
+            code.extend_from_slice(&[2])?;
             push_field(code, ty.field)
         }
     }
@@ -168,16 +155,15 @@ fn sub_mark(ty: &SubType) -> u64
     is_final + shared + super_mark(ty.supertype)
 }
 
-fn push_sub(code: &mut Vec<u64>, ty: &SubType) -> Result<(), OutOfMemory>
+fn push_sub(code: &mut Vec<u64>, ty: &SubType) -> Result<(), AllocError>
     ensures { OnOk result (code.new.items ≡ code.old.items ++ sub_code (sub_form ty.now)) }
 {
-    code.push(sub_mark(ty))?;
-    code.push(super_number(ty.supertype))?;
+    code.extend_from_slice(&[sub_mark(ty), super_number(ty.supertype)])?;
     push_composite(code, &ty.inner)
 }
 
 /// The code of the group.
-pub fn group_code(alloc: Global, group: &RecGroup) -> Result<Vec<u64>, OutOfMemory>
+pub fn group_code(alloc: Global, group: &RecGroup) -> Result<Vec<u64>, AllocError>
     ensures { IfOk result (λ code. code.items ≡ code_of (group_form group.now)) }
 {
     let mut code = Vec::new(alloc);

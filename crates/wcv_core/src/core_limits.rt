@@ -6,12 +6,7 @@ ghost use Rattle.wcv_core.specs.CoreForm.{composite_form, sub_form, group_form};
 
 use crate::core_types::{CompositeInnerType, RecGroup, SubType};
 use crate::error::{Error, ErrorKind};
-
-/// The most parameters of a core function, and the most results.
-const MAX_PARAMS: usize = 1000;
-
-/// The most fields of a struct, and the most types of a group.
-const MAX_LIST: usize = 100_000;
+use crate::limits::{MAX_LIST, MAX_PARAMS};
 
 /// Whether a list is not longer than a limit. What has it, and what its entries are, are for the message.
 fn check_count(count: usize, limit: usize, ty: &str, word: &str, offset: u64) -> Result<(), Error>

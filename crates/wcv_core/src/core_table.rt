@@ -1,4 +1,5 @@
 // The table of core types.
+ghost use Rattle.wcv_core.specs.Limits.{max_entries};
 ghost use Rattle.std.specs.Prelude.{◌≡◌, ℕ, ◌+◌, ◌≤◌, ◌<◌, ◌++◌, ◌∷◌, List, [], length, get_or, OnOk, OnErr, IfOk, IfErr, Some, None};
 ghost use Rattle.wcv_core.specs.Checks.{IsFree, CausedBy, MemoryOrCausedBy, too_many};
 ghost use Rattle.wcv_core.specs.CoreAbove.{is_declared};
@@ -7,19 +8,17 @@ ghost use Rattle.wcv_core.specs.CoreForm.{Group, SubForm, sub_form, group_form};
 ghost use Rattle.wcv_core.specs.CoreGroups.{AreClosed, IsClosed, IsValWithin, total, types_of, place_from, id_from, id_of};
 ghost use Rattle.wcv_core.specs.CoreJoining.{first_id, rule_checks};
 ghost use Rattle.wcv_core.specs.CoreMatching.{val_matches};
-ghost use Rattle.wcv_core.specs.CoreTable.{max_core_types, with_group, limit_checks, AreDistinct};
+ghost use Rattle.wcv_core.specs.CoreTable.{with_group, limit_checks, AreDistinct};
 
 use crate::core_codes::group_code;
 use crate::core_rows::Rows;
 use crate::core_types::{CoreTypeId, RecGroup, SubType, ValType};
 use crate::error::{Error, ErrorKind};
+use crate::limits::MAX_ENTRIES;
 use crate::memory::OutOfMemory;
 use std::alloc::Global;
 use std::collections::BTreeMap;
 use std::marker::Model;
-
-/// How many types a table may have where there is a limit.
-const LIMIT: usize = 1_000_000;
 
 /// Groups of core types in closed form, each once. Contracts see the list of their forms, in the order in
 /// which they came. The id of a type is its position among the types of all groups.
@@ -97,16 +96,16 @@ impl CoreTypes {
     /// Whether so many types more keep the limit.
     #[tactic(auto, using(crate::proofs::Rowing::not_below))]
     fn check_room(&self, count: usize, offset: u64) -> Result<(), Error>
-        ensures ok { OnOk result (IsFree (too_many max_core_types (total self.now + count))) }
-        ensures err { IfErr result (CausedBy (too_many max_core_types (total self.now + count)) offset) }
+        ensures ok { OnOk result (IsFree (too_many max_entries (total self.now + count))) }
+        ensures err { IfErr result (CausedBy (too_many max_entries (total self.now + count)) offset) }
     {
         let len = self.rows.len();
-        if len > LIMIT || count > LIMIT - len {
+        if len > MAX_ENTRIES || count > MAX_ENTRIES - len {
             return Err(Error::new(
                 ErrorKind::Limit,
                 offset,
                 format_args!(
-                    "with this group there would be more than {LIMIT} distinct core types"
+                    "with this group there would be more than {MAX_ENTRIES} distinct core types"
                 ),
             ));
         }
@@ -141,7 +140,10 @@ impl CoreTypes {
         ensures groups { OnOk result (self.new ≡ with_group self.old (group_form group)) }
         ensures err { OnErr result (self.new ≡ self.old) }
     {
-        let code = group_code(self.alloc, &group)?;
+        let code = match group_code(self.alloc, &group) {
+            Ok(code) => code,
+            Err(_) => return Err(OutOfMemory),
+        };
         match self.find(&code) {
             Some(index) => Ok(CoreTypeId { index }),
             None => self.add(code, group),
@@ -157,13 +159,19 @@ impl CoreTypes {
         ensures cause { IfErr result (MemoryOrCausedBy (limit_checks self.old (group_form group)) offset) }
         ensures err { OnErr result (self.new ≡ self.old) }
     {
-        let code = group_code(self.alloc, &group)?;
+        let code = match group_code(self.alloc, &group) {
+            Ok(code) => code,
+            Err(_) => return Err(Error::from(OutOfMemory)),
+        };
         match self.find(&code) {
             Some(index) => Ok(CoreTypeId { index }),
-            None => {
-                self.check_room(group.types.len(), offset)?;
-                Ok(self.add(code, group)?)
-            }
+            None => match self.check_room(group.types.len(), offset) {
+                Ok(()) => match self.add(code, group) {
+                    Ok(id) => Ok(id),
+                    Err(_) => Err(Error::from(OutOfMemory)),
+                },
+                Err(err) => Err(err),
+            },
         }
     }
 
@@ -202,9 +210,15 @@ impl CoreTypes {
         ensures err { OnErr result (self.new ≡ self.old) }
     {
         let count = group.types.len();
-        self.check_room(count, offset)?;
+        match self.check_room(count, offset) {
+            Ok(()) => {}
+            Err(err) => return Err(err),
+        }
         let first = self.rows.len() as u64;
-        self.rows.push(group)?;
+        match self.rows.push(group) {
+            Ok(()) => {}
+            Err(_) => return Err(Error::from(OutOfMemory)),
+        }
         match self.rows.check_types(first, count as u64, offset) {
             Ok(()) => {}
             Err(err) => {
@@ -233,7 +247,10 @@ impl CoreTypes {
         ensures cause { IfErr result (MemoryOrCausedBy (rule_checks self.old (group_form group)) offset) }
         ensures err { OnErr result (self.new ≡ self.old) }
     {
-        let code = group_code(self.alloc, &group)?;
+        let code = match group_code(self.alloc, &group) {
+            Ok(code) => code,
+            Err(_) => return Err(Error::from(OutOfMemory)),
+        };
         match self.find(&code) {
             Some(first) => self.check_old(first, &group, offset),
             None => self.check_new(code, group, offset),

@@ -1,5 +1,5 @@
 // Core types of WebAssembly, as plain data.
-ghost use Rattle.std.specs.Prelude.{Some};
+ghost use Rattle.std.specs.Prelude.{◌≡◌, Some};
 ghost use Rattle.wcv_core.specs.CoreFeatures.{heap_word};
 
 use std::fmt;
@@ -11,7 +11,7 @@ pub struct CoreTypeId {
 }
 
 /// A heap type that is named by a word.
-#[derive(Clone, Copy, Debug, PartialEq, Eq)]
+#[derive(Clone, Copy, PartialEq, Eq)]
 pub enum AbstractHeap {
     Func,
     NoFunc,
@@ -27,30 +27,39 @@ pub enum AbstractHeap {
     NoExn,
 }
 
+impl AbstractHeap {
+    /// The word that names the heap.
+    fn word(&self) -> &'static str
+        ensures { result.now ≡ heap_word self.now }
+    {
+        match self {
+            AbstractHeap::Func => "func",
+            AbstractHeap::NoFunc => "nofunc",
+            AbstractHeap::Extern => "extern",
+            AbstractHeap::NoExtern => "noextern",
+            AbstractHeap::Any => "any",
+            AbstractHeap::Eq => "eq",
+            AbstractHeap::I31 => "i31",
+            AbstractHeap::Struct => "struct",
+            AbstractHeap::Array => "array",
+            AbstractHeap::None => "none",
+            AbstractHeap::Exn => "exn",
+            AbstractHeap::NoExn => "noexn",
+        }
+    }
+}
+
 impl fmt::Display for AbstractHeap {
     ghost output = { λ name. Some (heap_word name) };
 
     fn fmt<W: fmt::Write>(&self, f: &mut fmt::Formatter<W>) -> fmt::Result {
-        match self {
-            AbstractHeap::Func => f.write_str("func"),
-            AbstractHeap::NoFunc => f.write_str("nofunc"),
-            AbstractHeap::Extern => f.write_str("extern"),
-            AbstractHeap::NoExtern => f.write_str("noextern"),
-            AbstractHeap::Any => f.write_str("any"),
-            AbstractHeap::Eq => f.write_str("eq"),
-            AbstractHeap::I31 => f.write_str("i31"),
-            AbstractHeap::Struct => f.write_str("struct"),
-            AbstractHeap::Array => f.write_str("array"),
-            AbstractHeap::None => f.write_str("none"),
-            AbstractHeap::Exn => f.write_str("exn"),
-            AbstractHeap::NoExn => f.write_str("noexn"),
-        }
+        f.write_str(self.word())
     }
 }
 
 /// What a reference points to. An index is that of a type as it was written, an id that of a type in
 /// the table of core types.
-#[derive(Clone, Copy, Debug, PartialEq, Eq)]
+#[derive(Clone, Copy)]
 pub enum HeapType {
     Abstract(AbstractHeap),
     Index(u32),
@@ -58,7 +67,7 @@ pub enum HeapType {
 }
 
 /// A reference type.
-#[derive(Clone, Copy, Debug, PartialEq, Eq)]
+#[derive(Clone, Copy)]
 pub struct RefType {
     pub nullable: bool,
     pub shared: bool,
@@ -66,7 +75,7 @@ pub struct RefType {
 }
 
 /// A core value type.
-#[derive(Clone, Copy, Debug, PartialEq, Eq)]
+#[derive(Clone, Copy)]
 pub enum ValType {
     I32,
     I64,
@@ -77,14 +86,14 @@ pub enum ValType {
 }
 
 /// A core function type.
-#[derive(Debug, Drop)]
+#[derive(Drop)]
 pub struct FuncType {
     pub params: Vec<ValType>,
     pub results: Vec<ValType>,
 }
 
 /// How a field is stored.
-#[derive(Clone, Copy, Debug, PartialEq, Eq)]
+#[derive(Clone, Copy)]
 pub enum StorageType {
     I8,
     I16,
@@ -92,33 +101,33 @@ pub enum StorageType {
 }
 
 /// A field of a struct, or the elements of an array.
-#[derive(Clone, Copy, Debug, PartialEq, Eq)]
+#[derive(Clone, Copy)]
 pub struct FieldType {
     pub storage: StorageType,
     pub mutable: bool,
 }
 
 /// A struct type.
-#[derive(Debug, Drop)]
+#[derive(Drop)]
 pub struct StructType {
     pub fields: Vec<FieldType>,
 }
 
 /// An array type.
-#[derive(Clone, Copy, Debug, PartialEq, Eq)]
+#[derive(Clone, Copy)]
 pub struct ArrayType {
     pub field: FieldType,
 }
 
 /// A declared supertype, by an index as it was written or by its id.
-#[derive(Clone, Copy, Debug, PartialEq, Eq)]
+#[derive(Clone, Copy)]
 pub enum SuperType {
     Index(u32),
     Id(CoreTypeId),
 }
 
 /// The form of a core type.
-#[derive(Debug, Drop)]
+#[derive(Drop)]
 pub enum CompositeInnerType {
     Func(FuncType),
     Struct(StructType),
@@ -126,7 +135,7 @@ pub enum CompositeInnerType {
 }
 
 /// A core type with its place among the others.
-#[derive(Debug, Drop)]
+#[derive(Drop)]
 pub struct SubType {
     pub is_final: bool,
     pub supertype: Option<SuperType>,
@@ -135,13 +144,13 @@ pub struct SubType {
 }
 
 /// A group of core types that may name one another.
-#[derive(Debug, Drop)]
+#[derive(Drop)]
 pub struct RecGroup {
     pub types: Vec<SubType>,
 }
 
 /// A core table type. Sizes count elements.
-#[derive(Clone, Copy, Debug, PartialEq, Eq)]
+#[derive(Clone, Copy)]
 pub struct TableType {
     pub element_type: RefType,
     pub initial: u64,
@@ -151,7 +160,7 @@ pub struct TableType {
 }
 
 /// A core memory type. Sizes count pages of 2 to the power `page_size_log2` bytes.
-#[derive(Clone, Copy, Debug, PartialEq, Eq)]
+#[derive(Clone, Copy)]
 pub struct MemoryType {
     pub initial: u64,
     pub maximum: Option<u64>,
@@ -161,7 +170,7 @@ pub struct MemoryType {
 }
 
 /// A core global type.
-#[derive(Clone, Copy, Debug, PartialEq, Eq)]
+#[derive(Clone, Copy)]
 pub struct GlobalType {
     pub content_type: ValType,
     pub mutable: bool,
@@ -169,7 +178,7 @@ pub struct GlobalType {
 }
 
 /// What a core import or export is.
-#[derive(Clone, Copy, Debug, PartialEq, Eq)]
+#[derive(Clone, Copy)]
 pub enum EntityType {
     Func(CoreTypeId),
     Table(TableType),

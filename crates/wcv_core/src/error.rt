@@ -10,7 +10,7 @@ use std::fmt;
 use std::fmt::Write;
 
 /// Why a listing is refused, or that it ran out of memory.
-#[derive(Clone, Copy, Debug, PartialEq, Eq)]
+#[derive(Clone, Copy, PartialEq, Eq)]
 pub enum ErrorKind {
     OutOfBounds,
     WrongSort,
@@ -37,34 +37,49 @@ pub enum ErrorKind {
     OutOfMemory,
 }
 
+impl ErrorKind {
+    /// The name of the kind.
+    fn name(&self) -> &'static str
+        ensures { result.now ≡ kind_name self.now }
+    {
+        match self {
+            ErrorKind::OutOfBounds => "OutOfBounds",
+            ErrorKind::WrongSort => "WrongSort",
+            ErrorKind::UnknownExport => "UnknownExport",
+            ErrorKind::Feature => "Feature",
+            ErrorKind::Limit => "Limit",
+            ErrorKind::CoreType => "CoreType",
+            ErrorKind::Name => "Name",
+            ErrorKind::Conflict => "Conflict",
+            ErrorKind::MethodName => "MethodName",
+            ErrorKind::Options => "Options",
+            ErrorKind::Signature => "Signature",
+            ErrorKind::Shape => "Shape",
+            ErrorKind::Borrow => "Borrow",
+            ErrorKind::Mismatch => "Mismatch",
+            ErrorKind::Unnamed => "Unnamed",
+            ErrorKind::ResourceScope => "ResourceScope",
+            ErrorKind::AliasKind => "AliasKind",
+            ErrorKind::Value => "Value",
+            ErrorKind::StartTwice => "StartTwice",
+            ErrorKind::Context => "Context",
+            ErrorKind::Unbuilt => "Unbuilt",
+            ErrorKind::OutOfMemory => "OutOfMemory",
+        }
+    }
+}
+
 impl fmt::Display for ErrorKind {
     ghost output = { λ kind. Some (kind_name kind) };
 
     fn fmt<W: fmt::Write>(&self, f: &mut fmt::Formatter<W>) -> fmt::Result {
-        match self {
-            ErrorKind::OutOfBounds => f.write_str("OutOfBounds"),
-            ErrorKind::WrongSort => f.write_str("WrongSort"),
-            ErrorKind::UnknownExport => f.write_str("UnknownExport"),
-            ErrorKind::Feature => f.write_str("Feature"),
-            ErrorKind::Limit => f.write_str("Limit"),
-            ErrorKind::CoreType => f.write_str("CoreType"),
-            ErrorKind::Name => f.write_str("Name"),
-            ErrorKind::Conflict => f.write_str("Conflict"),
-            ErrorKind::MethodName => f.write_str("MethodName"),
-            ErrorKind::Options => f.write_str("Options"),
-            ErrorKind::Signature => f.write_str("Signature"),
-            ErrorKind::Shape => f.write_str("Shape"),
-            ErrorKind::Borrow => f.write_str("Borrow"),
-            ErrorKind::Mismatch => f.write_str("Mismatch"),
-            ErrorKind::Unnamed => f.write_str("Unnamed"),
-            ErrorKind::ResourceScope => f.write_str("ResourceScope"),
-            ErrorKind::AliasKind => f.write_str("AliasKind"),
-            ErrorKind::Value => f.write_str("Value"),
-            ErrorKind::StartTwice => f.write_str("StartTwice"),
-            ErrorKind::Context => f.write_str("Context"),
-            ErrorKind::Unbuilt => f.write_str("Unbuilt"),
-            ErrorKind::OutOfMemory => f.write_str("OutOfMemory"),
-        }
+        f.write_str(self.name())
+    }
+}
+
+impl fmt::Debug for ErrorKind {
+    fn fmt<W: fmt::Write>(&self, f: &mut fmt::Formatter<W>) -> fmt::Result {
+        f.write_str(self.name())
     }
 }
 
@@ -73,7 +88,7 @@ const MESSAGE: usize = 288;
 
 /// A refusal of an item or of the end of a component: its kind, its offset and a message for people.
 /// It takes no memory. The words of the message are not promised; a name in it is cut by `Excerpt`.
-#[derive(Debug, Drop)]
+#[derive(Drop)]
 pub struct Error {
     kind: ErrorKind,
     offset: u64,

@@ -91,7 +91,7 @@ pub fn is_label(name: &str) -> bool
 }
 
 /// A label.
-#[derive(Debug, Drop)]
+#[derive(Drop)]
 pub struct KebabString {
     text: Text,
 }

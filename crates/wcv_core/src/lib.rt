@@ -20,6 +20,7 @@ mod extern_kind;
 mod features;
 mod kebab;
 mod label_set;
+pub mod limits;
 mod memory;
 mod primitive;
 mod rec_group;

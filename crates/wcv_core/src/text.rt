@@ -49,7 +49,7 @@ impl From<String> for Text {
 
 /// A place in a listing: the positions that lead from the root's items to an item, or to a
 /// declaration inside a type item. Contracts see it as that list of numbers.
-#[derive(Debug, Drop)]
+#[derive(Drop)]
 pub struct Place {
     positions: Vec<u64>,
 }

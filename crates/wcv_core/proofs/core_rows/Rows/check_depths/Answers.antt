@@ -1,7 +1,8 @@
+use Rattle.wcv_core.specs.Limits.{max_supertypes}
 use Rattle.std.proofs.Common.{arith, ◌<◌, List, get_or}
 use Rattle.wcv_core.specs.CoreForm.{Group}
 use Rattle.wcv_core.specs.CoreGroups.{total, depths_of}
-use Rattle.wcv_core.specs.CoreRules.{max_supertypes, type_checks}
+use Rattle.wcv_core.specs.CoreRules.{type_checks}
 use Rattle.wcv_core.specs.Refusal.{error_kind}
 use Rattle.wcv_core.proofs.Climbing.{deep_cause}
 use Rattle.wcv_core.proofs.Closing.{caused_ranged}
