@@ -1,9 +1,10 @@
 -- The type of a core module: what its declarations make of it, one after another, and why they are refused.
+use Rattle.wcv_core.specs.Limits.{max_entries, max_list, max_size, max_text}
 use Rattle.std.specs.Prelude.{ℕ, zero, suc, ◌+◌, List, [], ◌∷◌, ◌++◌, length, map, reverse, Bool, true, false, ◌&&◌, ◌||◌, Option, Some, None, slice_get}
 use Rattle.std.specs.Option.{option_map}
 use Rattle.std.specs.Str.{bytes_eq}
 use Rattle.wcv_core.specs.Checks.{Checks, all_checks, missing, too_many}
-use Rattle.wcv_core.specs.CoreFeatures.{max_core_list, group_left}
+use Rattle.wcv_core.specs.CoreFeatures.{group_left}
 use Rattle.wcv_core.specs.CoreForm.{CompositeForm, func_form, struct_form, array_form, SubForm, Group}
 use Rattle.wcv_core.specs.CoreJoining.{group_checks, group_ids, grown, then_checks, with_types}
 use Rattle.wcv_core.specs.CoreWritten.{Core_entry, sub_entry, module_entry, entry_checks, closed_group}
@@ -53,18 +54,6 @@ with_export gs m n e = record { features = m.features; types = m.types; imports 
 
 -- ## Limits
 
--- the most types, imports and exports of a module, each
-abbrev pub max_module_entries : ℕ
-max_module_entries = 1000000
-
--- the greatest size of the type
-abbrev pub max_module_size : ℕ
-max_module_size = 1000000
-
--- the most bytes of a name
-abbrev pub max_name : ℕ
-max_name = 100000
-
 -- ## Names
 
 abbrev pub export_names : List Core_export → List Text
@@ -88,16 +77,16 @@ import_pairs is = map (λ i. i.0) is
 -- ## What joins
 
 abbrev pub size_checks : List Group → Module_type → EntityType → Checks
-size_checks gs m e = too_many max_module_size (m.size + entity_size gs e)
+size_checks gs m e = too_many max_size (m.size + entity_size gs e)
 
 abbrev pub types_checks : Module_type → ℕ → Checks
-types_checks m n = too_many max_module_entries (length m.types + n)
+types_checks m n = too_many max_entries (length m.types + n)
 
 abbrev pub import_checks : List Group → Module_type → EntityType → Checks
-import_checks gs m e = too_many max_module_entries (length m.imports + 1) ++ size_checks gs m e
+import_checks gs m e = too_many max_entries (length m.imports + 1) ++ size_checks gs m e
 
 abbrev pub export_checks : List Group → Module_type → Text → EntityType → Checks
-export_checks gs m n e = (kind.Conflict, is_among n (export_names m.exports)) ∷ (too_many max_module_entries (length m.exports + 1) ++ size_checks gs m e)
+export_checks gs m n e = (kind.Conflict, is_among n (export_names m.exports)) ∷ (too_many max_entries (length m.exports + 1) ++ size_checks gs m e)
 
 -- the type is whole: no pair of names is imported twice
 abbrev pub whole_checks : Module_type → Checks
@@ -204,9 +193,9 @@ module_checks outers gs m (d ∷ ds) = then_checks (decl_checks outers gs m d) (
 
 abbrev pub decl_left : Module_decl → Checks
 decl_left (module_type w) = group_left (written_group w)
-decl_left (module_import i) = too_many max_name (length i.module) ++ too_many max_name (length i.name)
-decl_left (module_export n t) = too_many max_name (length n)
+decl_left (module_import i) = too_many max_text (length i.module) ++ too_many max_text (length i.name)
+decl_left (module_export n t) = too_many max_text (length n)
 decl_left (module_outer k i) = []
 
 abbrev pub module_left : List Module_decl → Checks
-module_left ds = too_many max_core_list (length ds) ++ all_checks decl_left ds
+module_left ds = too_many max_list (length ds) ++ all_checks decl_left ds

@@ -18,7 +18,7 @@ use std::marker::Model;
 use wcv_core::{Error, ErrorKind, Excerpt, OutOfMemory, Text, WasmFeatures};
 
 /// A name that has a form. Contracts see it as its text.
-#[derive(Debug, Drop)]
+#[derive(Drop)]
 pub struct ComponentName {
     text: Text,
 }

@@ -4,7 +4,7 @@ ghost use Rattle.std.specs.Option.{option_copied};
 ghost use Rattle.wcv_syntax.specs.ExternName.{written, interface as interface_form};
 
 /// The parts of the name of an interface, which make up the text.
-#[derive(Clone, Copy, Debug)]
+#[derive(Clone, Copy)]
 pub struct InterfaceName<'a> {
     pub text: &'a str,
     pub namespace: &'a str,

@@ -2,7 +2,7 @@
 use wcv_core::Text;
 
 /// The key of a name, with all labels in lower case: the names of one list differ in their keys.
-#[derive(Debug, Drop)]
+#[derive(Drop)]
 pub enum NameKey {
     /// An item, also by its getter.
     Item(Text),

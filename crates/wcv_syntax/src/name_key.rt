@@ -1,9 +1,10 @@
 // Keys of names.
-ghost use Rattle.std.specs.Prelude.{◌≡◌, ◌++◌, string_bytes, IfOk};
+ghost use Rattle.std.specs.Prelude.{◌≡◌, ◌++◌, string_bytes, IfOk, Some, None};
 ghost use Rattle.wcv_core.specs.Label.{lower_case};
 ghost use Rattle.wcv_syntax.specs.ExternName.{joined, dot, set, access_of, getter_of, written};
 ghost use Rattle.wcv_syntax.specs.Keys.{member_key as member_key_of, key_of, key_text as key_text_of};
 ghost use Rattle.wcv_syntax.specs.NameViews.{kind_view};
+ghost use Rattle.wcv_syntax.specs.declared.key.NameKey.TheVariants as key;
 
 use crate::key::NameKey;
 use crate::name_kind::ComponentNameKind;
@@ -71,23 +72,93 @@ fn member_text(alloc: Global, resource: &str, function: &str) -> Result<String, 
     }
 }
 
+fn copied(alloc: Global, text: &str) -> Result<String, OutOfMemory>
+    ensures { IfOk result (λ s. string_bytes s ≡ text.now) }
+{
+    match String::from_str(alloc, text) {
+        Ok(copy) => Ok(copy),
+        Err(_) => Err(OutOfMemory),
+    }
+}
+
 /// The label in lower case.
 fn lower(alloc: Global, label: &str) -> Result<Text, OutOfMemory>
     ensures { IfOk result (λ t. t ≡ lower_case label.now) }
 {
-    let text = lower_label(alloc, "", label)?;
-    Ok(Text::from(text))
+    match label.to_ascii_lowercase(alloc) {
+        Ok(text) => Ok(Text::from(text)),
+        Err(_) => Err(OutOfMemory),
+    }
+}
+
+/// Two labels in lower case.
+fn lower_both(alloc: Global, a: &str, b: &str) -> Result<(Text, Text), OutOfMemory>
+    ensures { IfOk result (λ ts. (ts.0 ≡ lower_case a.now) × (ts.1 ≡ lower_case b.now)) }
+{
+    match lower(alloc, a) {
+        Ok(first) => match lower(alloc, b) {
+            Ok(second) => Ok((first, second)),
+            Err(err) => Err(err),
+        },
+        Err(err) => Err(err),
+    }
+}
+
+fn item_key(alloc: Global, label: &str) -> Result<NameKey, OutOfMemory>
+    ensures { IfOk result (λ k. k ≡ key.Item (lower_case label.now)) }
+{
+    match lower(alloc, label) {
+        Ok(text) => Ok(NameKey::Item(text)),
+        Err(err) => Err(err),
+    }
+}
+
+fn constructor_key(alloc: Global, label: &str) -> Result<NameKey, OutOfMemory>
+    ensures { IfOk result (λ k. k ≡ key.Constructor (lower_case label.now)) }
+{
+    match lower(alloc, label) {
+        Ok(text) => Ok(NameKey::Constructor(text)),
+        Err(err) => Err(err),
+    }
+}
+
+fn setter_key(alloc: Global, label: &str) -> Result<NameKey, OutOfMemory>
+    ensures { IfOk result (λ k. k ≡ key.Setter None (lower_case label.now)) }
+{
+    match lower(alloc, label) {
+        Ok(text) => Ok(NameKey::Setter(None, text)),
+        Err(err) => Err(err),
+    }
+}
+
+fn interface_key(alloc: Global, name: &str) -> Result<NameKey, OutOfMemory>
+    ensures { IfOk result (λ k. k ≡ key.Interface name.now) }
+{
+    match Text::new(alloc, name) {
+        Ok(text) => Ok(NameKey::Interface(text)),
+        Err(err) => Err(err),
+    }
 }
 
 fn member_key(alloc: Global, resource: &str, function: &str) -> Result<NameKey, OutOfMemory>
     ensures { IfOk result (λ k. k ≡ member_key_of (lower_case resource.now) (lower_case function.now)) }
 {
-    let of = lower(alloc, resource)?;
     if resource.eq_ignore_ascii_case(function) {
-        return Ok(NameKey::Item(of));
+        return item_key(alloc, resource);
     }
-    let member = lower(alloc, function)?;
-    Ok(NameKey::Member(of, member))
+    match lower_both(alloc, resource, function) {
+        Ok((of, member)) => Ok(NameKey::Member(of, member)),
+        Err(err) => Err(err),
+    }
+}
+
+fn member_setter_key(alloc: Global, resource: &str, function: &str) -> Result<NameKey, OutOfMemory>
+    ensures { IfOk result (λ k. k ≡ key.Setter (Some (lower_case resource.now)) (lower_case function.now)) }
+{
+    match lower_both(alloc, resource, function) {
+        Ok((of, member)) => Ok(NameKey::Setter(Some(of), member)),
+        Err(err) => Err(err),
+    }
 }
 
 impl ComponentNameKind<'_> {
@@ -97,12 +168,10 @@ impl ComponentNameKind<'_> {
     {
         match self {
             ComponentNameKind::Label(label) | ComponentNameKind::Getter(label) => {
-                Ok(NameKey::Item(lower(alloc, label)?))
+                item_key(alloc, label)
             }
-            ComponentNameKind::Setter(label) => Ok(NameKey::Setter(None, lower(alloc, label)?)),
-            ComponentNameKind::Constructor(label) => {
-                Ok(NameKey::Constructor(lower(alloc, label)?))
-            }
+            ComponentNameKind::Setter(label) => setter_key(alloc, label),
+            ComponentNameKind::Constructor(label) => constructor_key(alloc, label),
             ComponentNameKind::Method(resource, function)
             | ComponentNameKind::MethodGetter(resource, function)
             | ComponentNameKind::Static(resource, function)
@@ -111,13 +180,9 @@ impl ComponentNameKind<'_> {
             }
             ComponentNameKind::MethodSetter(resource, function)
             | ComponentNameKind::StaticSetter(resource, function) => {
-                let of = lower(alloc, resource)?;
-                let member = lower(alloc, function)?;
-                Ok(NameKey::Setter(Some(of), member))
+                member_setter_key(alloc, resource, function)
             }
-            ComponentNameKind::Interface(interface) => {
-                Ok(NameKey::Interface(Text::new(alloc, interface.text)?))
-            }
+            ComponentNameKind::Interface(interface) => interface_key(alloc, interface.text),
         }
     }
 
@@ -141,9 +206,7 @@ impl ComponentNameKind<'_> {
             | ComponentNameKind::StaticSetter(resource, function) => {
                 lower_member(alloc, "[method][set]", resource, function)
             }
-            ComponentNameKind::Interface(interface) => {
-                Ok(String::from_str(alloc, interface.text)?)
-            }
+            ComponentNameKind::Interface(interface) => copied(alloc, interface.text),
         }
     }
 

@@ -11,7 +11,7 @@ use crate::interface_name::InterfaceName;
 use wcv_core::is_label;
 
 /// What a name is, with its labels.
-#[derive(Clone, Copy, Debug)]
+#[derive(Clone, Copy)]
 pub enum ComponentNameKind<'a> {
     /// `l`
     Label(&'a str),
