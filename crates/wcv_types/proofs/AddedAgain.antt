@@ -1,5 +1,5 @@
 -- A node that is added once more.
-use Rattle.std.proofs.Common.{◌≡◌, ℕ, List, [], ◌∷◌, ◌++◌, length, refl, take, sym, ◌∙◌, ap, subst, Some}
+use Rattle.std.proofs.Common.{◌≡◌, ℕ, List, [], ◌∷◌, ◌++◌, length, refl, take, sym, ◌∙◌, subst, Some}
 use Rattle.std.specs.Prelude.{slice_get, IfSome, All}
 use Rattle.std.proofs.lemmas.List.Elements.{All-weaker}
 use Rattle.wcv_core.specs.CoreForm.{Group}

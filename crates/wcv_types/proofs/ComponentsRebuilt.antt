@@ -1,10 +1,10 @@
 -- Components that are made again with other parts.
-use Rattle.std.proofs.Common.{◌≡◌, ◌+◌, ◌-◌, ◌<◌, ◌≤◌, ℕ, suc, List, [], ◌∷◌, ◌++◌, length, map, refl, sym, ◌∙◌, ap, subst, Some}
+use Rattle.std.proofs.Common.{◌≡◌, suc, List, ◌++◌, length, map, refl, sym, ◌∙◌, ap, subst, Some}
 use Rattle.std.specs.Prelude.{Option, All, slice_get}
 use Rattle.std.proofs.lemmas.List.Elements.{All-nil}
 use Rattle.wcv_core.specs.CoreGroups.{total}
 use Rattle.wcv_core.specs.CoreSizes.{IsEntityWithin}
-use Rattle.wcv_core.specs.Names.{Name, number}
+use Rattle.wcv_core.specs.Names.{number}
 use Rattle.wcv_types.specs.Arena.{Arena}
 use Rattle.wcv_types.specs.Entities.{entry_parts}
 use Rattle.wcv_types.specs.Given.{NamesGiven, AllNamesGiven}
@@ -20,7 +20,6 @@ use Rattle.wcv_types.specs.declared.component_type.ComponentType.{ComponentType}
 use Rattle.wcv_types.specs.declared.ids.ComponentTypeId.{ComponentTypeId}
 use Rattle.wcv_types.specs.declared.ids.Part.{Part}
 use Rattle.wcv_types.specs.declared.ids.Part.TheVariants as p
-use Rattle.wcv_types.specs.declared.ids.ResourceId.{ResourceId}
 use Rattle.wcv_types.proofs.EntryLists.{Entry, entry_parts-are}
 use Rattle.wcv_types.proofs.Giving.{firsts_given}
 use Rattle.wcv_types.proofs.Knowing.{parts_in-append}

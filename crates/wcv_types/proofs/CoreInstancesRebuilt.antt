@@ -1,5 +1,5 @@
 -- Core instances that are made again with other parts.
-use Rattle.std.proofs.Common.{◌≡◌, ◌+◌, ℕ, suc, min, List, [], ◌∷◌, ◌++◌, length, refl, sym, ◌∙◌, ap, subst, arith, Bool, true, false, ◌||◌, Some}
+use Rattle.std.proofs.Common.{◌≡◌, ◌+◌, ℕ, suc, min, List, [], ◌∷◌, length, refl, sym, ◌∙◌, ap, subst, arith, Bool, true, false, ◌||◌, Some}
 use Rattle.std.specs.Prelude.{Option, All, slice_get}
 use Rattle.std.proofs.lemmas.List.Elements.{All-nil, All-cons, All-head}
 use Rattle.wcv_core.specs.CoreGroups.{total}
@@ -9,10 +9,10 @@ use Rattle.wcv_core.specs.declared.core_types.EntityType.{EntityType}
 use Rattle.wcv_types.specs.Arena.{Arena}
 use Rattle.wcv_types.specs.Measure.{size}
 use Rattle.wcv_types.specs.Rebuild.{SameSorts, refill, refill_slot, anew, HeadCounts, Refits, MadeAgain}
-use Rattle.wcv_types.specs.Resources.{mentions, mentions_in}
+use Rattle.wcv_types.specs.Resources.{mentions_in}
 use Rattle.wcv_types.specs.Standing.{Stands, GaveResource, Fits, with_node}
 use Rattle.wcv_types.specs.Tree.{Text, here, label, import, export, core_import, core_export, core_instance, head}
-use Rattle.wcv_types.specs.Unfold.{Type_tree, IsInfoOf, capped, at, Slots, rank, core_export_slots, kind_slots, head_of, slots_of, slots_if, slot_parts, parts_in, parts_at, tree_at, tree_in, trees, unfolded}
+use Rattle.wcv_types.specs.Unfold.{Type_tree, IsInfoOf, capped, at, Slots, rank, core_export_slots, kind_slots, head_of, slots_of, slots_if, slot_parts, parts_in, parts_at, tree_at, trees, unfolded}
 use Rattle.wcv_types.specs.declared.arena.Node.{Node}
 use Rattle.wcv_types.specs.declared.arena.Node.TheVariants as n
 use Rattle.wcv_types.specs.declared.core_shapes.CoreInstanceTypeKind.{CoreInstanceTypeKind}

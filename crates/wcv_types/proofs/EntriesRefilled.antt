@@ -1,5 +1,5 @@
 -- Entries with other parts, one entry after another.
-use Rattle.std.proofs.Common.{◌≡◌, ℕ, suc, ◌+◌, ◌<◌, ◌≤◌, List, [], ◌∷◌, ◌++◌, length, drop, get_or, refl, sym, ◌∙◌, ap, subst, arith, drop-cons, add-one, append-nil}
+use Rattle.std.proofs.Common.{◌≡◌, ℕ, suc, ◌+◌, ◌<◌, ◌≤◌, List, [], ◌∷◌, ◌++◌, length, drop, get_or, refl, sym, ◌∙◌, ap, subst, drop-cons, add-one, append-nil}
 use Rattle.std.specs.Prelude.{Option}
 use Rattle.std.proofs.Math.ListN.{drop_of_length-le}
 use Rattle.std.proofs.lemmas.List.{map-append}
@@ -8,7 +8,6 @@ use Rattle.wcv_types.specs.Rebuild.{SameSorts, FillsSlot, Fills, refill_slot, af
 use Rattle.wcv_types.specs.Tree.{Text, Extern_name, Role}
 use Rattle.wcv_types.specs.Unfold.{Slot, Slots, entity_slot, entry_name, entry_slots}
 use Rattle.wcv_types.specs.declared.ids.Part.{Part}
-use Rattle.wcv_types.specs.declared.item_map.ComponentItem.{ComponentItem}
 use Rattle.wcv_types.proofs.EntryLists.{Entry, entry_parts-are}
 use Rattle.wcv_types.proofs.Rebuilding.{fills_sorts}
 use Rattle.wcv_types.proofs.Refilling.{begun, went}

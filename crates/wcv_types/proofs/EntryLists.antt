@@ -1,10 +1,10 @@
 -- The parts of entries, one entry after another.
-use Rattle.std.proofs.Common.{◌≡◌, ℕ, zero, suc, ◌+◌, ◌-◌, ◌<◌, ◌≤◌, List, [], ◌∷◌, ◌++◌, length, take, drop, get_or, refl, sym, ◌∙◌, ap, subst, arith, add-one, take-suc, take_all, drop-cons, length-append, append_assoc, append-nil}
-use Rattle.std.specs.Prelude.{slice_get, Some, None}
+use Rattle.std.proofs.Common.{◌≡◌, ℕ, zero, suc, ◌+◌, ◌-◌, ◌<◌, ◌≤◌, List, [], ◌∷◌, ◌++◌, length, take, drop, get_or, refl, sym, ◌∙◌, ap, arith, add-one, take-suc, take_all, drop-cons, length-append, append_assoc, append-nil}
+use Rattle.std.specs.Prelude.{slice_get, option_to_list, Some, None}
 use Rattle.std.proofs.Math.ListN.{drop_of_length-le}
 use Rattle.wcv_types.specs.Entities.{entry_parts}
 use Rattle.wcv_types.specs.Tree.{Text, Extern_name, Role}
-use Rattle.wcv_types.specs.Unfold.{entity_slot, entry_slots, parts_in, slot_refs}
+use Rattle.wcv_types.specs.Unfold.{Slot, leaf, at, both, core, entity_slot, entry_slots, parts_in, slot_refs}
 use Rattle.wcv_types.specs.declared.ids.Part.{Part}
 use Rattle.wcv_types.specs.declared.item_map.ComponentItem.{ComponentItem}
 use Rattle.wcv_types.proofs.Slots.{get_none}
@@ -23,6 +23,13 @@ entry_parts-are role (e ∷ es) = ap (λ (qs : List Part). refs e ++ qs) (entry_
 entry_parts-push : (es : List Entry) (e : Entry) → entry_parts (es ++ e ∷ []) ≡ entry_parts es ++ refs e
 entry_parts-push [] e = append-nil (refs e)
 entry_parts-push (x ∷ es) e = ap (λ (qs : List Part). refs x ++ qs) (entry_parts-push es e) ∙ sym (append_assoc (refs x) (entry_parts es) (refs e))
+
+-- the first and the second part of a slot are all of them
+pub entity_pushed : (s : Slot) → option_to_list (slice_get (slot_refs s) 0) ++ option_to_list (slice_get (slot_refs s) 1) ≡ slot_refs s
+entity_pushed (leaf o) = refl
+entity_pushed (at q) = refl
+entity_pushed (both c r) = refl
+entity_pushed (core e) = refl
 
 -- from the k-th on
 pub next_entry : (es : List Entry) (k : ℕ) (e : Entry) → k < length es → e ≡ get_or es k e → entry_parts (drop k es) ≡ slot_refs (entity_slot e.1.ty) ++ entry_parts (drop (k + 1) es)

@@ -2,14 +2,11 @@
 use Rattle.std.proofs.Common.{◌≡◌, ℕ, List, [], ◌∷◌, ◌++◌, refl, ap, ◌∙◌, append-nil}
 use Rattle.wcv_core.specs.declared.core_types.EntityType.{EntityType}
 use Rattle.wcv_core.specs.Names.{Name, number}
-use Rattle.wcv_types.specs.Tree.{Text, Extern_name, Role, import, export, core_import, core_export, node, core_item, Parts, none, part, Tree, entries, instance_type, core_imports, core_exports, module_type, exports_in, imports_in}
-use Rattle.wcv_types.specs.ComponentTrees.{component_tree}
+use Rattle.wcv_types.specs.Tree.{Text, Extern_name, Role, import, export, core_import, core_export, node, core_item, Parts, none, part, Tree, entries, core_imports, core_exports, module_type, exports_in, imports_in}
 use Rattle.wcv_types.specs.Entities.{entry_trees}
-use Rattle.wcv_types.specs.Unfold.{Type_tree, Slots, entity_slot, entry_name, entry_slots, resource_names, core_import_slots, core_export_slots, head_of, slots_of, slot_tree, slot_parts}
+use Rattle.wcv_types.specs.Unfold.{Type_tree, Slots, entity_slot, entry_name, entry_slots, core_import_slots, core_export_slots, head_of, slots_of, slot_tree, slot_parts}
 use Rattle.wcv_types.specs.declared.arena.Node.TheVariants as n
-use Rattle.wcv_types.specs.declared.component_type.ComponentType.{ComponentType}
 use Rattle.wcv_types.specs.declared.core_shapes.ModuleType.{ModuleType}
-use Rattle.wcv_types.specs.declared.instance_type.ComponentInstanceType.{ComponentInstanceType}
 use Rattle.wcv_types.specs.declared.item_map.ComponentItem.{ComponentItem}
 
 -- ## Entries
@@ -50,9 +47,6 @@ module _ {R I : Type 0} where
 
 -- so of the slots of nodes
 module _ (ts : List Type_tree) where
-  pub instance_exports : (es : List (Text × ComponentItem)) → exports_in (slot_parts ts (entry_slots export es)) ≡ entry_trees ts es
-  instance_exports es = ap (λ (ps : Parts Name Name). exports_in ps) (entry_parts ts export es) ∙ exports_in-exports (entry_trees ts es)
-
   pub component_exports : (ins outs : List (Text × ComponentItem)) → exports_in (slot_parts ts (entry_slots import ins ++ entry_slots export outs)) ≡ entry_trees ts outs
   component_exports ins outs =
       ap (λ (ps : Parts Name Name). exports_in ps) (both_parts ts ins outs) ∙ exports_in-imports (entry_trees ts ins) (entries export (entry_trees ts outs) none) ∙
@@ -80,12 +74,5 @@ module _ (ts : List Type_tree) where
 -- ## Nodes, over the trees of the nodes, at the place k
 
 module _ (ts : List Type_tree) (k : ℕ) where
-  pub instance_node : (s : ComponentInstanceType) →
-      node (head_of k (n.Instance s)) (slot_parts ts (slots_of (n.Instance s))) ≡ instance_type (number k) (resource_names s.defined_resources) (entry_trees ts s.exports)
-  instance_node s = ap (λ (ps : Parts Name Name). node (head_of k (n.Instance s)) ps) (entry_parts ts export s.exports)
-
-  pub component_node : (s : ComponentType) → node (head_of k (n.Component s)) (slot_parts ts (slots_of (n.Component s))) ≡ component_tree ts (number k) s
-  component_node s = ap (λ (ps : Parts Name Name). node (head_of k (n.Component s)) ps) (both_parts ts s.imports s.exports)
-
   pub module_node : (s : ModuleType) → node (head_of k (n.Module s)) (slot_parts ts (slots_of (n.Module s))) ≡ module_type (number k) s.info.size s.imports s.exports
   module_node s = ap (λ (ps : Parts Name Name). node (head_of k (n.Module s)) ps) (core_parts ts s.imports s.exports)

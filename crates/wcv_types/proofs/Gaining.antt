@@ -1,12 +1,13 @@
 -- Sets of resources, and what they gain.
-use Rattle.std.proofs.Common.{◌≡◌, ℕ, ◌+◌, List, [], ◌∷◌, ◌++◌, take, refl, sym, ◌∙◌, ap, subst, add-one, append-nil, append_assoc, inl, inr, ⊎_elim, Bool, true, false, ◌||◌, cond, eqb, Some}
-use Rattle.std.specs.Prelude.{◌⊎◌, map, slice_get, Result, Ok, Err, OnErr}
+use Rattle.std.proofs.Common.{◌≡◌, ℕ, ◌+◌, List, [], ◌∷◌, ◌++◌, take, refl, sym, ◌∙◌, ap, subst, add-one, append-nil, append_assoc, inl, inr, ⊎_elim, Bool, true, false, ◌||◌, cond, eqb, Some, None, Bor}
+use Rattle.std.specs.Prelude.{◌⊎◌, map, slice_get, is_some, Option, option_copied}
+use Rattle.std.specs.Map.{lookup}
 use Rattle.std.proofs.lemmas.Bool.{false≢true}
 use Rattle.std.proofs.lemmas.List.{map-append}
 use Rattle.wcv_core.specs.Names.{Name, number, same, member}
 use Rattle.wcv_core.proofs.Names.{same-true, same-equal}
 use Rattle.wcv_types.specs.Gathering.{Continues, Gains}
-use Rattle.wcv_types.specs.Sets.{has_resource, with_resource, resource_names}
+use Rattle.wcv_types.specs.Sets.{same_resource, has_resource, with_resource, resource_names}
 use Rattle.wcv_types.specs.Tree.{firsts}
 use Rattle.wcv_types.specs.Unfold.{resource_path}
 use Rattle.wcv_types.specs.declared.ids.ResourceId.{ResourceId}
@@ -102,92 +103,62 @@ gains_push rs q = go (has_resource rs q) refl
       only = λ r m. ⊎_elim (λ (x : member r (resource_names rs) ≡ true). inl x) (λ (x : same r (number q.index) ≡ true). inr (same-true r (number q.index) x)) (or_split (member r (resource_names rs)) (same r (number q.index)) (sym (at_end rs q r) ∙ m));
     }
 
--- what holds in any case
-pub on_err : {T E : Type 0} (P : Type 0) (r : Result T E) → P → OnErr r P
-on_err P (Ok x) w = tt
-on_err P (Err x) w = w
-
 -- none, so far
 pub gains_nothing : (P : Name → Type 0) (rs : List ResourceId) → ((r : Name) → P r → ⊥) → Gains P rs rs
 gains_nothing P rs h = gains_held P rs (λ r x. absurd (h r x))
 
 -- ## What is not owned
 
-abbrev pub Outside : List ResourceId → List ResourceId → Name → Type 0
-Outside inside owned r = (member r (resource_names inside) ≡ true) × (member r (resource_names owned) ≡ false)
-
 true_or_false : (b : Bool) → b ≡ true → b ≡ false → ⊥
 true_or_false b e f = false≢true (sym f ∙ e)
 
--- a resource, unless it is owned
-pub unowned_held : (owned rs : List ResourceId) (q : ResourceId) → has_resource owned q ≡ true → Gains (λ r. (r ≡ number q.index) × (member r (resource_names owned) ≡ false)) rs rs
-unowned_held owned rs q e =
-    gains_nothing (λ r. (r ≡ number q.index) × (member r (resource_names owned) ≡ false)) rs
-    (λ r w. true_or_false (member r (resource_names owned)) (ap (λ (x : Name). member x (resource_names owned)) w.0 ∙ sym (has-member owned q) ∙ e) w.1)
+-- a type owns a resource or not
+module _ (owns : Name → Bool) where
+  abbrev pub One : ResourceId → Name → Type 0
+  One q r = (r ≡ number q.index) × (owns r ≡ false)
 
-pub unowned_push : (owned xs ys : List ResourceId) (q : ResourceId) → has_resource owned q ≡ false → ys ≡ with_resource xs q → Gains (λ r. (r ≡ number q.index) × (member r (resource_names owned) ≡ false)) xs ys
-unowned_push owned xs ys q e w =
-    gains_as (λ r. r ≡ number q.index) (λ r. (r ≡ number q.index) × (member r (resource_names owned) ≡ false)) xs ys
-    (λ r i. (i, ap (λ (x : Name). member x (resource_names owned)) i ∙ sym (has-member owned q) ∙ e)) (λ r i. i.0)
-    (subst (Gains (λ r. r ≡ number q.index) xs) (sym w) (gains_push xs q))
+  pub unowned_held : (rs : List ResourceId) (q : ResourceId) → owns (number q.index) ≡ true → Gains (One q) rs rs
+  unowned_held rs q e = gains_nothing (One q) rs (λ r w. true_or_false (owns r) (ap owns w.0 ∙ e) w.1)
 
--- one more of those that are inside
-pub outside_next : (inside owned : List ResourceId) (k : ℕ) (q : ResourceId) (xs ys zs : List ResourceId) → slice_get inside k ≡ Some q → Gains (Outside (take k inside) owned) xs ys →
-    Gains (λ r. (r ≡ number q.index) × (member r (resource_names owned) ≡ false)) ys zs → Gains (Outside (take (k + 1) inside) owned) xs zs
-outside_next inside owned k q xs ys zs e g h =
-    let more : take (k + 1) inside ≡ take k inside ++ q ∷ [] = ap (λ (j : ℕ). take j inside) (add-one k) ∙ take-next inside k q e in
-    subst (λ (rs : List ResourceId). Gains (Outside rs owned) xs zs) (sym more)
-    (gains_as (λ r. Outside (take k inside) owned r ⊎ One r) (Outside (take k inside ++ q ∷ []) owned) xs zs to back (gains_then (Outside (take k inside) owned) One xs ys zs g h))
+  pub unowned_push : (xs ys : List ResourceId) (q : ResourceId) → owns (number q.index) ≡ false → ys ≡ with_resource xs q → Gains (One q) xs ys
+  unowned_push xs ys q e w = gains_as (λ r. r ≡ number q.index) (One q) xs ys (λ r i. (i, ap owns i ∙ e)) (λ r i. i.0) (subst (Gains (λ r. r ≡ number q.index) xs) (sym w) (gains_push xs q))
+
+  abbrev pub Outside : List ResourceId → Name → Type 0
+  Outside inside r = (member r (resource_names inside) ≡ true) × (owns r ≡ false)
+
+  -- one more of those that are inside
+  pub outside_next : (inside : List ResourceId) (k : ℕ) (q : ResourceId) (xs ys zs : List ResourceId) → slice_get inside k ≡ Some q → Gains (Outside (take k inside)) xs ys → Gains (One q) ys zs → Gains (Outside (take (k + 1) inside)) xs zs
+  outside_next inside k q xs ys zs e g h =
+      let more : take (k + 1) inside ≡ take k inside ++ q ∷ [] = ap (λ (j : ℕ). take j inside) (add-one k) ∙ take-next inside k q e in
+      subst (λ (rs : List ResourceId). Gains (Outside rs) xs zs) (sym more)
+      (gains_as (λ r. Outside (take k inside) r ⊎ One q r) (Outside (take k inside ++ q ∷ [])) xs zs to back (gains_then (Outside (take k inside)) (One q) xs ys zs g h))
+    where
+      split : (r : Name) → member r (resource_names (take k inside ++ q ∷ [])) ≡ (member r (resource_names (take k inside)) || same r (number q.index))
+      split r = at_end (take k inside) q r
+
+      to : (r : Name) → Outside (take k inside) r ⊎ One q r → Outside (take k inside ++ q ∷ []) r
+      to r (inl f) = (split r ∙ or_left (member r (resource_names (take k inside))) (same r (number q.index)) f.0, f.1)
+      to r (inr f) = (split r ∙ or_right (member r (resource_names (take k inside))) (same r (number q.index)) (same-equal r (number q.index) f.0), f.1)
+
+      back : (r : Name) → Outside (take k inside ++ q ∷ []) r → Outside (take k inside) r ⊎ One q r
+      back r f =
+          ⊎_elim (λ (x : member r (resource_names (take k inside)) ≡ true). inl (x, f.1)) (λ (x : same r (number q.index) ≡ true). inr (same-true r (number q.index) x, f.1))
+          (or_split (member r (resource_names (take k inside))) (same r (number q.index)) (sym (split r) ∙ f.0))
+
+-- ## What a component owns
+
+-- a resource that has a path stands first in one
+path-member : (ps : List (ResourceId × List ℕ)) (q : ResourceId) → is_some (lookup (same_resource q) ps) ≡ member (number q.index) (firsts (map resource_path ps))
+path-member [] q = refl
+path-member (p ∷ ps) q = go (same_resource q p.0) (path-member ps q)
   where
-    One : Name → Type 0
-    One r = (r ≡ number q.index) × (member r (resource_names owned) ≡ false)
+    go : (b : Bool) → is_some (lookup (same_resource q) ps) ≡ member (number q.index) (firsts (map resource_path ps)) → is_some (cond b (Some p.1) (lookup (same_resource q) ps)) ≡ (b || member (number q.index) (firsts (map resource_path ps)))
+    go true e = refl
+    go false e = e
 
-    split : (r : Name) → member r (resource_names (take k inside ++ q ∷ [])) ≡ (member r (resource_names (take k inside)) || same r (number q.index))
-    split r = at_end (take k inside) q r
+copied-some : {T : Type 0} (o : Option (Bor T)) → is_some o ≡ is_some (option_copied o)
+copied-some None = refl
+copied-some (Some x) = refl
 
-    to : (r : Name) → Outside (take k inside) owned r ⊎ One r → Outside (take k inside ++ q ∷ []) owned r
-    to r (inl f) = (split r ∙ or_left (member r (resource_names (take k inside))) (same r (number q.index)) f.0, f.1)
-    to r (inr f) = (split r ∙ or_right (member r (resource_names (take k inside))) (same r (number q.index)) (same-equal r (number q.index) f.0), f.1)
-
-    back : (r : Name) → Outside (take k inside ++ q ∷ []) owned r → Outside (take k inside) owned r ⊎ One r
-    back r f =
-        ⊎_elim (λ (x : member r (resource_names (take k inside)) ≡ true). inl (x, f.1)) (λ (x : same r (number q.index) ≡ true). inr (same-true r (number q.index) x, f.1))
-        (or_split (member r (resource_names (take k inside))) (same r (number q.index)) (sym (split r) ∙ f.0))
-
--- ## Paths
-
-abbrev pub OnPath : List (ResourceId × List ℕ) → Name → Type 0
-OnPath ps r = member r (firsts (map resource_path ps)) ≡ true
-
--- one more path
-pub path_next : (ps : List (ResourceId × List ℕ)) (k : ℕ) (x : ResourceId × List ℕ) (xs ys zs : List ResourceId) → slice_get ps k ≡ Some x → Gains (OnPath (take k ps)) xs ys → zs ≡ with_resource ys x.0 →
-    Gains (OnPath (take (k + 1) ps)) xs zs
-path_next ps k x xs ys zs e g w =
-    let more : take (k + 1) ps ≡ take k ps ++ x ∷ [] = ap (λ (j : ℕ). take j ps) (add-one k) ∙ take-next ps k x e in
-    subst (λ (rs : List (ResourceId × List ℕ)). Gains (OnPath rs) xs zs) (sym more)
-    (gains_as (λ r. OnPath (take k ps) r ⊎ (r ≡ number x.0.index)) (OnPath (take k ps ++ x ∷ [])) xs zs (to (take k ps)) (back (take k ps))
-    (gains_then (OnPath (take k ps)) (λ r. r ≡ number x.0.index) xs ys zs g (subst (Gains (λ r. r ≡ number x.0.index) ys) (sym w) (gains_push ys x.0))))
-  where
-    last : (ds : List (ResourceId × List ℕ)) (r : Name) → member r (firsts (map resource_path (ds ++ x ∷ []))) ≡ (member r (firsts (map resource_path ds)) || same r (number x.0.index))
-    last [] r = or_false (same r (number x.0.index))
-    last (d ∷ ds) r = ap (λ (b : Bool). same r (number d.0.index) || b) (last ds r) ∙ or_assoc (same r (number d.0.index)) (member r (firsts (map resource_path ds))) (same r (number x.0.index))
-
-    to : (ds : List (ResourceId × List ℕ)) (r : Name) → OnPath ds r ⊎ (r ≡ number x.0.index) → OnPath (ds ++ x ∷ []) r
-    to ds r (inl f) = last ds r ∙ or_left (member r (firsts (map resource_path ds))) (same r (number x.0.index)) f
-    to ds r (inr f) = last ds r ∙ or_right (member r (firsts (map resource_path ds))) (same r (number x.0.index)) (same-equal r (number x.0.index) f)
-
-    back : (ds : List (ResourceId × List ℕ)) (r : Name) → OnPath (ds ++ x ∷ []) r → OnPath ds r ⊎ (r ≡ number x.0.index)
-    back ds r f =
-        ⊎_elim (λ (y : OnPath ds r). inl y) (λ (y : same r (number x.0.index) ≡ true). inr (same-true r (number x.0.index) y))
-        (or_split (member r (firsts (map resource_path ds))) (same r (number x.0.index)) (sym (last ds r) ∙ f))
-
--- what stands on either of two lists of paths
-pub gains_either : (ps qs : List (ResourceId × List ℕ)) (xs ys zs : List ResourceId) → Gains (OnPath ps) xs ys → Gains (OnPath qs) ys zs →
-    Gains (λ r. (member r (firsts (map resource_path ps)) || member r (firsts (map resource_path qs))) ≡ true) xs zs
-gains_either ps qs xs ys zs g h =
-    gains_as (λ r. OnPath ps r ⊎ OnPath qs r) (λ r. (member r (firsts (map resource_path ps)) || member r (firsts (map resource_path qs))) ≡ true) xs zs to
-    (λ r f. or_split (member r (firsts (map resource_path ps))) (member r (firsts (map resource_path qs))) f) (gains_then (OnPath ps) (OnPath qs) xs ys zs g h)
-  where
-    to : (r : Name) → OnPath ps r ⊎ OnPath qs r → (member r (firsts (map resource_path ps)) || member r (firsts (map resource_path qs))) ≡ true
-    to r (inl f) = or_left (member r (firsts (map resource_path ps))) (member r (firsts (map resource_path qs))) f
-    to r (inr f) = or_right (member r (firsts (map resource_path ps))) (member r (firsts (map resource_path qs))) f
+pub path_owned : (ps : List (ResourceId × List ℕ)) (q : ResourceId) (o : Option (Bor (List ℕ))) → option_copied o ≡ lookup (same_resource q) ps → is_some o ≡ member (number q.index) (firsts (map resource_path ps))
+path_owned ps q o e = copied-some o ∙ ap is_some e ∙ path-member ps q

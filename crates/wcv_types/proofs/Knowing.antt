@@ -1,5 +1,5 @@
 -- What is kept of the nodes of an arena, and of the parts of a node.
-use Rattle.std.proofs.Common.{◌≡◌, ℕ, zero, suc, ◌+◌, ◌<◌, ◌≤◌, List, [], ◌∷◌, ◌++◌, length, take, drop, map, get_or, refl, sym, ◌∙◌, ap, subst, arith, take-suc, take_all, drop-cons, add-one, append_assoc, append-nil, length-append, Bool, true, false, ◌&&◌, ◌||◌, Some, None}
+use Rattle.std.proofs.Common.{◌≡◌, ℕ, zero, suc, ◌+◌, ◌<◌, ◌≤◌, List, [], ◌∷◌, ◌++◌, length, take, drop, map, get_or, refl, sym, ◌∙◌, ap, subst, arith, take_all, drop-cons, add-one, append_assoc, append-nil, length-append, Bool, true, false, ◌&&◌, Some, None}
 use Rattle.std.specs.Prelude.{Option, Vec, slice_get, All, option_to_list}
 use Rattle.std.specs.declared.alloc.Global.{Global}
 use Rattle.std.specs.Option.{option_map}
@@ -12,11 +12,9 @@ use Rattle.wcv_types.specs.Entities.{SlotStands}
 use Rattle.wcv_types.specs.Facts.{is_plain}
 use Rattle.wcv_types.specs.Identity.{Identity}
 use Rattle.wcv_types.specs.Named.{is_named, are_named, passes}
-use Rattle.wcv_types.specs.Resources.{mentions, mentions_in}
-use Rattle.wcv_types.specs.Standing.{Stands, Fits}
+use Rattle.wcv_types.specs.Standing.{Stands}
 use Rattle.wcv_types.specs.Tree.{Text, Role, here, label, nothing, primitive, resource, defined, func, instance, component, type_entity, core_module, core_instance, core_type, core_item, node, sort, is_func}
 use Rattle.wcv_types.specs.Unfold.{Type_tree, Slot, leaf, at, both, core, Slots, value_slot, option_slot, field_slots, value_parts, value_slots, handles, defined_slots, slot_refs, parts_in, slot_tree, slot_parts, tree_at, trees}
-use Rattle.wcv_types.specs.declared.arena.Node.TheVariants as n
 use Rattle.wcv_types.specs.declared.ids.AliasableResourceId.{AliasableResourceId}
 use Rattle.wcv_types.specs.declared.ids.ComponentFuncTypeId.{ComponentFuncTypeId}
 use Rattle.wcv_types.specs.declared.ids.Part.{Part}
@@ -196,16 +194,6 @@ behind_fields : (fs : List (Text × ComponentValType)) (x : Role × Slot) → sl
 behind_fields [] x = refl
 behind_fields (f ∷ fs) x = behind_fields fs x
 
-pub param_stands : (a : Arena) (s : ComponentFuncType) (k : ℕ) (f : Text × ComponentValType) → Fits a (n.Func s) → k < length s.params.items → f ≡ get_or s.params.items k f → SlotStands a (value_slot f.1)
-param_stands a s k f h w e =
-    slot_stands_at a (field_slots s.params.items ((here, option_slot s.result) ∷ [])) k (label f.0, value_slot f.1) h.parts
-    (field_at s.params.items ((here, option_slot s.result) ∷ []) k f (slice_get_read s.params.items (length s.params.items) k f refl w e))
-
-pub result_stands : (a : Arena) (s : ComponentFuncType) → Fits a (n.Func s) → SlotStands a (option_slot s.result)
-result_stands a s h =
-    slot_stands_at a (field_slots s.params.items ((here, option_slot s.result) ∷ [])) (length s.params.items) (here, option_slot s.result) h.parts
-    (behind_fields s.params.items (here, option_slot s.result))
-
 -- what stands in the k-th parameter, and in what stands behind them
 pub given_stands : (a : Arena) (fs : List (Text × ComponentValType)) (x : Role × Slot) (k : ℕ) (f : Text × ComponentValType) → All (Stands a) (parts_in (field_slots fs (x ∷ []))) → k < length fs → f ≡ get_or fs k f → SlotStands a (value_slot f.1)
 given_stands a fs x k f h w e = slot_stands_at a (field_slots fs (x ∷ [])) k (label f.0, value_slot f.1) h (field_at fs (x ∷ []) k f (slice_get_read fs (length fs) k f refl w e))
@@ -244,22 +232,3 @@ named_last ids ts s k h =
     and_true : (b : Bool) → (b && true) ≡ b
     and_true true = refl
     and_true false = refl
-
--- whether a resource stands in the fields from k on, or in what stands behind them
-abbrev pub refers_from : List Type_tree → ComponentFuncType → ℕ → Bool
-refers_from ts s k = mentions_in (slot_parts ts (field_slots (drop k s.params.items) ((here, option_slot s.result) ∷ [])))
-
-pub refers_next : (ts : List Type_tree) (s : ComponentFuncType) (k : ℕ) (f : Text × ComponentValType) → k < length s.params.items → f ≡ get_or s.params.items k f →
-    refers_from ts s k ≡ (mentions (slot_tree ts (value_slot f.1)) || refers_from ts s (k + 1))
-refers_next ts s k f w e =
-    let rest : Slots = (here, option_slot s.result) ∷ [] in
-    ap (λ gs. mentions_in (slot_parts ts (field_slots gs rest))) (drop-cons s.params.items k f w ∙ ap (λ (g : Text × ComponentValType). g ∷ drop (suc k) s.params.items) (sym e)) ∙
-    ap (λ (j : ℕ). mentions (slot_tree ts (value_slot f.1)) || refers_from ts s j) (sym (add-one k))
-
-pub refers_last : (ts : List Type_tree) (s : ComponentFuncType) (k : ℕ) → length s.params.items ≤ k → refers_from ts s k ≡ mentions (slot_tree ts (option_slot s.result))
-refers_last ts s k h =
-    ap (λ gs. mentions_in (slot_parts ts (field_slots gs ((here, option_slot s.result) ∷ [])))) (drop_of_length-le s.params.items h) ∙ or_false (mentions (slot_tree ts (option_slot s.result)))
-  where
-    or_false : (b : Bool) → (b || false) ≡ b
-    or_false true = refl
-    or_false false = refl

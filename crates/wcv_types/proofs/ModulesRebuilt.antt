@@ -1,5 +1,5 @@
 -- Core modules and core instances that are made again.
-use Rattle.std.proofs.Common.{◌≡◌, ℕ, suc, List, [], ◌∷◌, ◌++◌, length, refl, sym, ◌∙◌, ap, subst, Bool, false, Some}
+use Rattle.std.proofs.Common.{◌≡◌, suc, List, [], ◌∷◌, ◌++◌, length, refl, sym, ◌∙◌, ap, subst, false, Some}
 use Rattle.std.specs.Prelude.{Option, slice_get}
 use Rattle.wcv_core.specs.Names.{number}
 use Rattle.wcv_core.specs.declared.core_types.EntityType.{EntityType}
@@ -7,8 +7,8 @@ use Rattle.wcv_types.specs.Arena.{Arena}
 use Rattle.wcv_types.specs.Rebuild.{refill, anew, MadeAgain}
 use Rattle.wcv_types.specs.Resources.{mentions_in}
 use Rattle.wcv_types.specs.Standing.{Stands, Fits, with_node}
-use Rattle.wcv_types.specs.Tree.{Text, Role, core_import, core_export, core_module, head}
-use Rattle.wcv_types.specs.Unfold.{Type_tree, Slot, leaf, at, both, core, Slots, rank, core_import_slots, core_export_slots, module_slots, slots_of, slots_if, slot_parts, parts_in, parts_at, tree_at, unfolded}
+use Rattle.wcv_types.specs.Tree.{Text, core_module, head}
+use Rattle.wcv_types.specs.Unfold.{Type_tree, Slot, leaf, at, both, core, Slots, rank, core_import_slots, core_export_slots, module_slots, slots_if, slot_parts, parts_in, parts_at, tree_at, unfolded}
 use Rattle.wcv_types.specs.declared.arena.Node.{Node}
 use Rattle.wcv_types.specs.declared.arena.Node.TheVariants as n
 use Rattle.wcv_types.specs.declared.core_shapes.ModuleType.{ModuleType}

@@ -2,7 +2,6 @@
 use Rattle.std.proofs.Common.{◌≡◌, List, refl, sym, ◌∙◌, ap, subst, Bool, true, false, ◌&&◌, Some, None, ℕ}
 use Rattle.std.specs.Prelude.{All, Option, slice_get}
 use Rattle.std.specs.Option.{option_map}
-use Rattle.std.proofs.lemmas.List.Elements.{All-weaker}
 use Rattle.wcv_core.specs.Names.{number, stamp}
 use Rattle.wcv_types.specs.Arena.{Arena}
 use Rattle.wcv_types.specs.Entities.{SlotStands}
@@ -10,13 +9,12 @@ use Rattle.wcv_types.specs.Identity.{Identity, of_reference}
 use Rattle.wcv_types.specs.Named.{is_in, are_named}
 use Rattle.wcv_types.specs.NamedBySet.{handle_of}
 use Rattle.wcv_types.specs.Sets.{has_type, AllStand, identities}
-use Rattle.wcv_types.specs.Standing.{Stands, StandsBefore}
+use Rattle.wcv_types.specs.Standing.{Stands}
 use Rattle.wcv_types.specs.Tree.{Role}
 use Rattle.wcv_types.specs.Unfold.{Type_tree, value_parts, value_slots, defined_slots, option_slot, parts_in, slot_parts}
 use Rattle.wcv_types.specs.declared.ids.AliasableResourceId.{AliasableResourceId}
 use Rattle.wcv_types.specs.declared.ids.ComponentAnyTypeId.{ComponentAnyTypeId}
 use Rattle.wcv_types.specs.declared.ids.ComponentAnyTypeId.TheVariants as any
-use Rattle.wcv_types.specs.declared.ids.Part.{Part}
 use Rattle.wcv_types.specs.declared.shapes.ComponentDefinedType.{ComponentDefinedType}
 use Rattle.wcv_types.specs.declared.shapes.ComponentDefinedType.TheVariants as d
 use Rattle.wcv_types.specs.declared.shapes.ComponentValType.{ComponentValType}

@@ -1,9 +1,8 @@
 -- Whether exports pass in order, where the set of what is named grows.
-use Rattle.std.proofs.Common.{◌≡◌, ℕ, suc, ◌+◌, ◌<◌, ◌≤◌, List, [], ◌∷◌, ◌++◌, length, drop, get_or, refl, sym, ◌∙◌, ap, subst, Bool, true, false, ◌&&◌, ◌||◌, cond, eqb, Some, None, drop-cons, add-one}
+use Rattle.std.proofs.Common.{◌≡◌, ℕ, suc, ◌+◌, ◌<◌, List, [], ◌∷◌, ◌++◌, length, drop, get_or, refl, sym, ◌∙◌, ap, subst, Bool, true, false, ◌&&◌, ◌||◌, cond, eqb, Some, None, drop-cons, add-one}
 use Rattle.std.specs.Prelude.{Option}
 use Rattle.std.proofs.lemmas.Bool.{false≢true, eqb-true}
 use Rattle.std.proofs.lemmas.List.Elements.{All-nil, All-cons, All-append}
-use Rattle.std.proofs.Math.ListN.{drop_of_length-le}
 use Rattle.wcv_core.specs.Names.{Name, number, stamp}
 use Rattle.wcv_types.specs.Arena.{Arena}
 use Rattle.wcv_types.specs.Entities.{any_part, entity_tree, EntityStands}
@@ -236,12 +235,6 @@ module _ (a : Arena) where
     pub stand : AllStand a known
     pub rest : all_pass (identities set) (slot_parts (trees a.nodes) (entry_slots export es)) ≡ all_pass (identities known) (slot_parts (trees a.nodes) (entry_slots export (drop k es)))
 
-  pub none_passed : (set known : List ComponentAnyTypeId) (es : List (Text × ComponentItem)) → AllStand a set → known ≡ set → PassedTo set known es 0
-  none_passed set known es h e = record {
-    stand = subst (AllStand a) (sym e) h;
-    rest = ap (λ (ids : List ComponentAnyTypeId). exports_pass ids es) (sym e);
-  }
-
   module _ (set known : List ComponentAnyTypeId) (es : List (Text × ComponentItem)) (k : ℕ) (e : Text × ComponentItem) (within : k < length es) (is : e ≡ get_or es k e) (so : PassedTo set known es k) where
     split : exports_pass set es ≡ (passes (identities known) (entity_tree (trees a.nodes) e.1.ty) && all_pass (with_created (identities known) (entity_tree (trees a.nodes) e.1.ty)) (slot_parts (trees a.nodes) (entry_slots export (drop (suc k) es))))
     split = so.rest ∙ ap (exports_pass known) (drop-cons es k e within ∙ ap (λ (d : Text × ComponentItem). d ∷ drop (suc k) es) (sym is))
@@ -256,9 +249,6 @@ module _ (a : Arena) where
           rest = split ∙ ap (λ (b : Bool). b && all_pass (with_created (identities known) (entity_tree (trees a.nodes) e.1.ty)) (slot_parts (trees a.nodes) (entry_slots export (drop (suc k) es)))) t ∙
               sym (all_pass_by (identities (with_created_type known e.1.ty)) (with_created (identities known) (entity_tree (trees a.nodes) e.1.ty)) (slot_parts (trees a.nodes) (entry_slots export (drop (suc k) es))) (created_members known e.1.ty s));
         })
-
-  pub all_passed : (set known : List ComponentAnyTypeId) (es : List (Text × ComponentItem)) (k : ℕ) → length es ≤ k → PassedTo set known es k → all_pass (identities set) (slot_parts (trees a.nodes) (entry_slots export es)) ≡ true
-  all_passed set known es k w so = so.rest ∙ ap (exports_pass known) (drop_of_length-le es w)
 
   -- ## Types and entities
 

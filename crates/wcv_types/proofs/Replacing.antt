@@ -9,8 +9,8 @@ use Rattle.wcv_types.specs.Identity.{Identity, identity_at, same_known}
 use Rattle.wcv_types.specs.Rename.{rename_head, rename_parts, no_identity, without_identities}
 use Rattle.wcv_types.specs.Resources.{owns, spare, substitute_head, substitute, substitute_parts}
 use Rattle.wcv_types.specs.Replacing.{Replacement, given_at, given_or, or_same, new_resource, moved, moves, given_elsewhere, changed, changed_in, new_head, replaced, replaced_in, SparesOwn, SparesOwnIn, GivesSame, GivesSameIn}
-use Rattle.wcv_types.specs.Measure.{size, depth, height}
-use Rattle.wcv_types.proofs.Measure.{size-rename, size-substitute, depth-rename, depth-substitute, height-rename, height-substitute}
+use Rattle.wcv_types.specs.Measure.{height}
+use Rattle.wcv_types.proofs.Measure.{height-rename, height-substitute}
 
 abbrev pub aside : {I : Type 0} → Parts Name I → Parts Name (Unit {0})
 aside ps = rename_parts (λ r. r) no_identity ps
@@ -74,13 +74,7 @@ module _ (m : Replacement) (n : (i : Identity) → m.nodes i ≡ None) where
         let e' : aside (replaced_in m ps) ≡ aside (substitute_parts (new_resource m) ps) = replaced_in-aside ps s.1 in
         λ j. part k (e j) (e' j)
 
-  -- sizes, depths and heights stay
-  pub size-replaced : (t : Tree Name Name) → SparesOwn m t → size (replaced m t) ≡ size t
-  size-replaced t s = sym (size-rename (λ r. r) no_identity (replaced m t)) ∙ ap size (replaced-aside t s) ∙ size-rename (λ r. r) no_identity (substitute (new_resource m) t) ∙ size-substitute (new_resource m) t
-
-  pub depth-replaced : (t : Tree Name Name) → SparesOwn m t → depth (replaced m t) ≡ depth t
-  depth-replaced t s = sym (depth-rename (λ r. r) no_identity (replaced m t)) ∙ ap depth (replaced-aside t s) ∙ depth-rename (λ r. r) no_identity (substitute (new_resource m) t) ∙ depth-substitute (new_resource m) t
-
+  -- heights stay
   pub height-replaced : (t : Tree Name Name) → SparesOwn m t → height (replaced m t) ≡ height t
   height-replaced t s =
       sym (height-rename (λ r. r) no_identity (replaced m t)) ∙ ap height (replaced-aside t s) ∙ height-rename (λ r. r) no_identity (substitute (new_resource m) t) ∙ height-substitute (new_resource m) t

@@ -1,15 +1,12 @@
 -- What is seen looks at no identity.
-use Rattle.std.proofs.Common.{◌≡◌, ℕ, List, map, Bool, cond, ◌||◌, refl, ap, sym, ◌∙◌}
-use Rattle.std.specs.Prelude.{None}
+use Rattle.std.proofs.Common.{◌≡◌, ℕ, List, map, Bool, cond, ◌||◌, refl, ap, ◌∙◌}
 use Rattle.wcv_core.specs.Names.{Name, member}
 use Rattle.wcv_types.specs.Tree.{Head, nothing, primitive, resource, defined, func, instance, component, type_entity, core_module, core_instance, core_type, core_item, Tree, node, Parts, none, part, firsts}
-use Rattle.wcv_types.specs.Identity.{Identity}
 use Rattle.wcv_types.specs.Rename.{rename_paths, without_identities}
-use Rattle.wcv_types.specs.Resources.{owns, substitute}
-use Rattle.wcv_types.specs.Replacing.{Replacement, new_resource, replaced, SparesOwn}
+use Rattle.wcv_types.specs.Resources.{owns}
 use Rattle.wcv_types.specs.Seen.{Within, inner, under, seen_head, seen, seen_parts}
 use Rattle.wcv_types.proofs.Lists.{map-id}
-use Rattle.wcv_types.proofs.Replacing.{aside, aside_head, replaced-aside}
+use Rattle.wcv_types.proofs.Replacing.{aside, aside_head}
 
 paths-id : (ps : List (Name × List ℕ)) → rename_paths (λ r. r) ps ≡ ps
 paths-id ps = map-id ps

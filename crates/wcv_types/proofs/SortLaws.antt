@@ -5,6 +5,7 @@ use Rattle.std.proofs.lemmas.List.Elements.{Contains-append_left, Contains-appen
 use Rattle.wcv_core.specs.Names.{Name, number}
 use Rattle.wcv_types.specs.Tree.{Head, nothing, primitive, resource, defined, func, instance, component, type_entity, core_module, core_instance, core_type, core_item, node, Parts, part, head, type_of}
 use Rattle.wcv_types.specs.Arena.{Arena}
+use Rattle.wcv_types.specs.Gathering.{FreeInSome}
 use Rattle.wcv_types.specs.Identity.{Identity, of_node, identity_at}
 use Rattle.wcv_types.specs.Resources.{owns, RefersTo, Free, FreeIn}
 use Rattle.wcv_types.specs.Replacing.{Replacement, given_at, given_or, moves, changed_in, new_head, replaced, replaced_in}
@@ -16,10 +17,6 @@ use Rattle.wcv_types.specs.declared.ids.Part.TheVariants as p
 
 -- ## What is free
 
--- in one of the parts
-abbrev pub FreeInSome : Arena → Name → List Part → Type 0
-FreeInSome a r qs = (q : Part) × Contains qs q × Free r (tree_at a q)
-
 module _ (a : Arena) (r : Name) where
   leaf_free : (o : Option _) → Free r (leaf_tree o) → ⊥
   leaf_free None (inl x) = x
@@ -27,7 +24,8 @@ module _ (a : Arena) (r : Name) where
   leaf_free (Some q) (inl x) = x
   leaf_free (Some q) (inr x) = x.1
 
-  free_slot : (s : Slot) → Free r (slot_tree (trees a.nodes) s) → FreeInSome a r (slot_refs s)
+  -- in one of the parts
+  pub free_slot : (s : Slot) → Free r (slot_tree (trees a.nodes) s) → FreeInSome a r (slot_refs s)
   free_slot (leaf o) f = absurd (leaf_free o f)
   free_slot (at q) f = (q, (0, omega arith, refl), f)
   free_slot (core x) (inl f) = absurd f
@@ -36,6 +34,15 @@ module _ (a : Arena) (r : Name) where
   free_slot (both c d) (inr (e, inl f)) = (c, (0, omega arith, refl), f)
   free_slot (both c d) (inr (e, inr (inl f))) = (d, (1, omega arith, refl), f)
   free_slot (both c d) (inr (e, inr (inr f))) = absurd f
+
+  pub slot_free : (s : Slot) → FreeInSome a r (slot_refs s) → Free r (slot_tree (trees a.nodes) s)
+  slot_free (leaf o) (q, c, f) = absurd (omega (arith, c.1))
+  slot_free (core x) (q, c, f) = absurd (omega (arith, c.1))
+  slot_free (at s) (q, (zero, l, e), f) = subst (λ x. Free r (tree_at a x)) (sym e) f
+  slot_free (at s) (q, (suc n, l, e), f) = absurd (omega (arith, l))
+  slot_free (both s t) (q, (zero, l, e), f) = inr (refl, inl (subst (λ x. Free r (tree_at a x)) (sym e) f))
+  slot_free (both s t) (q, (suc zero, l, e), f) = inr (refl, inr (inl (subst (λ x. Free r (tree_at a x)) (sym e) f)))
+  slot_free (both s t) (q, (suc (suc n), l, e), f) = absurd (omega (arith, l))
 
   free_parts : (ss : Slots) → FreeIn r (slot_parts (trees a.nodes) ss) → FreeInSome a r (parts_in ss)
   free_parts [] f = absurd f

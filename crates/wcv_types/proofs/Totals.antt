@@ -1,24 +1,16 @@
 -- One more entry, and what is known of nodes that are made of entries.
-use Rattle.std.proofs.Common.{◌≡◌, ℕ, suc, ◌+◌, ◌<◌, ◌≤◌, min, max, refl, sym, ◌∙◌, ap, subst, arith, add-one, List, [], ◌∷◌, ◌++◌, length, take, map, get_or, ◌||◌, append_assoc, append-nil}
-use Rattle.std.specs.Prelude.{All, slice_get}
+use Rattle.std.proofs.Common.{◌≡◌, ℕ, ◌+◌, ◌<◌, min, max, refl, sym, ◌∙◌, ap, arith, add-one, List, [], ◌∷◌, ◌++◌, length, take, get_or, ◌||◌}
+use Rattle.std.specs.Prelude.{All}
 use Rattle.std.proofs.lemmas.Option.{slice_get_read}
 use Rattle.std.proofs.lemmas.List.{map-append}
-use Rattle.std.proofs.lemmas.List.Elements.{All-head, All-tail, All-nil, All-cons}
-use Rattle.wcv_core.specs.Names.{Name}
+use Rattle.std.proofs.lemmas.List.Elements.{All-nil, All-cons}
 use Rattle.wcv_types.specs.Arena.{Arena}
-use Rattle.wcv_types.specs.Entities.{SlotStands, EntryStands}
-use Rattle.wcv_types.specs.EntrySums.{IsTotalOf, IsTotalOfParts, HasEntries}
-use Rattle.wcv_types.specs.Facts.{IsFactsOf}
-use Rattle.wcv_types.specs.Measure.{Weight, weight, whole, weigh, deepen, sizes, first_size, depths, first_depth}
+use Rattle.wcv_types.specs.Entities.{EntryStands}
+use Rattle.wcv_types.specs.EntrySums.{IsTotalOf, IsTotalOfParts}
 use Rattle.wcv_types.specs.Standing.{Stands}
-use Rattle.wcv_types.specs.Tree.{Text, Extern_name, Role, Head, Parts, node}
-use Rattle.wcv_types.specs.Unfold.{Type_tree, Slot, leaf, at, both, core, Slots, IsInfoOf, capped, entity_slot, entry_name, entry_slots, head_of, parts_in, slot_refs, slot_tree, slot_parts}
-use Rattle.wcv_types.specs.declared.arena.Node.{Node}
-use Rattle.wcv_types.specs.declared.arena.Node.TheVariants as n
+use Rattle.wcv_types.specs.Tree.{Text, Extern_name, Role}
+use Rattle.wcv_types.specs.Unfold.{Type_tree, Slot, Slots, entity_slot, entry_name, entry_slots, parts_in, slot_refs, slot_tree, slot_parts}
 use Rattle.wcv_types.specs.declared.entry_facts.Total.{Total}
-use Rattle.wcv_types.specs.declared.facts.Facts.{Facts}
-use Rattle.wcv_types.specs.declared.ids.Part.{Part}
-use Rattle.wcv_types.specs.declared.info.TypeInfo.{TypeInfo}
 use Rattle.wcv_types.specs.declared.item_map.ComponentItem.{ComponentItem}
 use Rattle.wcv_types.proofs.Knowing.{take-next, refs_stand}
 use Rattle.wcv_types.proofs.Sums.{sizes-push, depths-push, mentions-push}

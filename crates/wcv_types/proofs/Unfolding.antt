@@ -5,12 +5,12 @@ use Rattle.std.proofs.lemmas.Option.{slice_get_within}
 use Rattle.std.proofs.lemmas.List.{take-append-drop, length-take-le}
 use Rattle.std.proofs.lemmas.List.Elements.{All-head, All-tail, All-weaker, All-contains, All-contains_itself, Contains-append_left, Contains-append_right}
 use Rattle.std.proofs.Math.ListN.{get_or-append}
-use Rattle.wcv_core.specs.Names.{Name, number}
+use Rattle.wcv_core.specs.Names.{Name}
 use Rattle.std.proofs.Math.Seq.{get_or-append_seam}
 use Rattle.wcv_types.specs.Tree.{Parts, node, part, head, sort, sort_at, type_of, Sort, is_value, is_resource, is_func, is_instance, is_component, is_module, is_core_instance, is_core_type}
 use Rattle.wcv_types.specs.Arena.{Arena}
-use Rattle.wcv_types.specs.Unfold.{Type_tree, Slot, leaf, at, both, core, Slots, left_out, any_part, place, rank, head_of, slots_of, slot_refs, slot_tree, slot_parts, part_tree, parts_in, parts_of, tree_of, tree_in, trees_after, trees, tree_at, unfolded}
-use Rattle.wcv_types.specs.Identity.{of_node, identity_at}
+use Rattle.wcv_types.specs.Unfold.{Type_tree, Slot, leaf, at, both, core, Slots, left_out, any_part, rank, head_of, slots_of, slot_refs, slot_tree, slot_parts, part_tree, parts_in, parts_of, tree_of, tree_in, trees_after, trees, tree_at, unfolded}
+use Rattle.wcv_types.specs.Identity.{identity_at}
 use Rattle.wcv_types.specs.Standing.{HasIdentity, identity_of, Stands, StandsBefore, AllFit, cut, Extends}
 use Rattle.wcv_types.specs.declared.arena.Node.{Node}
 use Rattle.wcv_types.specs.declared.arena.Node.TheVariants as n

@@ -1,5 +1,5 @@
 -- Component types by ids of an arena: which stand there, and their trees.
-use Rattle.std.specs.Prelude.{ℕ, ◌<◌, List, length, map, All}
+use Rattle.std.specs.Prelude.{◌<◌, List, length, map, All}
 use Rattle.wcv_core.specs.Names.{Name, number}
 use Rattle.wcv_types.specs.Tree.{component_type}
 use Rattle.wcv_types.specs.Arena.{Arena}

@@ -1,13 +1,12 @@
 -- Free resources, gathered in a set.
-use Rattle.std.specs.Prelude.{List, [], ◌∷◌, ◌++◌, All, true, ◌≡◌, ◌⊎◌}
+use Rattle.std.specs.Prelude.{ℕ, List, [], ◌∷◌, ◌++◌, All, Contains, true, ◌≡◌, ◌⊎◌}
 use Rattle.wcv_core.specs.Names.{Name, member}
 use Rattle.wcv_types.specs.Arena.{Arena}
-use Rattle.wcv_types.specs.Entities.{any_part}
 use Rattle.wcv_types.specs.Resources.{Free}
 use Rattle.wcv_types.specs.Sets.{resource_names}
 use Rattle.wcv_types.specs.Tree.{Extern_name}
-use Rattle.wcv_types.specs.Unfold.{Type_tree, tree_at}
-use Rattle.wcv_types.specs.declared.ids.ComponentAnyTypeId.{ComponentAnyTypeId}
+use Rattle.wcv_types.specs.Unfold.{Type_tree, tree_at, tree_in, trees}
+use Rattle.wcv_types.specs.declared.ids.Part.{Part}
 use Rattle.wcv_types.specs.declared.ids.ResourceId.{ResourceId}
 
 -- what was there, and maybe more behind it
@@ -25,6 +24,10 @@ abbrev pub FreeAmong : List (Extern_name × Type_tree) → Name → Type 0
 FreeAmong [] r = ⊥
 FreeAmong (e ∷ es) r = Free r e.1 ⊎ FreeAmong es r
 
--- what is free in each of these types is in the set
-abbrev pub AllGathered : Arena → List ComponentAnyTypeId → List ResourceId → Type 0
-AllGathered a ids rs = All (λ id. (r : Name) → Free r (tree_at a (any_part id)) → member r (resource_names rs) ≡ true) ids
+-- or in one of the types
+abbrev pub FreeInSome : Arena → Name → List Part → Type 0
+FreeInSome a r qs = (q : Part) × Contains qs q × Free r (tree_at a q)
+
+-- what is free in each of the nodes at these places is in the set
+abbrev pub AllGathered : Arena → List ℕ → List ResourceId → Type 0
+AllGathered a ks rs = All (λ k. (r : Name) → Free r (tree_in (trees a.nodes) k) → member r (resource_names rs) ≡ true) ks

@@ -1,18 +1,11 @@
 -- The size and the depth that a node keeps.
+use Rattle.wcv_core.specs.Limits.{max_depth, max_size}
 use Rattle.std.specs.Prelude.{ℕ, suc, max, ◌+◌, ◌<◌, ◌≤◌, ◌⊎◌}
 use Rattle.wcv_types.specs.declared.info.TypeInfo.{TypeInfo}
 
 -- those of a type with one more part
 abbrev pub combined : TypeInfo → TypeInfo → TypeInfo
 combined whole more = record { size = whole.size + more.size; depth = max whole.depth (suc more.depth) }
-
--- the greatest size of a type
-abbrev pub max_size : ℕ
-max_size = 1000000
-
--- the greatest depth of a type
-abbrev pub max_depth : ℕ
-max_depth = 512
 
 -- both are allowed
 pub record IsWithinLimits (info : TypeInfo) : Type 0 where

@@ -1,5 +1,5 @@
 -- A node that is made again with other parts.
-use Rattle.std.specs.Prelude.{ℕ, suc, List, [], ◌∷◌, ◌++◌, drop, length, map, Option, Some, Bool, true, eqb, All, ◌≡◌}
+use Rattle.std.specs.Prelude.{ℕ, suc, List, [], ◌∷◌, ◌++◌, drop, length, map, Option, Some, Bool, true, false, eqb, All, ◌≡◌}
 use Rattle.wcv_core.specs.Names.{Name, number}
 use Rattle.wcv_types.specs.Tree.{Text, Head, defined, func, instance, component, core_module, core_instance, Role, here, label, node, Parts, part, head}
 use Rattle.wcv_types.specs.Arena.{Arena}
@@ -10,6 +10,8 @@ use Rattle.wcv_types.specs.Standing.{Stands, KeepsTrees}
 use Rattle.wcv_types.specs.Unfold.{capped, rank, Slot, leaf, at, both, core, Slots, slot_refs, slots_at, slot_parts, parts_at, trees, tree_at, value_slots}
 use Rattle.wcv_types.specs.declared.ids.Part.{Part}
 use Rattle.wcv_types.specs.declared.ids.Part.TheVariants as p
+use Rattle.wcv_types.specs.declared.shapes.ComponentDefinedType.{ComponentDefinedType}
+use Rattle.wcv_types.specs.declared.shapes.ComponentDefinedType.TheVariants as d
 use Rattle.wcv_types.specs.declared.shapes.ComponentValType.{ComponentValType}
 
 -- ## Other parts
@@ -126,6 +128,15 @@ case_value c = (label c.0, c.1)
 
 abbrev pub tuple_value : ComponentValType → Role × Option ComponentValType
 tuple_value t = (here, Some t)
+
+-- the type is made of a list
+abbrev pub has_list : ComponentDefinedType → Bool
+has_list (d.Record fs) = true
+has_list (d.Variant cs) = true
+has_list (d.Tuple ts) = true
+has_list (d.Flags ns) = true
+has_list (d.Enum ns) = true
+has_list s = false
 
 -- the slots of a list whose elements are value types in their roles
 abbrev pub slots_by : {X : Type 0} → (X → Role × Option ComponentValType) → List X → Slots

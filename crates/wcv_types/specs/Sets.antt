@@ -1,5 +1,5 @@
 -- Sets of identities of types, and of resources.
-use Rattle.std.specs.Prelude.{List, [], ◌∷◌, ◌++◌, map, Bool, false, cond, eqb, ◌&&◌, All}
+use Rattle.std.specs.Prelude.{ℕ, List, [], ◌∷◌, ◌++◌, map, Bool, false, cond, eqb, ◌&&◌, All}
 use Rattle.std.specs.List.{list_any}
 use Rattle.wcv_types.specs.Arena.{Arena}
 use Rattle.wcv_types.specs.Entities.{any_part}
@@ -33,6 +33,15 @@ AllStand a ids = All (λ id. Stands a (any_part id)) ids
 
 abbrev pub identities : List ComponentAnyTypeId → List Identity
 identities ids = map (λ id. identity_of (any_part id)) ids
+
+-- ## Places of nodes
+
+abbrev pub has_place : List ℕ → ℕ → Bool
+has_place ks k = list_any (eqb k) ks
+
+-- the set with that place, which it may have already
+abbrev pub with_place : List ℕ → ℕ → List ℕ
+with_place ks k = cond (has_place ks k) ks (ks ++ k ∷ [])
 
 -- ## Resources
 

@@ -2,7 +2,7 @@
 
 /// How a value type lies in memory, with pointers of 4 and of 8 bytes, and what stands in it. Sizes and
 /// alignments are in bytes. A size above 18,446,744,073,709,551,615 stands as that number.
-#[derive(Clone, Copy, Debug, PartialEq, Eq)]
+#[derive(Clone, Copy)]
 pub struct AbiInfo {
     pub size32: u64,
     pub align32: u64,

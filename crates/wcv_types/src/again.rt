@@ -1,6 +1,7 @@
 // The shape of a node with other parts.
-ghost use Rattle.std.specs.Prelude.{◌≡◌, IfOk, OnOk};
-ghost use Rattle.wcv_types.specs.Rebuild.{Fills, refill, after, slots_by, field_value, case_value, tuple_value};
+ghost use Rattle.std.specs.Prelude.{◌≡◌, false, IfOk, OnOk};
+ghost use Rattle.wcv_types.specs.Rebuild.{Fills, refill, after, slots_by, field_value, case_value, tuple_value, has_list};
+ghost use Rattle.wcv_types.specs.Tree.{variant_of, tuple_of};
 ghost use Rattle.wcv_types.specs.Unfold.{former_of, defined_slots};
 
 use crate::refill::Refill;
@@ -27,7 +28,6 @@ fn copy_texts(alloc: Global, texts: &[Text]) -> Result<Vec<Text>, OutOfMemory>
 }
 
 /// The fields, or the parameters, with other value types.
-#[tactic(auto, using(crate::proofs::Refilling::none_yet, crate::proofs::Refilling::next_fills, crate::proofs::Refilling::next_made, crate::proofs::Refilling::all_made))]
 pub fn fields_again(
     alloc: Global,
     fields: &[(Text, ComponentValType)],
@@ -45,39 +45,70 @@ pub fn fields_again(
     Ok(again)
 }
 
-/// The cases with other payloads.
-#[tactic(auto, using(crate::proofs::Refilling::none_yet, crate::proofs::Refilling::next_fills, crate::proofs::Refilling::next_made, crate::proofs::Refilling::all_made))]
-fn cases_again(
+/// The cases of a variant with other payloads.
+fn variant_again(
     alloc: Global,
     cases: &[(Text, Option<ComponentValType>)],
     parts: &mut Refill<'_>,
-) -> Result<Vec<(Text, Option<ComponentValType>)>, OutOfMemory>
+) -> Result<ComponentDefinedType, OutOfMemory>
     requires { Fills (slots_by case_value cases.now) parts.old }
-    ensures slots { IfOk result (λ cs. slots_by case_value cs.items ≡ refill (slots_by case_value cases.now) parts.old) }
+    ensures slots { IfOk result (λ s. defined_slots s ≡ refill (slots_by case_value cases.now) parts.old) }
+    ensures former { IfOk result (λ s. former_of s ≡ variant_of) }
 {
     let mut again = Vec::new(alloc);
     for case in cases {
         let ty = parts.option(case.1);
         again.push((copy_text(alloc, &case.0)?, ty))?;
     }
-    Ok(again)
+    Ok(ComponentDefinedType::Variant(again))
 }
 
 /// Other types of a tuple.
-#[tactic(auto, using(crate::proofs::Refilling::none_yet, crate::proofs::Refilling::next_fills, crate::proofs::Refilling::next_made, crate::proofs::Refilling::all_made))]
-fn types_again(
+fn tuple_again(
     alloc: Global,
     types: &[ComponentValType],
     parts: &mut Refill<'_>,
-) -> Result<Vec<ComponentValType>, OutOfMemory>
+) -> Result<ComponentDefinedType, OutOfMemory>
     requires { Fills (slots_by tuple_value types.now) parts.old }
-    ensures slots { IfOk result (λ ts. slots_by tuple_value ts.items ≡ refill (slots_by tuple_value types.now) parts.old) }
+    ensures slots { IfOk result (λ s. defined_slots s ≡ refill (slots_by tuple_value types.now) parts.old) }
+    ensures former { IfOk result (λ s. former_of s ≡ tuple_of) }
 {
     let mut again = Vec::new(alloc);
     for ty in types {
         again.push(parts.value(*ty))?;
     }
-    Ok(again)
+    Ok(ComponentDefinedType::Tuple(again))
+}
+
+/// The defined type of the same form with other parts, where it is not made of a list. It takes no memory.
+fn values_again(shape: &ComponentDefinedType, parts: &mut Refill<'_>) -> ComponentDefinedType
+    requires plain { has_list shape.now ≡ false }
+    requires fills { Fills (defined_slots shape.now) parts.old }
+    ensures slots { defined_slots result ≡ refill (defined_slots shape.now) parts.old }
+    ensures former { former_of result ≡ former_of shape.now }
+{
+    match shape {
+        ComponentDefinedType::Primitive(ty) => ComponentDefinedType::Primitive(*ty),
+        ComponentDefinedType::List(ty) => ComponentDefinedType::List(parts.value(*ty)),
+        ComponentDefinedType::Map(key, value) => {
+            let key = parts.value(*key);
+            ComponentDefinedType::Map(key, parts.value(*value))
+        }
+        ComponentDefinedType::FixedLengthList(ty, len) => {
+            ComponentDefinedType::FixedLengthList(parts.value(*ty), *len)
+        }
+        ComponentDefinedType::Option(ty) => ComponentDefinedType::Option(parts.value(*ty)),
+        ComponentDefinedType::Result { ok, err } => {
+            let ok = parts.option(*ok);
+            let err = parts.option(*err);
+            ComponentDefinedType::Result { ok, err }
+        }
+        ComponentDefinedType::Own(id) => ComponentDefinedType::Own(parts.reference(*id)),
+        ComponentDefinedType::Borrow(id) => ComponentDefinedType::Borrow(parts.reference(*id)),
+        ComponentDefinedType::Future(ty) => ComponentDefinedType::Future(parts.option(*ty)),
+        ComponentDefinedType::Stream(ty) => ComponentDefinedType::Stream(parts.option(*ty)),
+        _ => unreachable!(),
+    }
 }
 
 /// The defined type of the same form with other parts.
@@ -91,43 +122,18 @@ pub fn defined_again(
     ensures former { IfOk result (λ s. former_of s ≡ former_of shape.now) }
 {
     match shape {
-        ComponentDefinedType::Primitive(ty) => Ok(ComponentDefinedType::Primitive(*ty)),
         ComponentDefinedType::Record(fields) => {
             let fields = fields_again(alloc, fields, parts)?;
             Ok(ComponentDefinedType::Record(fields))
         }
-        ComponentDefinedType::Variant(cases) => {
-            let cases = cases_again(alloc, cases, parts)?;
-            Ok(ComponentDefinedType::Variant(cases))
-        }
-        ComponentDefinedType::List(ty) => Ok(ComponentDefinedType::List(parts.value(*ty))),
-        ComponentDefinedType::Map(key, value) => {
-            let key = parts.value(*key);
-            Ok(ComponentDefinedType::Map(key, parts.value(*value)))
-        }
-        ComponentDefinedType::FixedLengthList(ty, len) => {
-            Ok(ComponentDefinedType::FixedLengthList(parts.value(*ty), *len))
-        }
-        ComponentDefinedType::Tuple(types) => {
-            Ok(ComponentDefinedType::Tuple(types_again(alloc, types, parts)?))
-        }
+        ComponentDefinedType::Variant(cases) => variant_again(alloc, cases, parts),
+        ComponentDefinedType::Tuple(types) => tuple_again(alloc, types, parts),
         ComponentDefinedType::Flags(names) => {
             Ok(ComponentDefinedType::Flags(copy_texts(alloc, names)?))
         }
         ComponentDefinedType::Enum(names) => {
             Ok(ComponentDefinedType::Enum(copy_texts(alloc, names)?))
         }
-        ComponentDefinedType::Option(ty) => Ok(ComponentDefinedType::Option(parts.value(*ty))),
-        ComponentDefinedType::Result { ok, err } => {
-            let ok = parts.option(*ok);
-            let err = parts.option(*err);
-            Ok(ComponentDefinedType::Result { ok, err })
-        }
-        ComponentDefinedType::Own(id) => Ok(ComponentDefinedType::Own(parts.reference(*id))),
-        ComponentDefinedType::Borrow(id) => {
-            Ok(ComponentDefinedType::Borrow(parts.reference(*id)))
-        }
-        ComponentDefinedType::Future(ty) => Ok(ComponentDefinedType::Future(parts.option(*ty))),
-        ComponentDefinedType::Stream(ty) => Ok(ComponentDefinedType::Stream(parts.option(*ty))),
+        _ => Ok(values_again(shape, parts)),
     }
 }

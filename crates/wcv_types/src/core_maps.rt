@@ -6,7 +6,7 @@ use std::marker::Model;
 use wcv_core::{EntityType, OutOfMemory, Text};
 
 /// Imports by the names of a module and of an item in it, in order. Contracts see it as the list of its pairs.
-#[derive(Debug, Drop)]
+#[derive(Drop)]
 pub struct ImportMap {
     entries: Vec<((Text, Text), EntityType)>,
 }
@@ -77,7 +77,7 @@ impl ImportMap {
 }
 
 /// Exports by name, in order. Contracts see it as the list of its pairs.
-#[derive(Debug, Drop)]
+#[derive(Drop)]
 pub struct ExportMap {
     entries: Vec<(Text, EntityType)>,
 }

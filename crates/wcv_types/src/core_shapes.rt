@@ -5,7 +5,7 @@ use crate::info::TypeInfo;
 use wcv_core::CoreTypeId;
 
 /// The type of a core module: what it imports and what it exports.
-#[derive(Debug, Drop)]
+#[derive(Drop)]
 pub struct ModuleType {
     pub info: TypeInfo,
     pub imports: ImportMap,
@@ -15,7 +15,7 @@ pub struct ModuleType {
 }
 
 /// What a core instance was made of.
-#[derive(Debug, Drop)]
+#[derive(Drop)]
 pub enum CoreInstanceTypeKind {
     /// A module: the instance exports what the module exports.
     Instantiated(ComponentCoreModuleTypeId),
@@ -23,7 +23,7 @@ pub enum CoreInstanceTypeKind {
 }
 
 /// The type of a core instance.
-#[derive(Debug, Drop)]
+#[derive(Drop)]
 pub struct InstanceType {
     pub info: TypeInfo,
     pub kind: CoreInstanceTypeKind,

@@ -21,7 +21,7 @@ use crate::shapes::ComponentEntityType;
 use wcv_core::Text;
 
 /// What is known of entries, added up: their sizes, their greatest depth, and whether one refers to a resource.
-#[derive(Clone, Copy, Debug)]
+#[derive(Clone, Copy)]
 pub struct Total {
     pub size: u32,
     pub depth: u32,

@@ -102,14 +102,22 @@ fn push_some(part: Option<Part>, parts: &mut Parts) -> Result<(), OutOfMemory>
     }
 }
 
-/// The parts of the entries join the list, in order.
+/// The parts of what is imported or exported join the list, in order.
+#[tactic(auto, using(crate::proofs::EntryLists::entity_pushed))]
+pub fn push_entity(ty: ComponentEntityType, parts: &mut Parts) -> Result<(), OutOfMemory>
+    ensures { OnOk result (parts.new ≡ parts.old ++ slot_refs (entity_slot ty)) }
+{
+    push_some(first_part(ty), parts)?;
+    push_some(second_part(ty), parts)
+}
+
+/// So do the parts of the entries.
 #[tactic(auto, using(crate::proofs::EntryLists::next_entry, crate::proofs::EntryLists::no_entry))]
 pub fn push_entries(entries: &[(Text, ComponentItem)], parts: &mut Parts) -> Result<(), OutOfMemory>
     ensures { OnOk result (parts.new ≡ parts.old ++ entry_parts entries.now) }
 {
     for entry in entries {
-        push_some(first_part(entry.1.ty), parts)?;
-        push_some(second_part(entry.1.ty), parts)?;
+        push_entity(entry.1.ty, parts)?;
     }
     Ok(())
 }

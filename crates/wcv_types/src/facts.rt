@@ -14,7 +14,7 @@ use crate::info::TypeInfo;
 use wcv_core::PrimitiveValType;
 
 /// What the arena keeps of a node, so that no call reads a type through.
-#[derive(Clone, Copy, Debug)]
+#[derive(Clone, Copy)]
 pub struct Facts {
     pub info: TypeInfo,
     pub abi: AbiInfo,

@@ -1,234 +1,179 @@
 // The resources that are free in types.
-ghost use Rattle.std.specs.Prelude.{◌≡◌, All, OnOk, OnErr};
-ghost use Rattle.wcv_core.specs.Names.{Name};
-ghost use Rattle.wcv_types.specs.Entities.{any_part, entity_tree, entry_trees, EntityStands, EntryStands, SlotStands};
-ghost use Rattle.wcv_types.specs.Gathering.{Gains, Continues, FreeAmong, AllGathered};
+ghost use Rattle.std.specs.Prelude.{◌≡◌, ◌<◌, suc, [], All, MatchOption, IfOk, OnOk, OnErr};
+ghost use Rattle.wcv_types.specs.Entities.{any_part, entity_tree, entry_trees, EntityStands, EntryStands};
+ghost use Rattle.wcv_types.specs.Gathering.{Gains, Continues, FreeAmong, FreeInSome, AllGathered};
 ghost use Rattle.wcv_types.specs.Resources.{Free};
-ghost use Rattle.wcv_types.specs.Standing.{Stands};
-ghost use Rattle.wcv_types.specs.Unfold.{option_slot, slot_tree, tree_at, trees};
-ghost use Rattle.wcv_types.specs.declared.ids.Part.TheVariants as part;
+ghost use Rattle.wcv_types.specs.Standing.{Stands, StandsBefore, Unfolds};
+ghost use Rattle.wcv_types.specs.Unfold.{parts_at, rank, tree_at, trees};
 
 use crate::arena::TypeAlloc;
-use crate::ids::{
-    ComponentAnyTypeId, ComponentCoreModuleTypeId, ComponentDefinedTypeId, ComponentFuncTypeId,
-    ComponentInstanceTypeId, ComponentTypeId,
-};
-use crate::item_map::{ComponentItem, ItemMap};
+use crate::entry_parts::{part_of_any, push_entity, push_entries};
+use crate::ids::{ComponentAnyTypeId, Part};
+use crate::item_map::ItemMap;
+use crate::parts::Parts;
+use crate::place_set::PlaceSet;
 use crate::resource_set::ResourceSet;
-use crate::shapes::{ComponentEntityType, ComponentValType, node_of};
-use crate::type_set::TypeSet;
-use crate::unowned::{free_outside, owned_resources};
-use wcv_core::{OutOfMemory, Text};
+use crate::shapes::ComponentEntityType;
+use crate::sorts::NodeSort;
+use crate::unowned::free_outside;
+use wcv_core::OutOfMemory;
 
-/// What is free in the value type joins the set, unless the type was seen. From then on it was.
-fn free_in_value(
+/// The place of a node. A resource reference and a core type are none.
+fn place_of(part: Part) -> Option<u64>
+    ensures { MatchOption result (rank part ≡ 0) (λ k. rank part ≡ suc k) }
+{
+    match part {
+        Part::Defined(id) => Some(id.index),
+        Part::Func(id) => Some(id.index),
+        Part::Instance(id) => Some(id.index),
+        Part::Component(id) => Some(id.index),
+        Part::Module(id) => Some(id.index),
+        Part::CoreInstance(id) => Some(id.index),
+        Part::Resource(_) | Part::Core(_) => None,
+    }
+}
+
+/// The parts of a node of that sort, in order.
+fn node_parts<S: NodeSort>(types: &TypeAlloc, id: S) -> Result<Parts, OutOfMemory>
+    requires { Stands types.now (S.as_part id) }
+    ensures parts { IfOk result (λ parts. parts ≡ parts_at types.now (S.as_part id)) }
+    ensures unfolds { Unfolds types.now (S.as_part id) }
+{
+    let mut parts = Parts::new(types.allocator());
+    S::parts_into(types.get(id), &mut parts)?;
+    Ok(parts)
+}
+
+/// The parts of a node of any sort.
+fn parts_of(types: &TypeAlloc, part: Part) -> Result<Parts, OutOfMemory>
+    requires node { 0 < rank part }
+    requires stands { Stands types.now part }
+    ensures parts { IfOk result (λ parts. parts ≡ parts_at types.now part) }
+    ensures unfolds { Unfolds types.now part }
+{
+    match part {
+        Part::Defined(id) => node_parts(types, id),
+        Part::Func(id) => node_parts(types, id),
+        Part::Instance(id) => node_parts(types, id),
+        Part::Component(id) => node_parts(types, id),
+        Part::Module(id) => node_parts(types, id),
+        Part::CoreInstance(id) => node_parts(types, id),
+        Part::Resource(_) | Part::Core(_) => unreachable!(),
+    }
+}
+
+/// What is free in a type that is no node joins the set.
+fn free_in_leaf(types: &TypeAlloc, part: Part, free: &mut ResourceSet) -> Result<(), OutOfMemory>
+    requires { rank part ≡ 0 }
+    ensures ok { OnOk result (Gains (λ r. Free r (tree_at types.now part)) free.old free.new) }
+    ensures err { OnErr result (Continues free.old free.new) }
+{
+    let _ = types;
+    match part {
+        Part::Resource(id) => free.push(id.resource),
+        _ => Ok(()),
+    }
+}
+
+/// What is free in the type joins the set, unless the type was seen. From then on it was.
+#[cycle(free_below)]
+fn free_in_part(
     types: &TypeAlloc,
-    ty: Option<ComponentValType>,
-    seen: &mut TypeSet,
+    part: Part,
+    seen: &mut PlaceSet,
     free: &mut ResourceSet,
 ) -> Result<(), OutOfMemory>
-    requires stands { SlotStands types.now (option_slot ty) }
+    requires stands { Stands types.now part }
     requires gathered { AllGathered types.now seen.old free.old }
-    ensures ok { OnOk result (Gains (λ r. Free r (slot_tree (trees types.now.nodes) (option_slot ty))) free.old free.new) }
+    ensures ok { OnOk result (Gains (λ r. Free r (tree_at types.now part)) free.old free.new) }
     ensures gathered { OnOk result (AllGathered types.now seen.new free.new) }
     ensures err { OnErr result (Continues free.old free.new) }
 {
-    let id = match node_of(ty) {
-        Some(id) => id,
-        None => return Ok(()),
+    let place = match place_of(part) {
+        Some(place) => place,
+        None => return free_in_leaf(types, part, free),
     };
-    if !types.refers(id.index) {
+    if !types.refers(place) {
         return Ok(());
     }
-    if seen.contains(&ComponentAnyTypeId::Defined(id)) {
+    if seen.contains(place) {
         return Ok(());
     }
-    let shape = types.get(id);
-    if let Some(handle) = shape.handle() {
-        free.push(handle.resource)?;
-        return Ok(());
-    }
-    for k in 0..shape.value_count() {
-        free_in_value(types, shape.value_at(k), seen, free)?;
-    }
-    seen.push(ComponentAnyTypeId::Defined(id))?;
-    Ok(())
+    free_in_node(types, part, seen, free)?;
+    seen.push(place)
 }
 
-/// So of a function type.
-fn free_in_func(
-    types: &TypeAlloc,
-    id: ComponentFuncTypeId,
-    seen: &mut TypeSet,
-    free: &mut ResourceSet,
-) -> Result<(), OutOfMemory>
-    requires stands { Stands types.now (part.Func id) }
-    requires gathered { AllGathered types.now seen.old free.old }
-    ensures ok { OnOk result (Gains (λ r. Free r (tree_at types.now (part.Func id))) free.old free.new) }
-    ensures gathered { OnOk result (AllGathered types.now seen.new free.new) }
-    ensures err { OnErr result (Continues free.old free.new) }
-{
-    if !types.refers(id.index) {
-        return Ok(());
-    }
-    if seen.contains(&ComponentAnyTypeId::Func(id)) {
-        return Ok(());
-    }
-    let shape = types.get(id);
-    for param in &shape.params {
-        free_in_value(types, Some(param.1), seen, free)?;
-    }
-    free_in_value(types, shape.result, seen, free)?;
-    seen.push(ComponentAnyTypeId::Func(id))?;
-    Ok(())
-}
-
-/// Nothing is free in the type of a core module. It does nothing.
-fn closed_module(types: &TypeAlloc, id: ComponentCoreModuleTypeId)
-    requires { Stands types.now (part.Module id) }
-    ensures { (r : Name) → Free r (tree_at types.now (part.Module id)) → ⊥ }
-{
-    let _ = types.get(id);
-}
-
-/// So of an instance type: what is free in its exports, and is not its own.
+/// What is free in a node joins the set: what is free in a part, and is not its own.
 #[cycle(free_below)]
-fn free_in_instance(
+fn free_in_node(
     types: &TypeAlloc,
-    id: ComponentInstanceTypeId,
-    seen: &mut TypeSet,
+    part: Part,
+    seen: &mut PlaceSet,
     free: &mut ResourceSet,
 ) -> Result<(), OutOfMemory>
-    requires stands { Stands types.now (part.Instance id) }
+    requires node { 0 < rank part }
+    requires stands { Stands types.now part }
     requires gathered { AllGathered types.now seen.old free.old }
-    ensures ok { OnOk result (Gains (λ r. Free r (tree_at types.now (part.Instance id))) free.old free.new) }
+    ensures ok { OnOk result (Gains (λ r. Free r (tree_at types.now part)) free.old free.new) }
     ensures gathered { OnOk result (AllGathered types.now seen.new free.new) }
     ensures err { OnErr result (Continues free.old free.new) }
 {
-    if !types.refers(id.index) {
-        return Ok(());
+    let parts = parts_of(types, part)?;
+    match part {
+        Part::Instance(_) | Part::Component(_) => {
+            free_in_scope(types, part, parts.as_slice(), free)
+        }
+        _ => free_in_list(types, parts.as_slice(), seen, free),
     }
-    if seen.contains(&ComponentAnyTypeId::Instance(id)) {
-        return Ok(());
-    }
-    let shape = types.get(id);
-    let mut within = TypeSet::new(types.allocator());
+}
+
+/// So of a node that may own resources, over its parts.
+#[cycle(free_below)]
+fn free_in_scope(
+    types: &TypeAlloc,
+    part: Part,
+    parts: &[Part],
+    free: &mut ResourceSet,
+) -> Result<(), OutOfMemory>
+    requires node { 0 < rank part }
+    requires stands { Stands types.now part }
+    requires unfolds { Unfolds types.now part }
+    requires parts { parts.now ≡ parts_at types.now part }
+    ensures ok { OnOk result (Gains (λ r. Free r (tree_at types.now part)) free.old free.new) }
+    ensures err { OnErr result (Continues free.old free.new) }
+{
+    let inside = free_within(types, parts)?;
+    free_outside(types, part, &inside, free)
+}
+
+/// What is free in one of the types, in a set of its own.
+#[cycle(free_below)]
+fn free_within(types: &TypeAlloc, parts: &[Part]) -> Result<ResourceSet, OutOfMemory>
+    requires { All (Stands types.now) parts.now }
+    ensures { IfOk result (λ inside. Gains (λ r. FreeInSome types.now r parts.now) [] inside) }
+{
+    let mut seen = PlaceSet::new(types.allocator());
     let mut inside = ResourceSet::new(types.allocator());
-    free_in_entries(types, shape.exports.as_slice(), &mut within, &mut inside)?;
-    free_outside(&inside, &shape.defined_resources, free)?;
-    seen.push(ComponentAnyTypeId::Instance(id))?;
-    Ok(())
+    free_in_list(types, parts, &mut seen, &mut inside)?;
+    Ok(inside)
 }
 
-/// So of a component type: what is free in its imports and its exports, and is not its own.
+/// What is free in one of the types joins the set.
 #[cycle(free_below)]
-fn free_in_component(
+fn free_in_list(
     types: &TypeAlloc,
-    id: ComponentTypeId,
-    seen: &mut TypeSet,
+    parts: &[Part],
+    seen: &mut PlaceSet,
     free: &mut ResourceSet,
 ) -> Result<(), OutOfMemory>
-    requires stands { Stands types.now (part.Component id) }
+    requires stand { All (Stands types.now) parts.now }
     requires gathered { AllGathered types.now seen.old free.old }
-    ensures ok { OnOk result (Gains (λ r. Free r (tree_at types.now (part.Component id))) free.old free.new) }
+    ensures ok { OnOk result (Gains (λ r. FreeInSome types.now r parts.now) free.old free.new) }
     ensures gathered { OnOk result (AllGathered types.now seen.new free.new) }
     ensures err { OnErr result (Continues free.old free.new) }
 {
-    if !types.refers(id.index) {
-        return Ok(());
-    }
-    if seen.contains(&ComponentAnyTypeId::Component(id)) {
-        return Ok(());
-    }
-    let shape = types.get(id);
-    let owned = owned_resources(shape, types.allocator())?;
-    let mut within = TypeSet::new(types.allocator());
-    let mut inside = ResourceSet::new(types.allocator());
-    free_in_entries(types, shape.imports.as_slice(), &mut within, &mut inside)?;
-    free_in_entries(types, shape.exports.as_slice(), &mut within, &mut inside)?;
-    free_outside(&inside, &owned, free)?;
-    seen.push(ComponentAnyTypeId::Component(id))?;
-    Ok(())
-}
-
-/// So of a type.
-#[cycle(free_below)]
-fn free_in_type(
-    types: &TypeAlloc,
-    id: ComponentAnyTypeId,
-    seen: &mut TypeSet,
-    free: &mut ResourceSet,
-) -> Result<(), OutOfMemory>
-    requires stands { Stands types.now (any_part id) }
-    requires gathered { AllGathered types.now seen.old free.old }
-    ensures ok { OnOk result (Gains (λ r. Free r (tree_at types.now (any_part id))) free.old free.new) }
-    ensures gathered { OnOk result (AllGathered types.now seen.new free.new) }
-    ensures err { OnErr result (Continues free.old free.new) }
-{
-    match id {
-        ComponentAnyTypeId::Resource(id) => {
-            free.push(id.resource)?;
-            Ok(())
-        }
-        ComponentAnyTypeId::Defined(id) => {
-            free_in_value(types, Some(ComponentValType::Ty(id)), seen, free)
-        }
-        ComponentAnyTypeId::Func(id) => free_in_func(types, id, seen, free),
-        ComponentAnyTypeId::Instance(id) => free_in_instance(types, id, seen, free),
-        ComponentAnyTypeId::Component(id) => free_in_component(types, id, seen, free),
-    }
-}
-
-/// So of the type of what is imported or exported.
-#[cycle(free_below)]
-fn free_in_entity(
-    types: &TypeAlloc,
-    ty: ComponentEntityType,
-    seen: &mut TypeSet,
-    free: &mut ResourceSet,
-) -> Result<(), OutOfMemory>
-    requires stands { EntityStands types.now ty }
-    requires gathered { AllGathered types.now seen.old free.old }
-    ensures ok { OnOk result (Gains (λ r. Free r (entity_tree (trees types.now.nodes) ty)) free.old free.new) }
-    ensures gathered { OnOk result (AllGathered types.now seen.new free.new) }
-    ensures err { OnErr result (Continues free.old free.new) }
-{
-    match ty {
-        ComponentEntityType::Module(id) => {
-            closed_module(types, id);
-            Ok(())
-        }
-        ComponentEntityType::Func(id) => free_in_func(types, id, seen, free),
-        ComponentEntityType::Value(ty) => free_in_value(types, Some(ty), seen, free),
-        ComponentEntityType::Ty {
-            created,
-            referenced,
-        } => {
-            free_in_type(types, created, seen, free)?;
-            free_in_type(types, referenced, seen, free)?;
-            Ok(())
-        }
-        ComponentEntityType::Instance(id) => free_in_instance(types, id, seen, free),
-        ComponentEntityType::Component(id) => free_in_component(types, id, seen, free),
-    }
-}
-
-/// So of all imports or exports.
-#[cycle(free_below)]
-fn free_in_entries(
-    types: &TypeAlloc,
-    entries: &[(Text, ComponentItem)],
-    seen: &mut TypeSet,
-    free: &mut ResourceSet,
-) -> Result<(), OutOfMemory>
-    requires stand { All (EntryStands types.now) entries.now }
-    requires gathered { AllGathered types.now seen.old free.old }
-    ensures ok { OnOk result (Gains (FreeAmong (entry_trees (trees types.now.nodes) entries.now)) free.old free.new) }
-    ensures gathered { OnOk result (AllGathered types.now seen.new free.new) }
-    ensures err { OnErr result (Continues free.old free.new) }
-{
-    for entry in entries {
-        free_in_entity(types, entry.1.ty, seen, free)?;
+    for part in parts {
+        free_in_part(types, *part, seen, free)?;
     }
     Ok(())
 }
@@ -244,8 +189,8 @@ impl TypeAlloc {
         ensures ok { OnOk result (Gains (λ r. Free r (tree_at self.now (any_part id))) free.old free.new) }
         ensures err { OnErr result (Continues free.old free.new) }
     {
-        let mut seen = TypeSet::new(self.allocator());
-        free_in_type(self, id, &mut seen, free)
+        let mut seen = PlaceSet::new(self.allocator());
+        free_in_part(self, part_of_any(id), &mut seen, free)
     }
 
     /// So do those that are free in the type of what is imported or exported.
@@ -258,8 +203,10 @@ impl TypeAlloc {
         ensures ok { OnOk result (Gains (λ r. Free r (entity_tree (trees self.now.nodes) ty.now)) free.old free.new) }
         ensures err { OnErr result (Continues free.old free.new) }
     {
-        let mut seen = TypeSet::new(self.allocator());
-        free_in_entity(self, *ty, &mut seen, free)
+        let mut parts = Parts::new(self.allocator());
+        push_entity(*ty, &mut parts)?;
+        let mut seen = PlaceSet::new(self.allocator());
+        free_in_list(self, parts.as_slice(), &mut seen, free)
     }
 
     /// So do those of all items. It looks once at what a type is made of, however many items have the type.
@@ -272,7 +219,9 @@ impl TypeAlloc {
         ensures ok { OnOk result (Gains (FreeAmong (entry_trees (trees self.now.nodes) items.now)) free.old free.new) }
         ensures err { OnErr result (Continues free.old free.new) }
     {
-        let mut seen = TypeSet::new(self.allocator());
-        free_in_entries(self, items.as_slice(), &mut seen, free)
+        let mut parts = Parts::new(self.allocator());
+        push_entries(items.as_slice(), &mut parts)?;
+        let mut seen = PlaceSet::new(self.allocator());
+        free_in_list(self, parts.as_slice(), &mut seen, free)
     }
 }

@@ -1,12 +1,10 @@
 // What is known of a function type, from the arena.
 ghost use Rattle.std.specs.Prelude.{◌≡◌, [], ◌∷◌, All};
 ghost use Rattle.wcv_types.specs.Facts.{IsFactsOf};
-ghost use Rattle.wcv_types.specs.Named.{are_named};
-ghost use Rattle.wcv_types.specs.Resources.{mentions_in};
 ghost use Rattle.wcv_types.specs.Standing.{Stands, Fits};
 ghost use Rattle.wcv_types.specs.Sums.{IsSumOf};
 ghost use Rattle.wcv_types.specs.Tree.{here};
-ghost use Rattle.wcv_types.specs.Unfold.{field_slots, option_slot, parts_in, slot_parts, slots_of, tree_of, trees};
+ghost use Rattle.wcv_types.specs.Unfold.{field_slots, option_slot, parts_in, slot_parts, tree_of, trees};
 ghost use Rattle.wcv_types.specs.declared.arena.Node.TheVariants as n;
 
 use crate::arena::TypeAlloc;
@@ -16,34 +14,6 @@ use crate::info::TypeInfo;
 use crate::shapes::{ComponentFuncType, ComponentValType};
 use crate::sum::Sum;
 use wcv_core::Text;
-
-/// Whether nothing in the parameters and the result has to be named.
-#[tactic(auto, using(crate::proofs::Knowing::param_stands, crate::proofs::Knowing::result_stands, crate::proofs::Knowing::named_next, crate::proofs::Knowing::named_last))]
-fn are_plain(types: &TypeAlloc, shape: &ComponentFuncType) -> bool
-    requires { Fits types.now (n.Func shape.now) }
-    ensures { result ≡ are_named [] (slot_parts (trees types.now.nodes) (slots_of (n.Func shape.now))) }
-{
-    for param in &shape.params {
-        if !value_facts(types, Some(param.1)).plain {
-            return false;
-        }
-    }
-    value_facts(types, shape.result).plain
-}
-
-/// Whether a reference to a resource stands in a parameter or in the result.
-#[tactic(auto, using(crate::proofs::Knowing::param_stands, crate::proofs::Knowing::result_stands, crate::proofs::Knowing::refers_next, crate::proofs::Knowing::refers_last))]
-fn refer(types: &TypeAlloc, shape: &ComponentFuncType) -> bool
-    requires { Fits types.now (n.Func shape.now) }
-    ensures { result ≡ mentions_in (slot_parts (trees types.now.nodes) (slots_of (n.Func shape.now))) }
-{
-    for param in &shape.params {
-        if value_facts(types, Some(param.1)).refers {
-            return true;
-        }
-    }
-    value_facts(types, shape.result).refers
-}
 
 /// What is known of the parameters and the result, added up.
 fn func_sum(
@@ -94,10 +64,11 @@ pub fn func_facts(types: &TypeAlloc, shape: &ComponentFuncType) -> Facts
     requires { Fits types.now (n.Func shape.now) }
     ensures { IsFactsOf result (tree_of (trees types.now.nodes) (n.Func shape.now)) }
 {
+    let sum = func_sum(types, &shape.params, shape.result);
     Facts {
         info: shape.info,
         abi: nothing_abi(),
-        plain: are_plain(types, shape),
-        refers: refer(types, shape),
+        plain: sum.plain,
+        refers: sum.refers,
     }
 }

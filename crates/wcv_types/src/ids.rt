@@ -79,7 +79,7 @@ pub enum ComponentCoreTypeId {
 }
 
 /// The id of a type of any sort that may be a part of another.
-#[derive(Clone, Copy, Debug, PartialEq, Eq, Hash, PartialOrd, Ord)]
+#[derive(Clone, Copy, Debug, PartialEq, Eq)]
 pub enum Part {
     Defined(ComponentDefinedTypeId),
     Func(ComponentFuncTypeId),

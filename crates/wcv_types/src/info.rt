@@ -3,13 +3,8 @@ ghost use Rattle.std.specs.Prelude.{◌≡◌, OnOk, OnErr, IfErr};
 ghost use Rattle.wcv_core.specs.Refusal.{error_kind, error_offset};
 ghost use Rattle.wcv_types.specs.Info.{combined, IsWithinLimits, PassesLimit};
 
+use wcv_core::limits::{MAX_DEPTH, MAX_SIZE};
 use wcv_core::{Error, ErrorKind};
-
-/// The greatest size of a type.
-const MAX_SIZE: u64 = 1_000_000;
-
-/// The greatest depth of a type.
-const MAX_DEPTH: u64 = 512;
 
 /// The size and the depth of a type. A number above 4,294,967,295 stands as 4,294,967,295.
 #[derive(Clone, Copy, Debug, PartialEq, Eq)]

@@ -8,7 +8,7 @@ use std::marker::Model;
 use wcv_core::{OutOfMemory, Text};
 
 /// What is imported or exported under a name, with what the name says beside it.
-#[derive(Debug, Drop)]
+#[derive(Drop)]
 pub struct ComponentItem {
     pub ty: ComponentEntityType,
     pub implements: Option<Text>,
@@ -17,7 +17,7 @@ pub struct ComponentItem {
 }
 
 /// Items by name, in order. A name may stand more than once. Contracts see it as the list of its pairs.
-#[derive(Debug, Drop)]
+#[derive(Drop)]
 pub struct ItemMap {
     entries: Vec<(Text, ComponentItem)>,
 }

@@ -32,6 +32,7 @@ mod named_contents;
 mod named_types;
 mod nodes;
 mod parts;
+mod place_set;
 mod reference_sort;
 mod refill;
 mod renew;

@@ -65,7 +65,7 @@ impl Nodes {
         let position = self.known.len();
         self.known.push(Known { node, facts })?;
         if self.positions.push(position).is_err() {
-            let _ = self.known.pop();
+            self.known.truncate(position);
             return Err(OutOfMemory);
         }
         Ok(())

@@ -9,7 +9,7 @@ use std::marker::Model;
 use wcv_core::{OutOfMemory, Text};
 
 /// Parts of a type, in order. Contracts see it as the list of them.
-#[derive(Debug, Drop)]
+#[derive(Drop)]
 pub struct Parts {
     parts: Vec<Part>,
 }

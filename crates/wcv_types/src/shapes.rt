@@ -37,7 +37,7 @@ pub(crate) fn node_of(ty: Option<ComponentValType>) -> Option<ComponentDefinedTy
 }
 
 /// A defined value type.
-#[derive(Debug, Drop)]
+#[derive(Drop)]
 pub enum ComponentDefinedType {
     /// A primitive under a name.
     Primitive(PrimitiveValType),
@@ -64,7 +64,7 @@ pub enum ComponentDefinedType {
 }
 
 /// A function type: parameters by name, and maybe a result.
-#[derive(Debug, Drop)]
+#[derive(Drop)]
 pub struct ComponentFuncType {
     pub async_: bool,
     pub info: TypeInfo,

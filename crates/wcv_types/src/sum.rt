@@ -24,7 +24,7 @@ pub fn align_up(size: u64, align: u64) -> u64
 
 /// How parts lie in memory, with pointers of one size: where they end one behind another, their greatest
 /// alignment and their greatest size.
-#[derive(Clone, Copy, Debug)]
+#[derive(Clone, Copy)]
 pub struct Extent {
     pub end: u64,
     pub align: u64,
@@ -57,7 +57,7 @@ impl Extent {
 /// What is known of the parts of a type, added up: their sizes, their greatest depth, whether none has to be
 /// named, whether one refers to a resource, what stands in them, and how they lie in memory with pointers of 4
 /// and of 8 bytes.
-#[derive(Clone, Copy, Debug)]
+#[derive(Clone, Copy)]
 pub struct Sum {
     pub size: u32,
     pub depth: u32,

@@ -5,7 +5,6 @@ use Rattle.wcv_types.specs.EntrySums.{IsTotalOfParts}
 use Rattle.wcv_types.specs.Standing.{Stands}
 use Rattle.wcv_types.specs.Tree.{import, export}
 use Rattle.wcv_types.specs.Unfold.{Type_tree, entry_slots, parts_in, slot_parts, trees}
-use Rattle.wcv_types.specs.declared.ids.Part.{Part}
 use Rattle.wcv_types.proofs.EntryLists.{Entry}
 use Rattle.wcv_types.proofs.Knowing.{parts_in-append}
 use Rattle.wcv_types.proofs.Totals.{entries_stand}

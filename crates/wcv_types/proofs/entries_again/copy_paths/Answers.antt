@@ -1,5 +1,4 @@
-use Rattle.std.proofs.Common.{◌≡◌, ◌∙◌, ◌<◌, List, length, take, subst, sym, Some, None}
-use Rattle.std.specs.Prelude.{slice_get}
+use Rattle.std.proofs.Common.{◌≡◌, ◌∙◌, ◌<◌, subst, sym, None}
 use Rattle.std.specs.Map.{lookup}
 use Rattle.wcv_types.specs.Sets.{same_resource}
 use Rattle.wcv_types.proofs.Copying.{eqb-sym, fresh_entry, path_next, none_past}

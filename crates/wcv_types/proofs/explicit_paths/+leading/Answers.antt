@@ -1,4 +1,4 @@
-use Rattle.std.proofs.Common.{rules, arith, ◌≡◌, suc, get_or, sym, ◌∙◌, ap, subst, true, false}
+use Rattle.std.proofs.Common.{rules, arith, ◌≡◌, suc, get_or, sym, ◌∙◌, ap, subst}
 use Rattle.wcv_core.specs.Names.{number}
 use Rattle.wcv_types.specs.Entities.{entity_slot, entity_tree, EntityStands}
 use Rattle.wcv_types.specs.ExplicitPaths.{GoesOn}

@@ -1,4 +1,4 @@
-use Rattle.std.proofs.Common.{◌∷◌, [], List, length, subst, sym}
+use Rattle.std.proofs.Common.{[], List, length, subst, sym}
 use Rattle.std.specs.Prelude.{All}
 use Rattle.wcv_types.specs.Entities.{EntryStands}
 use Rattle.wcv_types.specs.EntrySums.{IsTotalOfParts}

@@ -1,4 +1,4 @@
-use Rattle.std.proofs.Common.{◌∙◌, List, length, sym}
+use Rattle.std.proofs.Common.{List, length, sym}
 use Rattle.wcv_types.specs.Unfold.{Type_tree, module_slots, slot_parts, trees}
 use Rattle.wcv_types.specs.declared.arena.Node.TheVariants as n
 use Rattle.wcv_types.proofs.ModulesRebuilt.{module_items, no_mentions}

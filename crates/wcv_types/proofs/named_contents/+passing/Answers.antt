@@ -1,4 +1,4 @@
-use Rattle.std.proofs.Common.{rules, arith, ◌≡◌, suc, ◌<◌, true, length, sym, ◌∙◌, ap, subst}
+use Rattle.std.proofs.Common.{rules, arith, ◌≡◌, suc, true, sym, ◌∙◌, ap, subst}
 use Rattle.wcv_types.specs.Entities.{any_part, entity_tree, EntityStands}
 use Rattle.wcv_types.specs.Named.{passes}
 use Rattle.wcv_types.specs.Sets.{identities}

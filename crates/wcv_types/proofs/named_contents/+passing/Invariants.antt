@@ -1,4 +1,4 @@
-use Rattle.std.proofs.Common.{ℕ, ◌+◌, ◌*◌}
+use Rattle.std.proofs.Common.{◌+◌, ◌*◌}
 use Rattle.wcv_types.specs.Entities.{any_part, entity_slot}
 use Rattle.wcv_types.specs.Unfold.{rank}
 use Rattle.wcv_types.proofs.FreeBelow.{slot_rank, entries_rank}

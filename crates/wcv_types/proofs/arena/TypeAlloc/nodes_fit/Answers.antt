@@ -1,7 +1,5 @@
-use Rattle.std.proofs.Common.{ℕ, subst, Some, ◌≡◌}
-use Rattle.std.specs.Prelude.{slice_get}
-use Rattle.wcv_types.specs.Arena.{Arena}
-use Rattle.wcv_types.specs.Standing.{AllFit, Fits}
+use Rattle.std.proofs.Common.{subst}
+use Rattle.wcv_types.specs.Standing.{AllFit}
 use Rattle.wcv_types.proofs.AddedAgain.{fits_again}
 use Rattle.wcv_types.proofs.arena.TypeAlloc.nodes_fit.Goals as goal
 

@@ -1,4 +1,4 @@
-use Rattle.std.proofs.Common.{◌≡◌, ◌∙◌, ◌<◌, List, length, ap, subst, sym}
+use Rattle.std.proofs.Common.{◌∙◌, ◌<◌, List, length, ap, subst, sym}
 use Rattle.std.specs.Prelude.{slice_get}
 use Rattle.wcv_types.specs.Entities.{entry_parts}
 use Rattle.wcv_types.specs.declared.ids.Part.{Part}
