@@ -1,4 +1,5 @@
 -- Core types and core modules under a renaming; where there is no cause, they do something.
+use Rattle.wcv_core.specs.Limits.{max_instances}
 use Rattle.std.proofs.Common.{◌≡◌, ℕ, List, [], ◌∷◌, ◌++◌, map, length, refl, sym, ◌∙◌, ap, true, Some, None}
 use Rattle.std.specs.Prelude.{Option}
 use Rattle.std.specs.Option.{option_map}
@@ -11,7 +12,7 @@ use Rattle.wcv_syntax.specs.Model.{Text, Module_decl, Core_type_form, core_rec, 
 use Rattle.wcv_syntax.specs.ModuleTypes.{Module_type, Made, empty_module, written_group, all_declared, module_checks, module_left}
 use Rattle.wcv_types.specs.Rename.{rename, rename_parts, rename_head}
 use Rattle.wcv_types.specs.Tree.{Head, nothing, primitive, resource, defined, func, instance, component, type_entity, core_module, core_instance, core_type, core_item, node, none, part, core_import, core_export, core_imports, core_exports, Parts, sub_type}
-use Rattle.wcv_lower.specs.Checks.{IsFree, Counts, counts, no_type_room, no_core_type_room, full, max_instances}
+use Rattle.wcv_lower.specs.Checks.{IsFree, Counts, counts, no_type_room, no_core_type_room, full}
 use Rattle.wcv_lower.specs.Context.{Type_tree, Context, Scope, Core_space, core_types, core_modules}
 use Rattle.wcv_lower.specs.CoreItems.{head_entry, core_entry, core_entries, outer_entries, types_join, group_step, module_tree, module_joins, core_type_step, core_type_checks, core_module_step, core_module_checks, core_module_left}
 use Rattle.wcv_lower.specs.Names.{Names, introduced, Under, AreRenamed}

@@ -1,4 +1,5 @@
 -- Defined value types under a renaming.
+use Rattle.wcv_core.specs.Limits.{max_abi_size, max_depth, max_size}
 use Rattle.std.proofs.Common.{◌≡◌, ℕ, [], ◌∷◌, ◌++◌, refl, ◌∙◌, ap, Bool, Some, None}
 use Rattle.std.specs.Prelude.{Option, not}
 use Rattle.std.specs.Option.{option_map, option_and_then}
@@ -17,7 +18,7 @@ use Rattle.wcv_types.specs.Tree as tree
 use Rattle.wcv_types.specs.Tree.{Former, nothing, primitive, resource, defined, func, instance, component, type_entity, core_module, core_instance, core_type, core_item, here, is_resource, sort, node, none, part, Parts}
 use Rattle.wcv_types.proofs.AbiRenamed.{abi_size-rename, contains-rename}
 use Rattle.wcv_types.proofs.Measure.{size-rename, depth-rename}
-use Rattle.wcv_lower.specs.Checks.{Checks, IsFree, if_found, missing_of, too_many, max_size, max_depth, max_abi_size}
+use Rattle.wcv_lower.specs.Checks.{Checks, IsFree, if_found, missing_of, too_many}
 use Rattle.wcv_lower.specs.Context.{Type_tree, Context}
 use Rattle.wcv_lower.specs.Defined.{former, written_parts, handle_index, made_of, made_checks, defined_tree, own_checks, primitive_of, is_key, is_char, has_borrow, bad_key, bad_map_value, bad_element, simple_content, content_checks, size_checks, defined_checks}
 use Rattle.wcv_lower.specs.Renamed.{rename_context}

@@ -1,4 +1,5 @@
 -- Core types and core modules.
+use Rattle.wcv_core.specs.Limits.{max_instances}
 use Rattle.std.specs.Prelude.{ℕ, List, [], ◌∷◌, ◌++◌, map, length, true, Option, Some}
 use Rattle.std.specs.Option.{option_map}
 use Rattle.wcv_core.specs.CoreFeatures.{group_left}
@@ -9,7 +10,7 @@ use Rattle.wcv_core.specs.Names.{Name, Place}
 use Rattle.wcv_syntax.specs.Model.{Module_decl, Core_type_form, core_rec, core_module_type}
 use Rattle.wcv_syntax.specs.ModuleTypes.{Module_type, Made, empty_module, written_group, all_declared, module_checks, module_left}
 use Rattle.wcv_types.specs.Tree.{Head, core_type, head, module_type, sub_type}
-use Rattle.wcv_lower.specs.Checks.{Checks, counts, full, max_instances, no_type_room, no_core_type_room}
+use Rattle.wcv_lower.specs.Checks.{Checks, counts, full, no_type_room, no_core_type_room}
 use Rattle.wcv_lower.specs.Context.{Type_tree, Context, Scope, Core_space, core_types, core_modules}
 use Rattle.wcv_lower.specs.Names.{Names, introduced}
 use Rattle.wcv_lower.specs.Step.{Step, core_appends, interns}

@@ -1,4 +1,5 @@
 -- Defined value types as they are written.
+use Rattle.wcv_core.specs.Limits.{max_abi_size, max_depth, max_elements, max_list, max_size}
 use Rattle.std.specs.Prelude.{ℕ, List, [], ◌∷◌, ◌++◌, map, length, Bool, true, false, not, ◌||◌, ◌==◌, nat_lt, Option, Some, None}
 use Rattle.std.specs.Option.{option_map}
 use Rattle.wcv_core.specs.Names.{Name, base}
@@ -13,7 +14,7 @@ use Rattle.wcv_types.specs.Abi.{handle, borrow, contains, abi_size}
 use Rattle.wcv_types.specs.Measure.{size, depth}
 use Rattle.wcv_types.specs.Tree as tree
 use Rattle.wcv_types.specs.Tree.{Text, Former, here, label, defined, primitive, node, none, part, Parts, is_resource, sort}
-use Rattle.wcv_lower.specs.Checks.{Checks, if_found, missing_of, too_many, each_too_long, label_checks, max_size, max_depth, max_list, max_elements, max_abi_size, max_flags}
+use Rattle.wcv_lower.specs.Checks.{Checks, if_found, missing_of, too_many, each_too_long, label_checks, max_flags}
 use Rattle.wcv_lower.specs.Context.{Type_tree, Context}
 use Rattle.wcv_lower.specs.Values.{lacks, primitive_checks, cm_async, cm_map, cm_fixed_length_lists, type_at, resource_at, value_tree, option_tree, Written_parts, parts_trees, parts_checks}
 

@@ -1,4 +1,5 @@
 -- Why an entry may not join a list of imports or of exports.
+use Rattle.wcv_core.specs.Limits.{max_depth, max_size}
 use Rattle.std.specs.Prelude.{suc, max, ◌+◌, List, [], ◌∷◌, ◌++◌, map, Bool, true, false, not, Option, Some, None}
 use Rattle.wcv_core.specs.Checks.{Checks, too_many}
 use Rattle.wcv_core.specs.Label.{is_among}
@@ -7,7 +8,6 @@ use Rattle.wcv_core.specs.declared.features.WasmFeatures.{WasmFeatures}
 use Rattle.wcv_syntax.specs.ExternName.{Form, Access, call, get, set}
 use Rattle.wcv_syntax.specs.FormOf.{form_of}
 use Rattle.wcv_syntax.specs.declared.name.ComponentExternName.{ComponentExternName}
-use Rattle.wcv_types.specs.Info.{max_size, max_depth}
 use Rattle.wcv_types.specs.Measure.{size, depth}
 use Rattle.wcv_types.specs.Tree.{Text, Extern_name, instance, node}
 use Rattle.wcv_types.specs.Unfold.{Type_tree}
