@@ -76,14 +76,13 @@ decl_next outers gs hs is m n p ds d rest s made free known grows =
       counted = decl_counted outers hs is n p d s.known free made s.counted;
     }
 
-pub decl_none : (outers : List (List Core_entry)) (gs : List Group) (fs : WasmFeatures) (m : Module_type) (ds : List Module_decl) → m ≡ empty_module fs → All (All (IsKnown (total gs))) outers → IsSoFar outers gs gs (empty_module fs) m ds ds
-decl_none outers gs fs m ds e around =
-    subst (λ (n : Module_type). IsSoFar outers gs gs (empty_module fs) n ds ds) (sym e)
-    (record {
-      made = refl;
-      free = λ f. f;
-      caused = λ offset x c. c;
-      known = λ k d l. Prim.absurd (omega arith);
-      around = around;
-      counted = record { within = λ k d l. Prim.absurd (omega arith); size = refl };
-    })
+pub decl_none : (outers : List (List Core_entry)) (gs : List Group) (m : Module_type) (ds : List Module_decl) → All (IsKnown (total gs)) (module_entries m) → All (All (IsKnown (total gs))) outers → IsCounted gs m → IsSoFar outers gs gs m m ds ds
+decl_none outers gs m ds known around counted = record { made = refl; free = λ f. f; caused = λ offset x c. c; known = known; around = around; counted = counted }
+
+-- ## No declaration
+
+pub empty_known : (gs : List Group) (fs : WasmFeatures) (m : Module_type) → m ≡ empty_module fs → All (IsKnown (total gs)) (module_entries m)
+empty_known gs fs m e = subst (λ (n : Module_type). All (IsKnown (total gs)) (module_entries n)) (sym e) (λ k d l. Prim.absurd (omega arith))
+
+pub empty_counted : (gs : List Group) (fs : WasmFeatures) (m : Module_type) → m ≡ empty_module fs → IsCounted gs m
+empty_counted gs fs m e = subst (IsCounted gs) (sym e) (record { within = λ k d l. Prim.absurd (omega arith); size = refl })

@@ -1,4 +1,5 @@
 -- The type that a module is fits the arena.
+use Rattle.wcv_core.specs.Limits.{max_size}
 use Rattle.std.proofs.Common.{◌≡◌, ℕ, zero, suc, ◌+◌, ◌<◌, ◌≤◌, List, [], ◌∷◌, ◌++◌, length, map, min, max, refl, sym, ◌∙◌, ap, arith, subst, All}
 use Rattle.std.proofs.lemmas.List.Elements.{All-nil}
 use Rattle.std.proofs.lemmas.Grind.{common_steps}
@@ -6,7 +7,7 @@ use Rattle.wcv_core.specs.CoreForm.{Group}
 use Rattle.wcv_core.specs.CoreGroups.{total}
 use Rattle.wcv_core.specs.CoreSizes.{IsEntityWithin}
 use Rattle.wcv_core.specs.declared.core_types.EntityType.{EntityType}
-use Rattle.wcv_syntax.specs.ModuleTypes.{Core_import, Core_export, max_module_size}
+use Rattle.wcv_syntax.specs.ModuleTypes.{Core_import, Core_export}
 use Rattle.wcv_types.specs.Arena.{Arena}
 use Rattle.wcv_types.specs.Measure.{depths}
 use Rattle.wcv_types.specs.Standing.{Stands, GaveResource, Fits, core_items, entity_sizes}
@@ -63,10 +64,10 @@ imports_bare (i ∷ is) es = imports_bare is es
 
 -- ## Fitting
 
-uncapped : (k : ℕ) → k ≤ max_module_size → k ≡ capped k
+uncapped : (k : ℕ) → k ≤ max_size → k ≡ capped k
 uncapped k h = omega arith
 
-module_fits : (a : Arena) (s : ModuleType) → s.info.size ≤ max_module_size → s.info.size ≡ suc (entity_sizes a.core (core_items (n.Module s))) → s.info.depth ≡ module_depth s.imports s.exports
+module_fits : (a : Arena) (s : ModuleType) → s.info.size ≤ max_size → s.info.size ≡ suc (entity_sizes a.core (core_items (n.Module s))) → s.info.depth ≡ module_depth s.imports s.exports
     → All (IsEntityWithin (total a.core)) (core_items (n.Module s)) → Fits a (n.Module s)
 module_fits a s small size depth within = record {
   parts = subst (All (Stands a)) (sym (imports_bare s.imports s.exports)) (All-nil (Stands a));
@@ -83,7 +84,7 @@ module_fits a s small size depth within = record {
 }
 
 -- its entries are those of the module
-pub type_fits : (a : Arena) (s : ModuleType) (k : ℕ) (is : List Core_import) (es : List Core_export) → s.info.size ≡ k → s.info.depth ≡ module_depth is es → s.imports ≡ is → s.exports ≡ es → k ≤ max_module_size
+pub type_fits : (a : Arena) (s : ModuleType) (k : ℕ) (is : List Core_import) (es : List Core_export) → s.info.size ≡ k → s.info.depth ≡ module_depth is es → s.imports ≡ is → s.exports ≡ es → k ≤ max_size
     → k ≡ suc (entity_sizes a.core (map (λ i. i.1) is ++ map (λ e. e.1) es)) → All (IsEntityWithin (total a.core)) (map (λ i. i.1) is ++ map (λ e. e.1) es) → Fits a (n.Module s)
 type_fits a s k is es ek ed ei ee small size within =
     let items : map (λ i. i.1) s.imports ++ map (λ e. e.1) s.exports ≡ map (λ i. i.1) is ++ map (λ e. e.1) es = λ j. map (λ i. i.1) (ei j) ++ map (λ e. e.1) (ee j) in

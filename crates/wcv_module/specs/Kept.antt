@@ -1,4 +1,5 @@
 -- What a module keeps beside its type.
+use Rattle.wcv_core.specs.Limits.{max_size}
 use Rattle.std.specs.Prelude.{◌≡◌, ◌⊎◌, ℕ, suc, ◌+◌, ◌<◌, ◌≤◌, ◌^◌, ◌++◌, List, [], ◌∷◌, length, map, All}
 use Rattle.wcv_core.specs.CoreForm.{Group}
 use Rattle.wcv_core.specs.CoreGroups.{total}
@@ -12,13 +13,13 @@ use Rattle.wcv_core.specs.declared.error.Error.{Error}
 use Rattle.wcv_core.specs.declared.error.ErrorKind.TheVariants as kind
 use Rattle.wcv_syntax.specs.Model.{Text}
 use Rattle.wcv_types.specs.Standing.{entity_sizes}
-use Rattle.wcv_syntax.specs.ModuleTypes.{Core_import, Core_export, Module_type, export_names, max_module_size}
+use Rattle.wcv_syntax.specs.ModuleTypes.{Core_import, Core_export, Module_type, export_names}
 
 -- the names of exports are those of the set, the types can be counted, and the size is within its limit
 pub record IsKept (types : List CoreTypeId) (exports : List Core_export) (names : List Text) (size : ℕ) : Type 0 where
   pub few : length types < 2 ^ 32
   pub named : (t : Text) → is_among t names ≡ is_among t (export_names exports)
-  pub small : size ≤ max_module_size
+  pub small : size ≤ max_size
 
 -- the ids in a type are of a table of n types
 abbrev pub IsEntityKnown : ℕ → EntityType → Type 0

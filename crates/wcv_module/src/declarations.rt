@@ -6,7 +6,7 @@ ghost use Rattle.wcv_core.specs.CoreSizes.{IsEntityWithin};
 ghost use Rattle.wcv_core.specs.CoreWritten.{IsKnown};
 ghost use Rattle.wcv_syntax.specs.ModuleTypes.{module_entries, empty_module, decl_checks, declared, all_declared, module_checks};
 ghost use Rattle.wcv_syntax.specs.View.{module_decl_view};
-ghost use Rattle.wcv_module.specs.Kept.{IsUndone, module_items};
+ghost use Rattle.wcv_module.specs.Kept.{IsUndone, IsCounted, module_items};
 ghost use Rattle.wcv_types.specs.CoreCalls.{with_core};
 ghost use Rattle.wcv_types.specs.Standing.{Extends, KeepsTrees, entity_sizes};
 
@@ -111,6 +111,31 @@ impl Module {
         }
     }
 
+    /// Adds declarations behind the others. All of them stand at one offset.
+    fn add_declarations<D: ModuleDeclaration, O: OuterTypes>(
+        &mut self,
+        decls: Vec<D>,
+        outers: &O,
+        types: &mut TypeAlloc,
+        offset: u64,
+    ) -> Result<(), Error>
+        requires known { All (IsKnown (total types.old.core)) (module_entries self.old) }
+        requires around { All (All (IsKnown (total types.old.core))) (O.spaces outers.now) }
+        requires counted { IsCounted types.old.core self.old }
+        ensures ok { OnOk result (all_declared (O.spaces outers.now) types.old.core self.old (map D.form decls.items) ≡ Some (types.new.core, self.new)) }
+        ensures free { OnOk result (IsFree (module_checks (O.spaces outers.now) types.old.core self.old (map D.form decls.items))) }
+        ensures known { OnOk result (All (IsKnown (total types.new.core)) (module_entries self.new)) }
+        ensures counted { OnOk result (IsCounted types.new.core self.new) }
+        ensures cause { IfErr result (MemoryOrCausedBy (module_checks (O.spaces outers.now) types.old.core self.old (map D.form decls.items)) offset) }
+        ensures rest { types.new ≡ with_core types.old types.new.core }
+        ensures grown { Extends types.old types.new }
+    {
+        for decl in decls {
+            self.add_declaration(decl.into_type_declaration(), outers, types, offset)?;
+        }
+        self.check_whole(offset)
+    }
+
     /// The module that declarations make, where they have no cause of a refusal. All of them stand at one offset.
     /// Of the arena the table of core types alone grows, whatever is answered.
     pub fn declare<D: ModuleDeclaration, O: OuterTypes>(
@@ -133,10 +158,9 @@ impl Module {
         ensures stay { KeepsTrees types.old types.new }
     {
         let mut made = Module::new(alloc, features);
-        for decl in decls {
-            made.add_declaration(decl.into_type_declaration(), outers, types, offset)?;
+        match made.add_declarations(decls, outers, types, offset) {
+            Ok(()) => Ok(made),
+            Err(err) => Err(err),
         }
-        made.check_whole(offset)?;
-        Ok(made)
     }
 }

@@ -1,31 +1,27 @@
 // Limits on lists and texts, which the calls of a module leave to their caller.
+ghost use Rattle.wcv_core.specs.Limits.{max_list, max_text};
 ghost use Rattle.std.specs.Prelude.{length, map, ◌++◌, OnOk, IfErr};
 ghost use Rattle.wcv_core.specs.Checks.{IsFree, CausedBy, all_checks, too_many};
-ghost use Rattle.wcv_core.specs.CoreFeatures.{max_core_list, group_left};
-ghost use Rattle.wcv_syntax.specs.ModuleTypes.{max_name, decl_left, module_left, written_group};
+ghost use Rattle.wcv_core.specs.CoreFeatures.{group_left};
+ghost use Rattle.wcv_syntax.specs.ModuleTypes.{decl_left, module_left, written_group};
 ghost use Rattle.wcv_syntax.specs.View.{rec_view};
 
 use crate::declarations::ModuleDeclaration;
+use wcv_core::limits::{MAX_LIST, MAX_TEXT};
 use wcv_core::{Error, ErrorKind, RecGroup, Text, check_group_limits};
 use wcv_syntax::Import;
 
-/// The most declarations of a module.
-const MAX_DECLARATIONS: usize = 100_000;
-
-/// The most bytes of a name.
-const MAX_NAME: usize = 100_000;
-
 /// Whether a name keeps its limit. What it is the name of is for the message.
 pub fn check_name(name: &Text, of: &str, offset: u64) -> Result<(), Error>
-    ensures ok { OnOk result (IsFree (too_many max_name (length name.now))) }
-    ensures err { IfErr result (CausedBy (too_many max_name (length name.now)) offset) }
+    ensures ok { OnOk result (IsFree (too_many max_text (length name.now))) }
+    ensures err { IfErr result (CausedBy (too_many max_text (length name.now)) offset) }
 {
     let len = name.as_str().len();
-    if len > MAX_NAME {
+    if len > MAX_TEXT {
         return Err(Error::new(
             ErrorKind::Limit,
             offset,
-            format_args!("the name of {of} has {len} bytes, at most {MAX_NAME} are allowed"),
+            format_args!("the name of {of} has {len} bytes, at most {MAX_TEXT} are allowed"),
         ));
     }
     Ok(())
@@ -34,8 +30,8 @@ pub fn check_name(name: &Text, of: &str, offset: u64) -> Result<(), Error>
 /// Whether the names of an import keep their limits.
 #[tactic(auto, using(wcv_core::proofs::Closing::caused_left, wcv_core::proofs::Closing::caused_right, wcv_core::proofs::Causes::free_both))]
 pub fn check_import_names(import: &Import, offset: u64) -> Result<(), Error>
-    ensures ok { OnOk result (IsFree (too_many max_name (length import.now.module) ++ too_many max_name (length import.now.name))) }
-    ensures err { IfErr result (CausedBy (too_many max_name (length import.now.module) ++ too_many max_name (length import.now.name)) offset) }
+    ensures ok { OnOk result (IsFree (too_many max_text (length import.now.module) ++ too_many max_text (length import.now.name))) }
+    ensures err { IfErr result (CausedBy (too_many max_text (length import.now.module) ++ too_many max_text (length import.now.name)) offset) }
 {
     check_name(&import.module, "a module", offset)?;
     check_name(&import.name, "an import", offset)
@@ -50,16 +46,14 @@ pub fn check_group(group: &RecGroup, offset: u64) -> Result<(), Error>
 }
 
 fn check_count(count: usize, offset: u64) -> Result<(), Error>
-    ensures ok { OnOk result (IsFree (too_many max_core_list count)) }
-    ensures err { IfErr result (CausedBy (too_many max_core_list count) offset) }
+    ensures ok { OnOk result (IsFree (too_many max_list count)) }
+    ensures err { IfErr result (CausedBy (too_many max_list count) offset) }
 {
-    if count > MAX_DECLARATIONS {
+    if count > MAX_LIST {
         return Err(Error::new(
             ErrorKind::Limit,
             offset,
-            format_args!(
-                "a module has {count} declarations, at most {MAX_DECLARATIONS} are allowed"
-            ),
+            format_args!("a module has {count} declarations, at most {MAX_LIST} are allowed"),
         ));
     }
     Ok(())

@@ -1,5 +1,6 @@
 // The type of a core module, as its declarations make it.
-ghost use Rattle.std.specs.Prelude.{◌≡◌, ◌⊎◌, ℕ, suc, ◌+◌, ◌<◌, ◌≤◌, ◌^◌, ◌++◌, ◌∷◌, List, [], length, map, slice_get, Some, All, IfOk, OnOk, OnErr, IfErr};
+ghost use Rattle.wcv_core.specs.Limits.{max_entries, max_size};
+ghost use Rattle.std.specs.Prelude.{◌≡◌, ◌⊎◌, ℕ, suc, ◌+◌, ◌<◌, ◌≤◌, ◌^◌, ◌++◌, ◌∷◌, List, [], length, map, slice_get, Some, string_bytes, All, IfOk, OnOk, OnErr, IfErr};
 ghost use Rattle.std.specs.Option.{option_map};
 ghost use Rattle.wcv_core.specs.Checks.{IsFree, CausedBy, MemoryOrCausedBy, too_many};
 ghost use Rattle.wcv_core.specs.CoreForm.{group_form};
@@ -11,7 +12,7 @@ ghost use Rattle.wcv_core.specs.CoreWritten.{IsKnown, closed_group};
 ghost use Rattle.wcv_core.specs.Refusal.{error_kind, error_offset};
 ghost use Rattle.wcv_module.specs.Kept.{IsEntityKnown, module_items};
 ghost use Rattle.wcv_syntax.specs.CoreItems.{ref_checks, entity_of, entity_size, form_size};
-ghost use Rattle.wcv_syntax.specs.ModuleTypes.{Module_type, empty_module, module_entries, with_type, with_import, with_export, max_module_entries, max_module_size, types_checks, size_checks, import_checks, export_checks, import_joins, group_joins, with_group_of, whole_checks};
+ghost use Rattle.wcv_syntax.specs.ModuleTypes.{Module_type, empty_module, module_entries, with_type, with_import, with_export, types_checks, size_checks, import_checks, export_checks, import_joins, group_joins, with_group_of, whole_checks};
 ghost use Rattle.wcv_types.specs.CoreCalls.{with_core};
 ghost use Rattle.wcv_types.specs.Standing.{Extends, KeepsTrees, Fits, entity_sizes};
 ghost use Rattle.wcv_types.specs.declared.arena.Node.TheVariants as node;
@@ -21,18 +22,13 @@ use crate::types::{type_id_at, written};
 use crate::typing::depth_of;
 use std::alloc::Global;
 use std::marker::Model;
+use wcv_core::limits::{MAX_ENTRIES, MAX_SIZE};
 use wcv_core::{
     CompositeInnerType, CoreTypeId, CoreTypes, EntityType, Error, ErrorKind, Excerpt,
     InternRecGroup, LabelSet, OutOfMemory, RecGroup, Text, WasmFeatures,
 };
 use wcv_syntax::{Import, TypeRef};
 use wcv_types::{ExportMap, ImportMap, ModuleType, TypeAlloc, TypeInfo};
-
-/// How many types a module may have, and so of imports and of exports.
-const MAX_ENTRIES: usize = 1_000_000;
-
-/// The greatest size of the type of a module.
-const MAX_SIZE: u64 = 1_000_000;
 
 /// The types of a core module or of a module type, its imports and its exports. Declarations join it in order,
 /// each by a call that checks it first. Contracts see it as the type so far, over a table of core types.
@@ -91,8 +87,8 @@ impl InternRecGroup for Module {
 
 /// Whether so many more keep a limit. What they are is for the message.
 fn check_room(len: usize, more: usize, what: &str, offset: u64) -> Result<(), Error>
-    ensures ok { OnOk result (IsFree (too_many max_module_entries (len + more))) }
-    ensures err { IfErr result (CausedBy (too_many max_module_entries (len + more)) offset) }
+    ensures ok { OnOk result (IsFree (too_many max_entries (len + more))) }
+    ensures err { IfErr result (CausedBy (too_many max_entries (len + more)) offset) }
 {
     if len > MAX_ENTRIES || more > MAX_ENTRIES - len {
         return Err(Error::new(
@@ -138,6 +134,16 @@ fn repeated(name: &str, offset: u64) -> Error
         offset,
         format_args!("the module exports `{name}` twice"),
     )
+}
+
+/// The name of an export, for the list and for the set.
+fn export_texts(alloc: Global, name: &str) -> Result<(Text, String), OutOfMemory>
+    ensures text { IfOk result (λ texts. texts.0 ≡ name.now) }
+    ensures key { IfOk result (λ texts. string_bytes texts.1 ≡ name.now) }
+{
+    let text = Text::new(alloc, name)?;
+    let key = String::from_str(alloc, name)?;
+    Ok((text, key))
 }
 
 impl Module {
@@ -278,14 +284,23 @@ impl Module {
         Ok(())
     }
 
-    /// The size of the type with one more import or export.
-    fn size_with(&self, core: &CoreTypes, ty: EntityType, offset: u64) -> Result<u64, Error>
+    /// The size of the type with one more import or export, where there are so many. What these are is for the
+    /// message.
+    fn size_with(
+        &self,
+        len: usize,
+        what: &str,
+        core: &CoreTypes,
+        ty: EntityType,
+        offset: u64,
+    ) -> Result<u64, Error>
         requires known { IsEntityKnown (total core.now) ty }
         ensures ok { IfOk result (λ size. size ≡ self.now.size + entity_size core.now ty) }
-        ensures small { IfOk result (λ size. size ≤ max_module_size) }
-        ensures free { OnOk result (IsFree (size_checks core.now self.now ty)) }
-        ensures err { IfErr result (CausedBy (size_checks core.now self.now ty) offset) }
+        ensures small { IfOk result (λ size. size ≤ max_size) }
+        ensures free { OnOk result (IsFree (too_many max_entries (len + 1) ++ size_checks core.now self.now ty)) }
+        ensures err { IfErr result (CausedBy (too_many max_entries (len + 1) ++ size_checks core.now self.now ty) offset) }
     {
+        check_room(len, 1, what, offset)?;
         let size = size_of(core, ty);
         if size > MAX_SIZE - self.size {
             return Err(Error::new(
@@ -297,6 +312,25 @@ impl Module {
         Ok(self.size + size)
     }
 
+    /// What an import of that type comes to, and the size with it.
+    fn check_import(
+        &self,
+        ty: &TypeRef,
+        core: &CoreTypes,
+        offset: u64,
+    ) -> Result<(EntityType, u64), Error>
+        requires known { All (IsKnown (total core.now)) (module_entries self.now) }
+        ensures ok { IfOk result (λ p. entity_of self.now.types ty.now ≡ Some p.0) }
+        ensures size { IfOk result (λ p. p.1 ≡ self.now.size + entity_size core.now p.0) }
+        ensures small { IfOk result (λ p. p.1 ≤ max_size) }
+        ensures free { OnOk result (IsFree (import_joins core.now self.now ty.now)) }
+        ensures err { IfErr result (CausedBy (import_joins core.now self.now ty.now) offset) }
+    {
+        let entity = self.check_type_ref(ty, core, offset)?;
+        let size = self.size_with(self.imports.len(), "imports", core, entity, offset)?;
+        Ok((entity, size))
+    }
+
     /// Adds an import. Whether another one has its names is looked at by `imports_for_module_type`.
     pub fn add_import(&mut self, import: Import, core: &CoreTypes, offset: u64) -> Result<(), Error>
         requires known { All (IsKnown (total core.now)) (module_entries self.old) }
@@ -305,12 +339,14 @@ impl Module {
         ensures cause { IfErr result (MemoryOrCausedBy (import_joins core.now self.old import.ty) offset) }
         ensures err { OnErr result (self.new ≡ self.old) }
     {
-        let ty = self.check_type_ref(&import.ty, core, offset)?;
-        check_room(self.imports.len(), 1, "imports", offset)?;
-        let size = self.size_with(core, ty, offset)?;
-        self.imports.push(((import.module, import.name), ty))?;
-        self.size = size;
-        Ok(())
+        match self.check_import(&import.ty, core, offset) {
+            Ok((ty, size)) => {
+                self.imports.push(((import.module, import.name), ty))?;
+                self.size = size;
+                Ok(())
+            }
+            Err(err) => Err(err),
+        }
     }
 
     /// Adds an export of a type that `check_type_ref` gave.
@@ -328,12 +364,10 @@ impl Module {
         ensures err { OnErr result (self.new ≡ self.old) }
     {
         let len = self.exports.len();
-        check_room(len, 1, "exports", offset)?;
-        let size = self.size_with(core, ty, offset)?;
-        let text = Text::new(self.alloc, name)?;
-        let key = String::from_str(self.alloc, name)?;
-        self.exports.push((text, ty))?;
-        match self.export_names.insert_text(key) {
+        let size = self.size_with(len, "exports", core, ty, offset)?;
+        let texts = export_texts(self.alloc, name)?;
+        self.exports.push((texts.0, ty))?;
+        match self.export_names.insert_text(texts.1) {
             Ok(true) => {
                 self.size = size;
                 Ok(())

@@ -38,25 +38,6 @@ pub fn type_id_at(types: &[CoreTypeId], index: u32, offset: u64) -> Result<CoreT
     }
 }
 
-/// The type at an index, which stands in the table.
-fn known_type_at(
-    types: &[CoreTypeId],
-    core: &CoreTypes,
-    index: u32,
-    offset: u64,
-) -> Result<CoreTypeId, Error>
-    requires { All (IsKnown (total core.now)) (type_entries types.now) }
-    ensures ok { IfOk result (λ t. slice_get types.now index ≡ Some t) }
-    ensures known { IfOk result (λ t. t.index < total core.now) }
-    ensures err { IfErr result (CausedBy (missing (slice_get types.now index)) offset) }
-{
-    let _ = core;
-    match type_id_at(types, index, offset) {
-        Ok(id) => Ok(id),
-        Err(err) => Err(err),
-    }
-}
-
 fn is_func(form: &CompositeInnerType) -> bool
     ensures { result ≡ items.is_func_form (composite_form form.now) }
 {
@@ -86,7 +67,7 @@ fn func_type_at(
     ensures free { OnOk result (IsFree (func_checks core.now (slice_get types.now index))) }
     ensures err { IfErr result (CausedBy (func_checks core.now (slice_get types.now index)) offset) }
 {
-    let id = known_type_at(types, core, index, offset)?;
+    let id = type_id_at(types, index, offset)?;
     if !is_func(&core.get(id).inner) {
         return Err(Error::new(
             ErrorKind::WrongSort,
