@@ -1,4 +1,5 @@
 -- Names of entries by ids, and by trees; what the names of a list are once an entry joined.
+use Rattle.wcv_core.specs.Limits.{max_entries}
 use Rattle.std.proofs.Common.{◌≡◌, ◌≤◌, ℕ, List, [], ◌∷◌, ◌++◌, map, length, Bool, true, false, ◌&&◌, ◌||◌, cond, eqb, Option, Some, None, refl, sym, ap, ◌∙◌, subst, arith, append_assoc, append-nil, inl, ⊎_elim}
 use Rattle.std.specs.Prelude.{All, bytes_eq}
 use Rattle.std.specs.Map.{lookup}
@@ -32,10 +33,10 @@ use Rattle.wcv_names.specs.KeySet.{HasKeys}
 use Rattle.wcv_names.specs.ResourceNames.{Named_ids, same_reference, reference_of, references_of, name_of, names_of}
 use Rattle.wcv_names.proofs.ByNames.{name_checks-same}
 use Rattle.wcv_names.proofs.Entering.{keys_of_joined}
-use Rattle.wcv_lower.specs.Checks.{Checks, IsFree, is_among, max_entries, full_if, no_room}
+use Rattle.wcv_lower.specs.Checks.{Checks, IsFree, is_among, full_if, no_room}
 use Rattle.wcv_lower.proofs.Causes.{cause_left, cause_right, cause_either, free_both, free_left, free_right}
 use Rattle.wcv_state.specs.declared.entries.Entries.{Entries}
-use Rattle.wcv_state.specs.Entering.{entry_checks, room_counts}
+use Rattle.wcv_state.specs.Entering.{Admitted, entry_checks, room_counts}
 use Rattle.wcv_state.specs.Promises.{MemoryOrCausedBy}
 use Rattle.wcv_state.proofs.Calls.{caused_more}
 use Rattle.wcv_state.proofs.Keys.{keys_joined}
@@ -129,11 +130,11 @@ names_joined es e =
     seconds [] = refl
     seconds (q ∷ qs) = ap (λ (l : List Text). e.0 ∷ l) (seconds qs)
 
-pub joined_references : (rs rs' : List (AliasableResourceId × Text)) (es es' : Listed) (n : ComponentExternName) (x : ComponentEntityType) → rs ≡ named_ids es → rs' ≡ rs ++ map (λ q. (q, n.name)) (created_reference x) → es' ≡ es ++ entry_of n x ∷ [] →
+joined_references : (rs rs' : List (AliasableResourceId × Text)) (es es' : Listed) (n : ComponentExternName) (x : ComponentEntityType) → rs ≡ named_ids es → rs' ≡ rs ++ map (λ q. (q, n.name)) (created_reference x) → es' ≡ es ++ entry_of n x ∷ [] →
     rs' ≡ named_ids es'
 joined_references rs rs' es es' n x e f g = f ∙ ap (λ l. l ++ map (λ q. (q, n.name)) (created_reference x)) e ∙ sym (named_joined es (entry_of n x)) ∙ sym (ap named_ids g)
 
-pub joined_names : (set set' : List Text) (es es' : Listed) (n : ComponentExternName) (x : ComponentEntityType) → AreKeys set (map (λ p. p.1) (named_ids es)) →
+joined_names : (set set' : List Text) (es es' : Listed) (n : ComponentExternName) (x : ComponentEntityType) → AreKeys set (map (λ p. p.1) (named_ids es)) →
     ((ks : List Text) → AreKeys set ks → AreKeys set' (ks ++ map (λ q. n.name) (created_reference x))) → es' ≡ es ++ entry_of n x ∷ [] → AreKeys set' (map (λ p. p.1) (named_ids es'))
 joined_names set set' es es' n x h f g =
     subst (AreKeys set') (sym (names_joined es (entry_of n x)) ∙ sym (ap (λ (l : Listed). map (λ p. p.1) (named_ids l)) g)) (f (map (λ p. p.1) (named_ids es)) h)
@@ -210,6 +211,13 @@ module _ (a : Arena) (limited : Bool) (fs : WasmFeatures) (s : SpaceLists) (side
   memory_caused offset e h = inl h
 
 -- the names of a list with one more entry
-pub agree_joined : (side side' : Entries) (n : ComponentExternName) (x : ComponentEntityType) → HasKeys side'.names (names_in side.items ++ n.name ∷ []) → side'.items ≡ side.items ++ entry_of n x ∷ [] →
-    side'.resources.references ≡ named_ids side'.items → AreKeys side'.resources.names (map (λ p. p.1) (named_ids side'.items)) → NamesAgree side'
-agree_joined side side' n x k e r m = record { keys = keys_of_joined side'.names side.items side'.items (entry_of n x) e k; references = r; names = m }
+pub admitted_agree : (side mid side' : Entries) (i i' : TypeInfo) (n : ComponentExternName) (x : ComponentEntityType) (t : Type_tree) → NamesAgree side → Admitted side mid i i' n x t → mid.items ≡ side.items → side'.items ≡ mid.items ++ entry_of n x ∷ [] → side'.names ≡ mid.names →
+    side'.resources ≡ mid.resources → NamesAgree side'
+admitted_agree side mid side' i i' n x t h a m w ks rs =
+    let e : side'.items ≡ side.items ++ entry_of n x ∷ [] = w ∙ ap (λ (es : Listed). es ++ entry_of n x ∷ []) m in
+    record {
+      keys = keys_of_joined side'.names side.items side'.items (entry_of n x) e (subst (λ (s : List Text). HasKeys s (names_in side.items ++ n.name ∷ [])) (sym ks) a.keys);
+      references = joined_references side.resources.references side'.resources.references side.items side'.items n x h.references (ap (λ (c : Named_ids). c.references) rs ∙ a.references) e;
+      names = joined_names side.resources.names side'.resources.names side.items side'.items n x h.names
+          (subst (λ (s : List Text). (ks : List Text) → AreKeys side.resources.names ks → AreKeys s (ks ++ map (λ q. n.name) (created_reference x))) (sym (ap (λ (c : Named_ids). c.names) rs)) a.names) e;
+    }

@@ -1,14 +1,17 @@
 -- The causes at the end of a component, and what is found for its type.
-use Rattle.std.specs.Prelude.{ℕ, List, [], ◌∷◌, ◌++◌, map, Bool, cond, Option, Some}
+use Rattle.std.specs.Prelude.{◌≡◌, ℕ, List, [], ◌∷◌, ◌++◌, map, Bool, true, cond, Option, Some}
 use Rattle.std.specs.Map.{lookup}
 use Rattle.std.specs.Option.{option_map}
+use Rattle.wcv_core.specs.Names.{number}
 use Rattle.wcv_core.specs.declared.core_types.ValType.{ValType}
 use Rattle.wcv_core.specs.declared.error.ErrorKind.TheVariants as kind
+use Rattle.wcv_types.specs.FirstPath.{first_path}
 use Rattle.wcv_types.specs.Sets.{same_resource}
+use Rattle.wcv_types.specs.Sets as sets
 use Rattle.wcv_types.specs.declared.ids.ResourceId.{ResourceId}
 use Rattle.wcv_lower.specs.Checks.{Checks, is_none}
 use Rattle.wcv_lower.specs.Context.{Entries, Context, Scope, importing, exporting}
-use Rattle.wcv_lower.specs.Ending.{any_free, kept}
+use Rattle.wcv_lower.specs.Ending.{is_free_among, any_free, kept}
 use Rattle.wcv_state.specs.Contents.{defined_resource}
 
 -- a defined resource is free in an import, or one that is free in an export has no path there
@@ -34,3 +37,11 @@ path_of r ps = lookup (same_resource r) ps
 -- a resource that is free joins the paths with its own, and needs one
 abbrev pub with_kept : Bool → ResourceId → Option (List ℕ) → List (ResourceId × List ℕ) → Option (List (ResourceId × List ℕ))
 with_kept free r path ps = cond free (option_map (λ p. ps ++ (r, p) ∷ []) path) (Some ps)
+
+-- the set has those resources that are free in the entries
+abbrev pub HasFree : Entries → List ResourceId → Type 0
+HasFree es rs = (r : ResourceId) → sets.has_resource rs r ≡ is_free_among (number r.index) es
+
+-- each of them stands with its first path, where it has one
+abbrev pub HasFirst : Entries → List ResourceId → List (ResourceId × List ℕ) → Type 0
+HasFirst es rs ps = (r : ResourceId) → sets.has_resource rs r ≡ true → path_of r ps ≡ first_path (number r.index) es

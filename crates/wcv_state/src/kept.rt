@@ -1,17 +1,14 @@
 // The defined resources that the type of a component keeps.
-ghost use Rattle.std.specs.Prelude.{◌≡◌, [], ◌∷◌, map, All, Some, true, false, OnOk, OnErr, IfOk, IfErr};
-ghost use Rattle.wcv_core.specs.Names.{number};
+ghost use Rattle.std.specs.Prelude.{◌≡◌, [], ◌∷◌, map, All, Some, true, false, is_some, OnOk, IfOk, IfErr};
 ghost use Rattle.wcv_core.specs.declared.error.ErrorKind.TheVariants as kind;
 ghost use Rattle.wcv_types.specs.ComponentTrees.{resource_path, ResourceStands};
 ghost use Rattle.wcv_types.specs.Entities.{entry_trees, EntryStands};
-ghost use Rattle.wcv_types.specs.FirstPath.{first_path};
 ghost use Rattle.wcv_types.specs.Sets as sets;
 ghost use Rattle.wcv_types.specs.Unfold.{trees};
-ghost use Rattle.wcv_types.specs.declared.ids.ResourceId.{ResourceId as AResource};
 ghost use Rattle.wcv_lower.specs.Checks.{is_none};
-ghost use Rattle.wcv_lower.specs.Ending.{is_free_among, any_free, kept};
+ghost use Rattle.wcv_lower.specs.Ending.{any_free, kept};
 ghost use Rattle.wcv_state.specs.Contents.{defined_resource};
-ghost use Rattle.wcv_state.specs.Ending.{import_checks, kept_checks, path_of, with_kept};
+ghost use Rattle.wcv_state.specs.Ending.{import_checks, kept_checks, path_of, with_kept, HasFree, HasFirst};
 ghost use Rattle.wcv_state.specs.Looking.{has_resource};
 ghost use Rattle.wcv_state.specs.Promises.{MemoryOrCausedBy};
 
@@ -23,7 +20,7 @@ use wcv_types::{ItemMap, Paths, ResourceId, ResourceSet, TypeAlloc};
 /// The resources that are free in some of the items.
 fn free_among(types: &TypeAlloc, items: &ItemMap) -> Result<ResourceSet, OutOfMemory>
     requires { All (EntryStands types.now) items.now }
-    ensures { IfOk result (λ rs. (r : AResource) → sets.has_resource rs r ≡ is_free_among (number r.index) (entry_trees (trees types.now.nodes) items.now)) }
+    ensures { IfOk result (HasFree (entry_trees (trees types.now.nodes) items.now)) }
 {
     let mut free = ResourceSet::new(types.allocator());
     types.free_variables_items(items, &mut free)?;
@@ -32,19 +29,20 @@ fn free_among(types: &TypeAlloc, items: &ItemMap) -> Result<ResourceSet, OutOfMe
 
 // ## Imports
 
-/// The first item in which the resource is free: its position and its name. It is for the message alone.
+/// The first item in which the resource is free: its position and its name. What is free in it and in those
+/// before joins the set. It is for the message alone.
 fn first_with<'a>(
     types: &TypeAlloc,
     items: &'a ItemMap,
     resource: ResourceId,
+    free: &mut ResourceSet,
 ) -> Result<Option<(usize, &'a Text)>, OutOfMemory>
     requires { All (EntryStands types.now) items.now }
 {
-    let mut free = ResourceSet::new(types.allocator());
     for k in 0..items.len() {
         match items.get_index(k) {
             Some((name, item)) => {
-                types.free_variables_component_entity(&item.ty, &mut free)?;
+                types.free_variables_component_entity(&item.ty, free)?;
                 if free.contains(&resource) {
                     return Ok(Some((k, name)));
                 }
@@ -66,7 +64,10 @@ fn free_in_import(
     requires { All (EntryStands types.now) imports.now }
     ensures { MemoryOrCausedBy ((kind.ResourceScope, true) ∷ []) offset result }
 {
-    match first_with(types, imports, resource) {
+    let mut free = ResourceSet::new(types.allocator());
+    let found = first_with(types, imports, resource, &mut free);
+    drop(free);
+    match found {
         Ok(Some((k, name))) => {
             let entry = Excerpt(name.as_str());
             Error::new(
@@ -88,6 +89,31 @@ fn free_in_import(
     }
 }
 
+/// The first of the resources that is in the set, and where it stands.
+fn first_free(
+    types: &TypeAlloc,
+    imports: &ItemMap,
+    defined: &Representations,
+    free: &ResourceSet,
+) -> Option<(usize, ResourceId)>
+    requires { HasFree (entry_trees (trees types.now.nodes) imports.now) free.now }
+    ensures { is_some result ≡ any_free (map defined_resource defined.now) (entry_trees (trees types.now.nodes) imports.now) }
+{
+    let _ = types;
+    let _ = imports;
+    for k in 0..defined.len() {
+        match defined.get_index(k) {
+            Some((resource, _)) => {
+                if free.contains(resource) {
+                    return Some((k, *resource));
+                }
+            }
+            None => unreachable!(),
+        }
+    }
+    None
+}
+
 /// Whether no resource that is defined here is free in an import.
 pub fn check_imports(
     types: &TypeAlloc,
@@ -103,33 +129,13 @@ pub fn check_imports(
         return Ok(());
     }
     let free = free_among(types, imports)?;
-    for k in 0..defined.len() {
-        match defined.get_index(k) {
-            Some((resource, _)) => {
-                if free.contains(resource) {
-                    return Err(free_in_import(types, imports, *resource, k, offset));
-                }
-            }
-            None => unreachable!(),
-        }
+    match first_free(types, imports, defined, &free) {
+        Some((k, resource)) => Err(free_in_import(types, imports, resource, k, offset)),
+        None => Ok(()),
     }
-    Ok(())
 }
 
 // ## Exports
-
-#[tactic(auto, using(crate::proofs::ExplicitPaths::path_found))]
-/// Of those resources that an entry leads to, each with the first path there.
-fn first_paths(
-    types: &TypeAlloc,
-    items: &ItemMap,
-    resources: &ResourceSet,
-) -> Result<Paths, OutOfMemory>
-    requires { All (EntryStands types.now) items.now }
-    ensures { IfOk result (λ ps. (r : AResource) → sets.has_resource resources.now r ≡ true → path_of r ps ≡ first_path (number r.index) (entry_trees (trees types.now.nodes) items.now)) }
-{
-    types.explicit_resource_paths(items, resources)
-}
 
 /// A resource that is free joins the paths, with its first one. Refuses one that has none; where it stands
 /// among those that are defined is for the message.
@@ -165,6 +171,59 @@ fn keep(
     }
 }
 
+/// Those of the defined resources that are free join the paths, in order, each with its first one.
+fn keep_all(
+    types: &TypeAlloc,
+    exports: &ItemMap,
+    defined: &Representations,
+    free: &ResourceSet,
+    first: &Paths,
+    paths: &mut Paths,
+    offset: u64,
+) -> Result<(), Error>
+    requires defined { All (λ d. ResourceStands types.now d.0) defined.now }
+    requires free { HasFree (entry_trees (trees types.now.nodes) exports.now) free.now }
+    requires first { HasFirst (entry_trees (trees types.now.nodes) exports.now) free.now first.now }
+    requires empty { paths.old ≡ [] }
+    ensures ok { OnOk result (kept (map defined_resource defined.now) (entry_trees (trees types.now.nodes) exports.now) ≡ Some (map resource_path paths.new)) }
+    ensures stands { OnOk result (All (λ p. ResourceStands types.now p.0) paths.new) }
+    ensures err { IfErr result (MemoryOrCausedBy (kept_checks defined.now (entry_trees (trees types.now.nodes) exports.now)) offset) }
+{
+    let _ = exports;
+    let alloc = types.allocator();
+    for k in 0..defined.len() {
+        match defined.get_index(k) {
+            Some((resource, _)) => { keep(paths, *resource, free, first, k, alloc, offset)? }
+            None => unreachable!(),
+        }
+    }
+    Ok(())
+}
+
+/// They join the paths, which has none yet.
+#[tactic(auto, using(crate::proofs::ExplicitPaths::path_found))]
+fn fill(
+    types: &TypeAlloc,
+    exports: &ItemMap,
+    defined: &Representations,
+    paths: &mut Paths,
+    offset: u64,
+) -> Result<(), Error>
+    requires exports { All (EntryStands types.now) exports.now }
+    requires defined { All (λ d. ResourceStands types.now d.0) defined.now }
+    requires empty { paths.old ≡ [] }
+    ensures ok { OnOk result (kept (map defined_resource defined.now) (entry_trees (trees types.now.nodes) exports.now) ≡ Some (map resource_path paths.new)) }
+    ensures stands { OnOk result (All (λ p. ResourceStands types.now p.0) paths.new) }
+    ensures err { IfErr result (MemoryOrCausedBy (kept_checks defined.now (entry_trees (trees types.now.nodes) exports.now)) offset) }
+{
+    if defined.len() == 0 {
+        return Ok(());
+    }
+    let free = free_among(types, exports)?;
+    let first = types.explicit_resource_paths(exports, &free)?;
+    keep_all(types, exports, defined, &free, &first, paths, offset)
+}
+
 /// The defined resources that are free in an export, in order, each with its first path there. Refuses one that
 /// has none.
 pub fn kept_paths(
@@ -179,18 +238,9 @@ pub fn kept_paths(
     ensures stands { IfOk result (λ ps. All (λ p. ResourceStands types.now p.0) ps) }
     ensures err { IfErr result (MemoryOrCausedBy (kept_checks defined.now (entry_trees (trees types.now.nodes) exports.now)) offset) }
 {
-    let alloc = types.allocator();
-    let mut paths = Paths::new(alloc);
-    if defined.len() == 0 {
-        return Ok(paths);
+    let mut paths = Paths::new(types.allocator());
+    match fill(types, exports, defined, &mut paths, offset) {
+        Ok(()) => Ok(paths),
+        Err(error) => Err(error),
     }
-    let free = free_among(types, exports)?;
-    let first = first_paths(types, exports, &free)?;
-    for k in 0..defined.len() {
-        match defined.get_index(k) {
-            Some((resource, _)) => { keep(&mut paths, *resource, &free, &first, k, alloc, offset)? }
-            None => unreachable!(),
-        }
-    }
-    Ok(paths)
 }

@@ -97,6 +97,27 @@ fn first_unnamed<'a>(
     None
 }
 
+/// The refusal of an entry of that name over what is told before and behind a name of its own.
+fn unnamed_part(
+    word: &str,
+    name: &str,
+    before: &str,
+    part: &str,
+    behind: &str,
+    offset: u64,
+) -> Error
+    ensures kind { error_kind result ≡ ErrorKind.Unnamed }
+    ensures offset { error_offset result ≡ offset }
+{
+    let entry = Excerpt(name);
+    let part = Excerpt(part);
+    Error::new(
+        ErrorKind::Unnamed,
+        offset,
+        format_args!("{word} `{entry}`: {before}{part}{behind} {NOT_NAMED}"),
+    )
+}
+
 /// The refusal of an entry over a type that is not in the set.
 fn unnamed(
     word: &str,
@@ -112,31 +133,22 @@ fn unnamed(
     ensures kind { error_kind result ≡ ErrorKind.Unnamed }
     ensures offset { error_offset result ≡ offset }
 {
-    let entry = Excerpt(name);
-    let param = match ty {
-        ComponentEntityType::Func(id) => first_unnamed(types, *id, set),
-        _ => {
-            return Error::new(
-                ErrorKind::Unnamed,
-                offset,
-                format_args!("{word} `{entry}`: what the type is made of {NOT_NAMED}"),
-            );
-        }
+    let id = match ty {
+        ComponentEntityType::Func(id) => *id,
+        _ => return unnamed_part(word, name, "what the type is made of", "", "", offset),
     };
-    match param {
+    match first_unnamed(types, id, set) {
         Some(param) => {
-            let param = Excerpt(param.as_str());
-            Error::new(
-                ErrorKind::Unnamed,
+            unnamed_part(
+                word,
+                name,
+                "the type of parameter `",
+                param.as_str(),
+                "`",
                 offset,
-                format_args!("{word} `{entry}`: the type of parameter `{param}` {NOT_NAMED}"),
             )
         }
-        None => Error::new(
-            ErrorKind::Unnamed,
-            offset,
-            format_args!("{word} `{entry}`: the type of the result {NOT_NAMED}"),
-        ),
+        None => unnamed_part(word, name, "the type of the result", "", "", offset),
     }
 }
 

@@ -1,25 +1,12 @@
-use Rattle.std.proofs.Common.{◌≤◌, ◌∙◌, sym, subst}
-use Rattle.std.specs.Prelude.{ℕ, Option}
-use Rattle.wcv_core.specs.declared.core_types.ValType.{ValType}
+use Rattle.std.proofs.Common.{true, sym}
+use Rattle.std.specs.Prelude.{map}
 use Rattle.wcv_types.specs.Entities.{entry_trees}
 use Rattle.wcv_types.specs.Unfold.{trees}
-use Rattle.wcv_types.specs.declared.ids.ResourceId.{ResourceId}
-use Rattle.wcv_lower.specs.Context.{Entries}
-use Rattle.wcv_state.proofs.KeptPaths.{none_next, one_free, none_free, scope_caused}
+use Rattle.wcv_lower.specs.Ending.{any_free}
+use Rattle.wcv_state.specs.Contents.{defined_resource}
+use Rattle.wcv_state.proofs.KeptPaths.{scope_caused}
 use Rattle.wcv_state.proofs.kept.check_imports.Goals as goal
 
-pub loop-k-preserved : goal.loop-k-preserved
-loop-k-preserved c =
-    let es : Entries = entry_trees (trees c.args.types.now.nodes) c.args.imports.now in
-    let d : ResourceId × Option ValType = (c.in-Some.resource.now, c.in-Some.field-0-1.now) in
-    none_next c.args.defined.now es c.loop-k.k d (sym c.in-Some.ensures) (sym (c.in_ok-free.ensures d.0) ∙ sym c.contains.ensures ∙ c.if-contains.false) c.loop-k.invariant
-
-pub returns-then-contains-clause-err : goal.returns-then-contains-clause-err
-returns-then-contains-clause-err c =
-    let es : Entries = entry_trees (trees c.args.types.now.nodes) c.args.imports.now in
-    let d : ResourceId × Option ValType = (c.in-Some.resource.now, c.in-Some.field-0-1.now) in
-    scope_caused _ _ c.args.offset c.free_in_import.result (λ e. one_free c.args.defined.now es c.loop-k.k d (sym c.in-Some.ensures) (sym (c.in_ok-free.ensures d.0) ∙ sym c.contains.ensures ∙ c.if-contains.true) c.loop-k.invariant) c.free_in_import.ensures
-
-pub returns-clause-ok : goal.returns-clause-ok
-returns-clause-ok c =
-    none_free c.args.defined.now (entry_trees (trees c.args.types.now.nodes) c.args.imports.now) c.loop-k.k (subst (λ (n : ℕ). n ≤ c.loop-k.k) c.len-k-end.ensures.value c.loop-k-test.false) c.loop-k.invariant
+pub returns-in-Some-clause-err : goal.returns-in-Some-clause-err
+returns-in-Some-clause-err c =
+    scope_caused true (any_free (map defined_resource c.args.defined.now) (entry_trees (trees c.args.types.now.nodes) c.args.imports.now)) c.args.offset c.free_in_import.result (λ e. sym c.in-Some.ensures) c.free_in_import.ensures

@@ -1,7 +1,7 @@
 use Rattle.wcv_types.specs.Entities.{entry_trees}
 use Rattle.wcv_types.specs.Unfold.{trees}
 use Rattle.wcv_state.proofs.KeptPaths.{KeptBefore, Left, AllOfArena}
-use Rattle.wcv_state.proofs.kept.kept_paths.Given as goal
+use Rattle.wcv_state.proofs.kept.keep_all.Given as goal
 
 -- those before that are free are kept, and none that is left is among them
 abbrev pub invariant-loop-k : goal.invariant-loop-k

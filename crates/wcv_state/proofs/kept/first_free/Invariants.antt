@@ -1,7 +1,7 @@
 use Rattle.wcv_types.specs.Entities.{entry_trees}
 use Rattle.wcv_types.specs.Unfold.{trees}
 use Rattle.wcv_state.proofs.KeptPaths.{NoneBefore}
-use Rattle.wcv_state.proofs.kept.check_imports.Given as goal
+use Rattle.wcv_state.proofs.kept.first_free.Given as goal
 
 -- no resource before is free
 abbrev pub invariant-loop-k : goal.invariant-loop-k

@@ -10,15 +10,15 @@ use Rattle.wcv_types.specs.declared.ids.ResourceId.{ResourceId}
 use Rattle.wcv_lower.specs.Context.{Entries}
 use Rattle.wcv_state.proofs.Walks.{found_holds, none_within}
 use Rattle.wcv_state.proofs.KeptPaths.{KeptBefore, Left, AllOfArena, kept_start, left_start, kept_next, kept_none, kept_all, kept_stand, left_here, left_next, scope_caused}
-use Rattle.wcv_state.proofs.kept.kept_paths.Goals as goal
+use Rattle.wcv_state.proofs.kept.keep_all.Goals as goal
 
 pub loop-k-init : goal.loop-k-init
 loop-k-init c =
     let es : Entries = entry_trees (trees c.args.types.now.nodes) c.args.exports.now in
     record {
-      kept = subst (KeptBefore c.args.defined.now es 0) (sym c.new-paths.ensures) (kept_start c.args.defined.now es);
-      left = subst (Left c.args.defined.now 0) (sym c.new-paths.ensures) (left_start c.args.defined.now c.len-k-end.ensures.unique);
-      stand = subst (AllOfArena c.args.types.now) (sym c.new-paths.ensures) (All-nil (λ (p : ResourceId × List ℕ). ResourceStands c.args.types.now p.0));
+      kept = subst (KeptBefore c.args.defined.now es 0) (sym c.requires.empty) (kept_start c.args.defined.now es);
+      left = subst (Left c.args.defined.now 0) (sym c.requires.empty) (left_start c.args.defined.now c.len-k-end.ensures.unique);
+      stand = subst (AllOfArena c.args.types.now) (sym c.requires.empty) (All-nil (λ (p : ResourceId × List ℕ). ResourceStands c.args.types.now p.0));
     }
 
 pub unreachable-requires : goal.unreachable-requires
@@ -34,7 +34,7 @@ loop-k-preserved c =
     let found : slice_get c.args.defined.now c.loop-k.k ≡ Some d = sym c.in-Some.ensures in
     let kept = c.in_ok-keep-in-Some.ensures.ok in
     record {
-      kept = kept_next c.args.defined.now es c.loop-k.k d _ _ c.loop-k.paths c.keep.new.paths found (c.in_ok-free.ensures d.0) (c.in_ok-first.ensures d.0) kept c.loop-k.invariant.kept;
+      kept = kept_next c.args.defined.now es c.loop-k.k d _ _ c.loop-k.paths c.keep.new.paths found (c.requires.free d.0) (c.requires.first d.0) kept c.loop-k.invariant.kept;
       left = left_next c.args.defined.now c.loop-k.k d _ _ c.loop-k.paths c.keep.new.paths found kept c.loop-k.invariant.left;
       stand = kept_stand c.args.types.now d.0 _ _ c.loop-k.paths c.keep.new.paths kept (found_holds (λ (d : ResourceId × Option ValType). ResourceStands c.args.types.now d.0) c.args.defined.now c.loop-k.k d c.requires.defined found) c.loop-k.invariant.stand;
     }
@@ -44,9 +44,9 @@ returns-in_err-keep-in-Some-clause-err c =
     let es : Entries = entry_trees (trees c.args.types.now.nodes) c.args.exports.now in
     let d : ResourceId × Option ValType = (c.in-Some.resource.now, c.in-Some.field-0-1.now) in
     let found : slice_get c.args.defined.now c.loop-k.k ≡ Some d = sym c.in-Some.ensures in
-    let p = err_from_is_err_and c.from_residual-in_err-keep-in-Some.result c.from_residual-in_err-keep-in-Some.ensures.1 in
+    let p = err_from_is_err_and c.from_residual.result c.from_residual.ensures.1 in
     rw (p.1, p.2) (scope_caused _ _ c.args.offset c.in_err-keep-in-Some.field-0.0
-    (λ e. kept_none c.args.defined.now es c.loop-k.k d _ _ c.loop-k.paths found (c.in_ok-free.ensures d.0) (c.in_ok-first.ensures d.0) e c.loop-k.invariant.kept) c.in_err-keep-in-Some.ensures.err)
+    (λ e. kept_none c.args.defined.now es c.loop-k.k d _ _ c.loop-k.paths found (c.requires.free d.0) (c.requires.first d.0) e c.loop-k.invariant.kept) c.in_err-keep-in-Some.ensures.err)
 
 pub returns-clause-ok : goal.returns-clause-ok
 returns-clause-ok c =

@@ -1,0 +1,35 @@
+use Rattle.wcv_core.specs.Limits.{max_entries}
+use Rattle.std.proofs.Common.{ℕ, List, map, ◌++◌, ◌∙◌, ap, subst}
+use Rattle.std.proofs.lemmas.Result.{err_from_is_err_and}
+use Rattle.wcv_types.specs.Entities.{entity_tree}
+use Rattle.wcv_types.specs.Tree.{Text}
+use Rattle.wcv_types.specs.Unfold.{trees}
+use Rattle.wcv_lower.specs.Checks.{IsFree, full_if}
+use Rattle.wcv_lower.specs.Entries.{extern_name}
+use Rattle.wcv_state.specs.Inside.{lists, AreKeys}
+use Rattle.wcv_state.specs.Looking.{created_reference}
+use Rattle.wcv_state.proofs.EntryNames.{enter_free, name_caused, room_caused}
+use Rattle.wcv_state.proofs.entries.admit.Goals as goal
+
+pub returns-in_err-check_extern-clause-err : goal.returns-in_err-check_extern-clause-err
+returns-in_err-check_extern-clause-err c =
+    let p = err_from_is_err_and c.from_residual.result c.from_residual.ensures.1 in
+    rw (p.1, p.2) (name_caused c.args.types.now c.args.limited c.args.features.now (lists c.args.spaces.now) c.args.side.now c.args.info.now (extern_name c.args.name.now) (entity_tree (trees c.args.types.now.nodes) c.args.ty.now) c.requires.entries c.requires.names c.args.offset c.in_err-check_extern.field-0.0 c.in_err-check_extern.ensures.err)
+
+pub returns-in_err-check_room-clause-err : goal.returns-in_err-check_room-clause-err
+returns-in_err-check_room-clause-err c =
+    let p = err_from_is_err_and c.from_residual-in_err-check_room.result c.from_residual-in_err-check_room.ensures.1 in
+    rw (p.1, p.2) (room_caused c.args.types.now c.args.limited c.args.features.now (lists c.args.spaces.now) c.args.side.now c.args.info.now (extern_name c.args.name.now) (entity_tree (trees c.args.types.now.nodes) c.args.ty.now) c.requires.entries c.requires.names c.args.offset c.in_err-check_room.field-0.0 c.in_err-check_room.ensures.err)
+
+pub returns-clause-ok : goal.returns-clause-ok
+returns-clause-ok c =
+    enter_free c.args.types.now c.args.limited c.args.features.now (lists c.args.spaces.now) c.args.side.now c.args.info.now (extern_name c.args.name.now) (entity_tree (trees c.args.types.now.nodes) c.args.ty.now) c.requires.entries c.requires.names
+    c.in_ok-check_extern.ensures.ok (subst (λ (k : ℕ). IsFree (full_if c.args.limited max_entries k)) c.len.ensures c.in_ok-check_list.ensures.ok) c.in_ok-check_room.ensures.ok
+
+pub returns-clause-admitted : goal.returns-clause-admitted
+returns-clause-admitted c = record {
+  keys = c.in_ok-check_extern.ensures.keys;
+  references = c.in_ok-name_reference.ensures.references ∙ ap (λ (n : Text). c.args.side.now.resources.references ++ map (λ q. (q, n)) (created_reference c.args.ty.now)) c.as_str.ensures;
+  names = subst (λ (n : Text). (ks : List Text) → AreKeys c.args.side.now.resources.names ks → AreKeys c.name_reference.new.resources.names (ks ++ map (λ q. n) (created_reference c.args.ty.now))) c.as_str.ensures c.in_ok-name_reference.ensures.names;
+  info = c.in_ok-check_extern.ensures.info;
+}
