@@ -1,4 +1,5 @@
 -- What types by ids stand for, in a context where they were looked up.
+use Rattle.wcv_core.specs.Limits.{max_abi_size, max_depth, max_size}
 use Rattle.std.specs.Prelude.{ℕ, [], ◌∷◌, ◌++◌, Bool, true, false, Option, Some, None, All, ◌≡◌}
 use Rattle.wcv_core.specs.declared.features.WasmFeatures.{WasmFeatures}
 use Rattle.wcv_syntax.specs.declared.component_type.ComponentDefinedType.{ComponentDefinedType as Written_defined}
@@ -17,7 +18,7 @@ use Rattle.wcv_types.specs.declared.shapes.ComponentDefinedType.TheVariants as d
 use Rattle.wcv_types.specs.declared.shapes.ComponentFuncType.{ComponentFuncType}
 use Rattle.wcv_types.specs.declared.shapes.ComponentValType.{ComponentValType}
 use Rattle.wcv_types.specs.declared.info.TypeInfo.{TypeInfo}
-use Rattle.wcv_lower.specs.Checks.{Checks, if_found, too_many, max_size, max_depth, max_abi_size}
+use Rattle.wcv_lower.specs.Checks.{Checks, if_found, too_many}
 use Rattle.wcv_lower.specs.Context.{Context}
 use Rattle.wcv_lower.specs.Defined.{former, written_parts, handle_index, made_of, made_checks, content_checks, has_borrow}
 use Rattle.wcv_lower.specs.Types.{func_parts}

@@ -1,20 +1,19 @@
 // Limits that the adding of core types and core modules leaves to its caller.
+ghost use Rattle.wcv_core.specs.Limits.{max_instances};
 ghost use Rattle.std.specs.Prelude.{length, map, ◌++◌, OnOk, IfErr};
 ghost use Rattle.wcv_syntax.specs.View.{code_decl_view, core_type_view};
-ghost use Rattle.wcv_lower.specs.Checks.{IsFree, full, max_instances};
+ghost use Rattle.wcv_lower.specs.Checks.{IsFree, full};
 ghost use Rattle.wcv_lower.specs.Context.{core_modules};
 ghost use Rattle.wcv_lower.specs.CoreItems.{core_type_left, core_module_left};
 ghost use Rattle.wcv_state.specs.Contents.{context_of};
 ghost use Rattle.wcv_state.specs.Promises.{MemoryOrCausedBy};
 
+use wcv_core::limits::MAX_INSTANCES;
 use wcv_core::{Error, ErrorKind};
 use wcv_module::{check_group, check_module_limits};
 use wcv_state::{ComponentState, Space};
 use wcv_syntax::{CoreType, ModuleDecl};
 use wcv_types::TypeAlloc;
-
-/// The most core modules of a component.
-const MAX_MODULES: usize = 1000;
 
 /// Whether the lists and the texts of a core type item keep their limits.
 pub fn check_core_limits(ty: &CoreType, offset: u64) -> Result<(), Error>
@@ -34,12 +33,12 @@ fn check_modules(state: &ComponentState, types: &TypeAlloc, offset: u64) -> Resu
 {
     let _ = types;
     let count = state.space_len(Space::CoreModules);
-    if count >= MAX_MODULES {
+    if count >= MAX_INSTANCES {
         return Err(Error::new(
             ErrorKind::Limit,
             offset,
             format_args!(
-                "no room for one more core module: there are {count}, at most {MAX_MODULES} are allowed"
+                "no room for one more core module: there are {count}, at most {MAX_INSTANCES} are allowed"
             ),
         ));
     }

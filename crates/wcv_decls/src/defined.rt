@@ -153,40 +153,6 @@ fn resolve_values(
     }
 }
 
-/// The node of a handle that owns a resource.
-fn resolve_own(
-    index: u32,
-    state: &ComponentState,
-    types: &TypeAlloc,
-    offset: u64,
-) -> Result<ComponentDefinedType, Error>
-    requires stands { StateStands types.now state.now }
-    ensures ok { IfOk result (IsShape types.now (context_of types.now state.now) (simple (written.Own index))) }
-    ensures free { OnOk result (IsFree (resolve_checks state.now.features (context_of types.now state.now) (simple (written.Own index)))) }
-    ensures err { IfErr result (MemoryOrCausedBy (resolve_checks state.now.features (context_of types.now state.now) (simple (written.Own index))) offset) }
-{
-    let _ = types;
-    let id = state.resource_at(index, offset)?;
-    Ok(ComponentDefinedType::Own(id))
-}
-
-/// So of one that borrows it.
-fn resolve_borrow(
-    index: u32,
-    state: &ComponentState,
-    types: &TypeAlloc,
-    offset: u64,
-) -> Result<ComponentDefinedType, Error>
-    requires stands { StateStands types.now state.now }
-    ensures ok { IfOk result (IsShape types.now (context_of types.now state.now) (simple (written.Borrow index))) }
-    ensures free { OnOk result (IsFree (resolve_checks state.now.features (context_of types.now state.now) (simple (written.Borrow index)))) }
-    ensures err { IfErr result (MemoryOrCausedBy (resolve_checks state.now.features (context_of types.now state.now) (simple (written.Borrow index))) offset) }
-{
-    let _ = types;
-    let id = state.resource_at(index, offset)?;
-    Ok(ComponentDefinedType::Borrow(id))
-}
-
 /// The node of a defined type.
 #[tactic(auto, using(crate::proofs::Handles::value_shape))]
 pub fn resolve_defined(
@@ -202,11 +168,17 @@ pub fn resolve_defined(
     ensures err { IfErr result (MemoryOrCausedBy (resolve_checks state.now.features (context_of types.now state.now) (defined_view ty)) offset) }
 {
     match ty {
-        Written::Own(index) => resolve_own(index, state, types, offset),
-        Written::Borrow(index) => resolve_borrow(index, state, types, offset),
-        _ => {
-            let shape = resolve_values(alloc, ty, state, types, offset)?;
-            Ok(shape)
-        }
+        Written::Own(index) => match state.resource_at(index, offset) {
+            Ok(id) => Ok(ComponentDefinedType::Own(id)),
+            Err(error) => Err(error),
+        },
+        Written::Borrow(index) => match state.resource_at(index, offset) {
+            Ok(id) => Ok(ComponentDefinedType::Borrow(id)),
+            Err(error) => Err(error),
+        },
+        _ => match resolve_values(alloc, ty, state, types, offset) {
+            Ok(shape) => Ok(shape),
+            Err(error) => Err(error),
+        },
     }
 }

@@ -7,18 +7,10 @@ ghost use Rattle.wcv_lower.specs.Types.{func_left, type_left};
 ghost use Rattle.wcv_state.specs.NameLists.{list_names};
 ghost use Rattle.wcv_state.specs.Promises.{MemoryOrCausedBy};
 
+use wcv_core::limits::{MAX_LIST, MAX_PARAMS, MAX_TEXT};
 use wcv_core::{Error, ErrorKind, Excerpt, Text};
 use wcv_state::NameList;
 use wcv_syntax::{ComponentDefinedType, ComponentFuncType, ComponentType};
-
-/// The most parameters of a function.
-const MAX_PARAMS: usize = 1000;
-
-/// The most entries of another list inside an item.
-const MAX_LIST: usize = 100_000;
-
-/// The longest text of an item, in bytes.
-const LONGEST_TEXT: usize = 100_000;
 
 /// Whether a name of a type is not too long. What has the name is for the message.
 fn check_text(text: &Text, word: &str, offset: u64) -> Result<(), Error>
@@ -26,13 +18,13 @@ fn check_text(text: &Text, word: &str, offset: u64) -> Result<(), Error>
     ensures err { IfErr result (MemoryOrCausedBy (too_long text.now) offset) }
 {
     let bytes = text.as_str().len();
-    if bytes > LONGEST_TEXT {
+    if bytes > MAX_TEXT {
         let excerpt = Excerpt(text.as_str());
         return Err(Error::new(
             ErrorKind::Limit,
             offset,
             format_args!(
-                "{word} name `{excerpt}` has {bytes} bytes, at most {LONGEST_TEXT} are allowed"
+                "{word} name `{excerpt}` has {bytes} bytes, at most {MAX_TEXT} are allowed"
             ),
         ));
     }
@@ -43,7 +35,7 @@ fn check_text(text: &Text, word: &str, offset: u64) -> Result<(), Error>
 fn is_short(text: &Text) -> bool
     ensures { result ≡ true → IsFree (too_long text.now) }
 {
-    text.as_str().len() <= LONGEST_TEXT
+    text.as_str().len() <= MAX_TEXT
 }
 
 /// Whether no name of a list is.

@@ -4,12 +4,10 @@ ghost use Rattle.wcv_lower.specs.Checks.{IsFree, counts, no_type_room, no_core_t
 ghost use Rattle.wcv_state.specs.Contents.{context_of};
 ghost use Rattle.wcv_state.specs.Promises.{MemoryOrCausedBy};
 
+use wcv_core::limits::MAX_ENTRIES;
 use wcv_core::{Error, ErrorKind};
 use wcv_state::ComponentState;
 use wcv_types::TypeAlloc;
-
-/// The most types and core types of a component.
-const MAX_TYPES: usize = 1_000_000;
 
 /// Whether there is room for one more type, where that is to be looked at.
 pub fn check_types(
@@ -23,12 +21,12 @@ pub fn check_types(
 {
     let _ = types;
     let count = state.type_count();
-    if limited && count >= MAX_TYPES {
+    if limited && count >= MAX_ENTRIES {
         return Err(Error::new(
             ErrorKind::Limit,
             offset,
             format_args!(
-                "no room for one more type or core type: there are {count}, at most {MAX_TYPES} are allowed"
+                "no room for one more type or core type: there are {count}, at most {MAX_ENTRIES} are allowed"
             ),
         ));
     }
@@ -47,12 +45,12 @@ pub fn check_core_types(
 {
     let _ = types;
     let count = state.type_count();
-    if count > MAX_TYPES || more > MAX_TYPES - count {
+    if count > MAX_ENTRIES || more > MAX_ENTRIES - count {
         return Err(Error::new(
             ErrorKind::Limit,
             offset,
             format_args!(
-                "no room for {more} more core types: there are {count} types and core types, at most {MAX_TYPES} are allowed"
+                "no room for {more} more core types: there are {count} types and core types, at most {MAX_ENTRIES} are allowed"
             ),
         ));
     }

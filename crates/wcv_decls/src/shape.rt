@@ -1,19 +1,18 @@
 // How many entries a defined type has.
+ghost use Rattle.wcv_core.specs.Limits.{max_elements};
 ghost use Rattle.std.specs.Prelude.{[], ◌∷◌, ◌==◌, OnOk, IfErr};
 ghost use Rattle.wcv_syntax.specs.Model.{flags_of};
 ghost use Rattle.wcv_syntax.specs.View.{defined_view};
-ghost use Rattle.wcv_lower.specs.Checks.{IsFree, too_many, max_elements};
+ghost use Rattle.wcv_lower.specs.Checks.{IsFree, too_many};
 ghost use Rattle.wcv_lower.specs.Defined.{no_entry, shape_checks};
 ghost use Rattle.wcv_state.specs.Promises.{MemoryOrCausedBy};
 
+use wcv_core::limits::MAX_ELEMENTS;
 use wcv_core::{Error, ErrorKind, Text};
 use wcv_syntax::ComponentDefinedType;
 
 /// The most flags of a type.
 const MAX_FLAGS: usize = 32;
-
-/// The most elements of a list of a fixed length.
-const MAX_ELEMENTS: u32 = 65_536;
 
 /// Refuses a type that has no entry. What it needs is the message.
 fn check_entries<T>(entries: &[T], needs: &str, offset: u64) -> Result<(), Error>

@@ -5,17 +5,9 @@ ghost use Rattle.wcv_lower.specs.Checks.{IsFree};
 ghost use Rattle.wcv_state.specs.Promises.{MemoryOrCausedBy};
 ghost use Rattle.wcv_decls.specs.Resolved.{kept_checks};
 
+use wcv_core::limits::{MAX_ABI_SIZE, MAX_DEPTH, MAX_SIZE};
 use wcv_core::{Error, ErrorKind};
 use wcv_types::TypeInfo;
-
-/// The greatest size of a type.
-const MAX_SIZE: u32 = 1_000_000;
-
-/// The greatest depth of a type.
-const MAX_DEPTH: u32 = 512;
-
-/// The most bytes of a value type in memory.
-const MAX_ABI_SIZE: u64 = 268_435_456;
 
 fn too_large(offset: u64, what: &str, number: u64, limit: u64) -> Error
     ensures kind { error_kind result ≡ ErrorKind.Limit }
@@ -34,11 +26,13 @@ pub fn check_size(info: TypeInfo, size32: u64, size64: u64, offset: u64) -> Resu
     ensures ok { OnOk result (IsFree (kept_checks info size32 size64)) }
     ensures err { IfErr result (MemoryOrCausedBy (kept_checks info size32 size64) offset) }
 {
-    if info.size > MAX_SIZE {
-        return Err(too_large(offset, "has the size", info.size as u64, MAX_SIZE as u64));
+    let size = info.size as u64;
+    if size > MAX_SIZE {
+        return Err(too_large(offset, "has the size", size, MAX_SIZE));
     }
-    if info.depth > MAX_DEPTH {
-        return Err(too_large(offset, "has the depth", info.depth as u64, MAX_DEPTH as u64));
+    let depth = info.depth as u64;
+    if depth > MAX_DEPTH {
+        return Err(too_large(offset, "has the depth", depth, MAX_DEPTH));
     }
     if size32 > MAX_ABI_SIZE {
         return Err(too_large(offset, "takes this many bytes:", size32, MAX_ABI_SIZE));

@@ -1,11 +1,7 @@
 // Reading core types and core modules.
-ghost use Rattle.std.specs.Prelude.{[], map, OnOk, IfErr};
-ghost use Rattle.wcv_core.specs.Names.{Place};
+ghost use Rattle.std.specs.Prelude.{map, OnOk, IfErr};
 ghost use Rattle.wcv_syntax.specs.Model.{core_type_item, core_module_item};
 ghost use Rattle.wcv_syntax.specs.View.{core_type_view, code_decl_view};
-ghost use Rattle.wcv_lower.specs.Growth.{call_checks};
-ghost use Rattle.wcv_state.specs.Contents.{context_of, scope_of};
-ghost use Rattle.wcv_state.specs.Promises.{MemoryOrCausedBy, Grew, Keeps};
 ghost use Rattle.wcv_link.specs.Progress.{IsReady, AcceptsItem, RefusesItem};
 
 use std::slice::from_mut;
@@ -14,21 +10,6 @@ use wcv_decls::{Declare, add_core_module_to, check_core_limits, check_core_modul
 use wcv_state::ComponentState;
 use wcv_syntax::{CoreType, ModuleDecl};
 use wcv_types::TypeAlloc;
-
-/// A core type joins the state, where no other is open.
-fn add_core_type(
-    ty: CoreType,
-    state: &mut ComponentState,
-    types: &mut TypeAlloc,
-    offset: u64,
-) -> Result<(), Error>
-    requires { IsReady types.old state.old }
-    ensures ok { OnOk result ((p : Place) → Grew types.old types.new [] p state.old state.new (core_type_item (core_type_view ty))) }
-    ensures err { IfErr result (MemoryOrCausedBy (call_checks (scope_of state.old []) (context_of types.old state.old) (core_type_item (core_type_view ty))) offset) }
-    ensures keeps { Keeps types.old types.new state.old state.new }
-{
-    ComponentState::add_core_type(from_mut(state), ty, types, offset)
-}
 
 /// Reads a core type: a group of types, or the type of a module.
 pub fn read_core_type(
@@ -42,8 +23,7 @@ pub fn read_core_type(
     ensures err { IfErr result (RefusesItem types.old state.old (core_type_item (core_type_view ty)) offset) }
 {
     check_core_limits(&ty, offset)?;
-    add_core_type(ty, state, types, offset)?;
-    Ok(())
+    ComponentState::add_core_type(from_mut(state), ty, types, offset)
 }
 
 /// Reads a core module.
@@ -58,6 +38,5 @@ pub fn read_core_module(
     ensures err { IfErr result (RefusesItem types.old state.old (core_module_item (map code_decl_view decls.items)) offset) }
 {
     check_core_module_limits(&decls, state, types, offset)?;
-    add_core_module_to(decls, state, types, offset)?;
-    Ok(())
+    add_core_module_to(decls, state, types, offset)
 }

@@ -4,26 +4,22 @@ ghost use Rattle.wcv_lower.specs.Checks.{IsFree, texts_of, too_long, each_too_lo
 ghost use Rattle.wcv_lower.specs.Entries.{extern_name};
 ghost use Rattle.wcv_state.specs.Promises.{MemoryOrCausedBy};
 
+use wcv_core::limits::MAX_TEXT;
 use wcv_core::{Error, ErrorKind, Excerpt, Text};
 use wcv_syntax::ComponentExternName;
-
-/// The longest text of an item, in bytes.
-const LONGEST_TEXT: usize = 100_000;
 
 /// Whether a text of an item is not too long. What it is called is for the message.
 fn check_text(text: &Text, called: &str, offset: u64) -> Result<(), Error>
     ensures ok { OnOk result (IsFree (too_long text.now)) }
     ensures err { IfErr result (MemoryOrCausedBy (too_long text.now) offset) }
 {
-    if text.as_str().len() > LONGEST_TEXT {
+    if text.as_str().len() > MAX_TEXT {
         let excerpt = Excerpt(text.as_str());
         let bytes = text.as_str().len();
         return Err(Error::new(
             ErrorKind::Limit,
             offset,
-            format_args!(
-                "{called} `{excerpt}` has {bytes} bytes, at most {LONGEST_TEXT} are allowed"
-            ),
+            format_args!("{called} `{excerpt}` has {bytes} bytes, at most {MAX_TEXT} are allowed"),
         ));
     }
     Ok(())

@@ -1,5 +1,5 @@
 use Rattle.std.proofs.Common.{List, [], map, refl, subst}
-use Rattle.std.proofs.lemmas.Result.{err_from_is_err_and}
+use Rattle.std.proofs.lemmas.Result.{err_from_is_err_and, on_ok_weaker, IfErr-weaker}
 use Rattle.wcv_syntax.specs.Model.{core_module_item}
 use Rattle.wcv_syntax.specs.View.{code_decl_view}
 use Rattle.wcv_syntax.specs.declared.core_section.ModuleDecl.{ModuleDecl}
@@ -16,13 +16,16 @@ returns-in_err-check_core_module_limits-clause-err c =
     rw (p.1, p.2)
     (left_caused (scope_of c.args.state.now []) (context_of c.args.types.now c.args.state.now) (core_module_item (map code_decl_view c.args.decls.items)) c.args.offset c.in_err-check_core_module_limits.field-0.0 refl (subst (λ (ds : List ModuleDecl). MemoryOrCausedBy (core_module_left (context_of c.args.types.now c.args.state.now) (map code_decl_view ds)) c.args.offset c.in_err-check_core_module_limits.field-0.0) c.deref.ensures.value c.in_err-check_core_module_limits.ensures.err))
 
-pub returns-in_err-add_core_module_to-clause-err : goal.returns-in_err-add_core_module_to-clause-err
-returns-in_err-add_core_module_to-clause-err c =
-    let p = err_from_is_err_and c.from_residual-in_err-add_core_module_to.result c.from_residual-in_err-add_core_module_to.ensures.1 in
-    rw (p.1, p.2)
-    (call_caused (scope_of c.args.state.now []) (context_of c.args.types.now c.args.state.now) (core_module_item (map code_decl_view c.args.decls.items)) c.args.offset c.in_err-add_core_module_to.field-0.0 (c.in_err-add_core_module_to.ensures.err []).1)
-
 pub returns-clause-ok : goal.returns-clause-ok
 returns-clause-ok c =
-    item_read c.args.types.now c.add_core_module_to.new.types c.args.state.now c.add_core_module_to.new.state (core_module_item (map code_decl_view c.args.decls.items)) refl (subst (λ (ds : List ModuleDecl). IsFree (core_module_left (context_of c.args.types.now c.args.state.now) (map code_decl_view ds))) c.deref.ensures.value c.in_ok-check_core_module_limits.ensures.ok)
-    (c.in_ok-add_core_module_to.ensures.ok []) c.add_core_module_to.ensures.keeps
+    on_ok_weaker c.add_core_module_to.result
+    (λ g. item_read c.args.types.now c.add_core_module_to.new.types c.args.state.now c.add_core_module_to.new.state (core_module_item (map code_decl_view c.args.decls.items)) refl
+    (subst (λ (ds : List ModuleDecl). IsFree (core_module_left (context_of c.args.types.now c.args.state.now) (map code_decl_view ds))) c.deref.ensures.value c.in_ok-check_core_module_limits.ensures.ok)
+    (g []) c.add_core_module_to.ensures.keeps)
+    c.add_core_module_to.ensures.ok
+
+pub returns-clause-err : goal.returns-clause-err
+returns-clause-err c =
+    IfErr-weaker c.add_core_module_to.result _ _
+    (λ e g. call_caused (scope_of c.args.state.now []) (context_of c.args.types.now c.args.state.now) (core_module_item (map code_decl_view c.args.decls.items)) c.args.offset e (g []).1)
+    c.add_core_module_to.ensures.err

@@ -1,9 +1,11 @@
-use Rattle.std.proofs.Common.{[], refl}
-use Rattle.std.proofs.lemmas.Result.{err_from_is_err_and}
-use Rattle.wcv_syntax.specs.Model.{core_type_item}
+use Rattle.std.proofs.Common.{List, [], refl, slice_index_or}
+use Rattle.std.proofs.lemmas.Result.{err_from_is_err_and, on_ok_weaker, IfErr-weaker}
+use Rattle.wcv_syntax.specs.Model.{Form, core_type_item}
 use Rattle.wcv_syntax.specs.View.{core_type_view}
-use Rattle.wcv_state.specs.Contents.{context_of, scope_of}
-use Rattle.wcv_link.proofs.Steps.{call_caused, left_caused, item_read}
+use Rattle.wcv_state.specs.Contents.{Contents, context_of, scope_of}
+use Rattle.wcv_decls.specs.Stack.{GrewOn, RefusedOn, KeepsOn}
+use Rattle.wcv_decls.proofs.Stacks.{unmapped}
+use Rattle.wcv_link.proofs.Steps.{call_caused, left_caused, item_read, grew_alone, refused_alone, keeps_alone}
 use Rattle.wcv_link.proofs.core_items.read_core_type.Goals as goal
 
 pub returns-in_err-check_core_limits-clause-err : goal.returns-in_err-check_core_limits-clause-err
@@ -12,13 +14,28 @@ returns-in_err-check_core_limits-clause-err c =
     rw (p.1, p.2)
     (left_caused (scope_of c.args.state.now []) (context_of c.args.types.now c.args.state.now) (core_type_item (core_type_view c.args.ty)) c.args.offset c.in_err-check_core_limits.field-0.0 refl c.in_err-check_core_limits.ensures.err)
 
-pub returns-in_err-add_core_type-clause-err : goal.returns-in_err-add_core_type-clause-err
-returns-in_err-add_core_type-clause-err c =
-    let p = err_from_is_err_and c.from_residual-in_err-add_core_type.result c.from_residual-in_err-add_core_type.ensures.1 in
-    rw (p.1, p.2)
-    (call_caused (scope_of c.args.state.now []) (context_of c.args.types.now c.args.state.now) (core_type_item (core_type_view c.args.ty)) c.args.offset c.in_err-add_core_type.field-0.0 c.in_err-add_core_type.ensures.err)
-
 pub returns-clause-ok : goal.returns-clause-ok
 returns-clause-ok c =
-    item_read c.args.types.now c.add_core_type.new.types c.args.state.now c.add_core_type.new.state (core_type_item (core_type_view c.args.ty)) refl c.in_ok-check_core_limits.ensures.ok
-    c.in_ok-add_core_type.ensures.ok c.add_core_type.ensures.keeps
+    let a = c.args.types.now in
+    let b = c.add_core_type.new.types in
+    let s = c.args.state.now in
+    let ws : List Contents = c.from_mut.result.now in
+    let ss : List Contents = c.add_core_type.new.components in
+    let f : Form = core_type_item (core_type_view c.args.ty) in
+    on_ok_weaker c.add_core_type.result
+    (λ g. item_read a b s (slice_index_or ss 0 s) f refl c.in_ok-check_core_limits.ensures.ok
+    (λ p. grew_alone a s ws ss c.from_mut.ensures.value b p f (unmapped (λ xs ys. GrewOn a b p xs ys f) ws ss (g p)))
+    (keeps_alone a s ws ss c.from_mut.ensures.value b (unmapped (KeepsOn a b) ws ss c.add_core_type.ensures.keeps)))
+    c.add_core_type.ensures.ok
+
+pub returns-clause-err : goal.returns-clause-err
+returns-clause-err c =
+    let a = c.args.types.now in
+    let s = c.args.state.now in
+    let ws : List Contents = c.from_mut.result.now in
+    let ss : List Contents = c.add_core_type.new.components in
+    let f : Form = core_type_item (core_type_view c.args.ty) in
+    IfErr-weaker c.add_core_type.result _ _
+    (λ e g. call_caused (scope_of s []) (context_of a s) f c.args.offset e
+    (refused_alone a s ws ss c.from_mut.ensures.value f c.args.offset e (unmapped (λ xs ys. RefusedOn a xs ys f c.args.offset e) ws ss g)))
+    c.add_core_type.ensures.err

@@ -1,5 +1,5 @@
 use Rattle.std.proofs.Common.{[], ◌∙◌, sym}
-use Rattle.std.proofs.lemmas.Result.{err_from_is_err_and}
+use Rattle.std.proofs.lemmas.Result.{err_from_is_err_and, on_ok_weaker, IfErr-weaker}
 use Rattle.wcv_syntax.specs.Model.{type_item}
 use Rattle.wcv_syntax.specs.View.{type_view}
 use Rattle.wcv_state.specs.Contents.{context_of, scope_of}
@@ -13,13 +13,15 @@ returns-in_err-check_limits-clause-err c =
     (left_caused (scope_of c.args.state.now []) (context_of c.args.types.now c.args.state.now) (type_item (type_view c.args.ty)) c.args.offset c.in_err-check_limits.field-0.0
     (sym c.is_built_type.ensures ∙ c.in_ok-check_form.ensures.ok) c.in_err-check_limits.ensures.err)
 
-pub returns-in_err-add_type_to-clause-err : goal.returns-in_err-add_type_to-clause-err
-returns-in_err-add_type_to-clause-err c =
-    let p = err_from_is_err_and c.from_residual-in_err-add_type_to.result c.from_residual-in_err-add_type_to.ensures.1 in
-    rw (p.1, p.2)
-    (call_caused (scope_of c.args.state.now []) (context_of c.args.types.now c.args.state.now) (type_item (type_view c.args.ty)) c.args.offset c.in_err-add_type_to.field-0.0 (c.in_err-add_type_to.ensures.err []).1)
-
 pub returns-clause-ok : goal.returns-clause-ok
 returns-clause-ok c =
-    item_read c.args.types.now c.add_type_to.new.types c.args.state.now c.add_type_to.new.state (type_item (type_view c.args.ty)) (sym c.is_built_type.ensures ∙ c.in_ok-check_form.ensures.ok) c.in_ok-check_limits.ensures.ok
-    (λ p. grew_of c.args.types.now c.add_type_to.new.types [] p c.args.state.now c.add_type_to.new.state (type_view c.args.ty) (c.in_ok-add_type_to.ensures.ok [] p)) c.add_type_to.ensures.keeps
+    on_ok_weaker c.add_type_to.result
+    (λ g. item_read c.args.types.now c.add_type_to.new.types c.args.state.now c.add_type_to.new.state (type_item (type_view c.args.ty)) (sym c.is_built_type.ensures ∙ c.in_ok-check_form.ensures.ok) c.in_ok-check_limits.ensures.ok
+    (λ p. grew_of c.args.types.now c.add_type_to.new.types [] p c.args.state.now c.add_type_to.new.state (type_view c.args.ty) (g [] p)) c.add_type_to.ensures.keeps)
+    c.add_type_to.ensures.ok
+
+pub returns-clause-err : goal.returns-clause-err
+returns-clause-err c =
+    IfErr-weaker c.add_type_to.result _ _
+    (λ e g. call_caused (scope_of c.args.state.now []) (context_of c.args.types.now c.args.state.now) (type_item (type_view c.args.ty)) c.args.offset e (g []).1)
+    c.add_type_to.ensures.err
