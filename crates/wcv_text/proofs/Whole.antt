@@ -11,7 +11,7 @@ use Rattle.wcv_types.specs.Unfold.{Type_tree, trees}
 use Rattle.wcv_types.specs.declared.component_type.ComponentType.{ComponentType}
 use Rattle.wcv_types.specs.declared.ids.ResourceId.{ResourceId}
 use Rattle.wcv_types.specs.declared.item_map.ComponentItem.{ComponentItem}
-use Rattle.wcv_text.specs.Entries.{write_entry, write_list, write_path, write_path_list}
+use Rattle.wcv_text.specs.Entries.{write_entry, write_list, write_path, write_path_list, write_lines}
 use Rattle.wcv_text.specs.Numbers.{written, Shows}
 use Rattle.wcv_text.specs.declared.numbers.Numbers.{Numbers}
 
@@ -28,13 +28,7 @@ paths_written : (word : Text) (w : Written) (ps : List (ResourceId × List ℕ))
 paths_written word w [] = refl
 paths_written word w (p ∷ ps) = paths_written word (write_path word p w) ps
 
--- imports, exports, imported and then defined resources
-abbrev pub all_written : Arena → ComponentType → Written
-all_written a ty =
-    write_path_list (codes "defined ") ty.defined_resources
-    (write_path_list (codes "imported ") ty.imported_resources (write_list (codes "export ") (trees a.nodes) ty.exports (write_list (codes "import ") (trees a.nodes) ty.imports (nothing_written a.core))))
-
-pub all_said : (a : Arena) (ty : ComponentType) → type_text a.core (root_tree a ty) ≡ (all_written a ty).text
+pub all_said : (a : Arena) (ty : ComponentType) → type_text a.core (root_tree a ty) ≡ (write_lines a ty (nothing_written a.core)).text
 all_said a ty =
     let ts : List Type_tree = trees a.nodes in
     let start : Written = nothing_written a.core in
