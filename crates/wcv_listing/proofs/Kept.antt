@@ -3,7 +3,7 @@ use Rattle.std.proofs.Common.{◌≡◌, ℕ, zero, suc, ◌-◌, ◌<◌, List,
 use Rattle.json.specs.Token.{Token}
 use Rattle.json.specs.Json.{Json, array, object, Items, item, Members, member, Parse, parse_map, after_end_array, read_key, items_step, members_step, items, members, value}
 use Rattle.json.proofs.Grammar.{value_is, value-begin_array, value-begin_object}
-use Rattle.wcv_listing.specs.Seen.{in_range, items_in_range, members_in_range, value_in_range}
+use Rattle.wcv_listing.specs.Parsed.{in_range, items_in_range, members_in_range, value_in_range}
 
 -- what was read, where it passes the test
 abbrev pub kept : {A : Type 0} → (A → Bool) → Option (A × List Token) → Option (A × List Token)

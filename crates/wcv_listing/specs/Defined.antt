@@ -1,23 +1,17 @@
 -- Defined types.
-use Rattle.std.specs.Prelude.{ℕ, List, [], ◌∷◌, map, if◌then◌else◌, Option, Some, None, option_map, option_and_then, codes}
-use Rattle.serde_json.specs.Data.{Data, Items, no_items, item}
+use Rattle.std.specs.Prelude.{ℕ, List, [], ◌∷◌, map, if◌then◌else◌, Option, None, option_map, option_and_then, codes}
+use Rattle.serde_json.specs.Data.{Data}
 use Rattle.serde_json.specs.Find.{as_array, as_str, get}
 use Rattle.wcv_syntax.specs.declared.component_type.ComponentDefinedType.{ComponentDefinedType}
 use Rattle.wcv_syntax.specs.declared.component_type.ComponentDefinedType.TheVariants as defined
 use Rattle.wcv_syntax.specs.declared.component_type.VariantCase.{VariantCase}
 use Rattle.wcv_syntax.specs.Model.{Text, Defined_form, record_of, variant_of, tuple_of, flags_of, enum_of, simple}
-use Rattle.wcv_listing.specs.Fields.{both, named, has_only, only_key, index, pair_of, array_of, text_or, null_or, optional}
+use Rattle.wcv_listing.specs.Fields.{both, named, has_only, only_key, index, pair_of, one_or_two_of, array_of, text_or, null_or, optional}
 use Rattle.wcv_listing.specs.Values.{primitive_named, value_of, params_of}
-
-abbrev pub case_in : Items → Option VariantCase
-case_in no_items = None
-case_in (item n no_items) = option_map (λ name. record { name = name; ty = None }) (as_str n)
-case_in (item n (item v no_items)) = both (λ name ty. record { name = name; ty = Some ty }) (as_str n) (value_of v)
-case_in (item n (item v (item d ds))) = None
 
 -- [name] or [name, value type]
 abbrev pub case_of : Data → Option VariantCase
-case_of d = option_and_then case_in (as_array d)
+case_of d = option_and_then (λ p. both (λ name ty. record { name = name; ty = ty }) (as_str p.0) (optional value_of p.1)) (option_and_then one_or_two_of (as_array d))
 
 -- [key type, value type]
 abbrev pub map_of : Data → Option Defined_form

@@ -1,19 +1,19 @@
 // What core modules import and export.
-ghost use Rattle.std.specs.Prelude.{◌≡◌, codes, map, option_map};
+ghost use Rattle.std.specs.Prelude.{◌≡◌, ℕ, Option, codes, map, option_map};
 ghost use Rattle.serde_json.specs.Find.{get};
 ghost use Rattle.wcv_listing.specs.CoreForms.{table_of, page_of, memory_of, global_of, entity_forms, entity_under, entity_of};
-ghost use Rattle.wcv_listing.specs.Fields.{natural, only_key, optional};
+ghost use Rattle.wcv_listing.specs.Fields.{both, natural, natural_in, only_key, optional};
 ghost use Rattle.wcv_listing.specs.Seen.{view};
 
-use crate::core_value::{mark_at, read_core_value, read_ref_type};
+use crate::core_value::{marks_at, read_core_value, read_ref_type};
+use crate::node::Node;
 use crate::value::{has_only_keys, index_of, member_at, natural_at, natural_of, only_key_of};
-use json::Value;
 use wcv_core::{GlobalType, MemoryType, TableType};
 use wcv_syntax::TypeRef;
 
 // The greatest number, where there is one, or `None` where what is there is no such number.
-fn read_maximum(value: &Value<'_>) -> Option<Option<u64>>
-    ensures { result ≡ optional natural (get (codes "max") (view value.now)) }
+fn read_maximum(value: Node<'_, '_>) -> Option<Option<u64>>
+    ensures { result ≡ optional natural (get (codes "max") (view value.entry)) }
 {
     match member_at(value, "max") {
         None => Some(None),
@@ -21,18 +21,25 @@ fn read_maximum(value: &Value<'_>) -> Option<Option<u64>>
     }
 }
 
+// The least number and the greatest.
+fn read_limits(value: Node<'_, '_>) -> Option<(u64, Option<u64>)>
+    ensures { result ≡ both (λ (min : ℕ) (max : Option ℕ). (min, max)) (natural_in (codes "min") (view value.entry)) (optional natural (get (codes "max") (view value.entry))) }
+{
+    let min = natural_at(value, "min")?;
+    let max = read_maximum(value)?;
+    Some((min, max))
+}
+
 // A table type.
-fn read_table(value: &Value<'_>) -> Option<TableType>
-    ensures { result ≡ table_of (view value.now) }
+fn read_table(value: Node<'_, '_>) -> Option<TableType>
+    ensures { result ≡ table_of (view value.entry) }
 {
     if !has_only_keys(value, &["elem", "min", "max", "64", "shared"]) {
         return None;
     }
-    let element_type = read_ref_type(member_at(value, "elem")?)?;
-    let initial = natural_at(value, "min")?;
-    let maximum = read_maximum(value)?;
-    let table64 = mark_at(value, "64")?;
-    let shared = mark_at(value, "shared")?;
+    let element_type = member_at(value, "elem").and_then(read_ref_type)?;
+    let (initial, maximum) = read_limits(value)?;
+    let (table64, shared) = marks_at(value, "64", "shared")?;
     Some(TableType {
         element_type,
         initial,
@@ -43,8 +50,8 @@ fn read_table(value: &Value<'_>) -> Option<TableType>
 }
 
 // The exponent of the size of a page, which is 16 where nothing is said.
-fn read_page(value: &Value<'_>) -> Option<u32>
-    ensures { result ≡ page_of (get (codes "page") (view value.now)) }
+fn read_page(value: Node<'_, '_>) -> Option<u32>
+    ensures { result ≡ page_of (get (codes "page") (view value.entry)) }
 {
     match member_at(value, "page") {
         None => Some(16),
@@ -53,16 +60,14 @@ fn read_page(value: &Value<'_>) -> Option<u32>
 }
 
 // A memory type.
-fn read_memory(value: &Value<'_>) -> Option<MemoryType>
-    ensures { result ≡ memory_of (view value.now) }
+fn read_memory(value: Node<'_, '_>) -> Option<MemoryType>
+    ensures { result ≡ memory_of (view value.entry) }
 {
     if !has_only_keys(value, &["min", "max", "64", "shared", "page"]) {
         return None;
     }
-    let initial = natural_at(value, "min")?;
-    let maximum = read_maximum(value)?;
-    let memory64 = mark_at(value, "64")?;
-    let shared = mark_at(value, "shared")?;
+    let (initial, maximum) = read_limits(value)?;
+    let (memory64, shared) = marks_at(value, "64", "shared")?;
     let page_size_log2 = read_page(value)?;
     Some(MemoryType {
         initial,
@@ -74,15 +79,14 @@ fn read_memory(value: &Value<'_>) -> Option<MemoryType>
 }
 
 // A global type.
-fn read_global(value: &Value<'_>) -> Option<GlobalType>
-    ensures { result ≡ global_of (view value.now) }
+fn read_global(value: Node<'_, '_>) -> Option<GlobalType>
+    ensures { result ≡ global_of (view value.entry) }
 {
     if !has_only_keys(value, &["type", "mut", "shared"]) {
         return None;
     }
-    let content_type = read_core_value(member_at(value, "type")?)?;
-    let mutable = mark_at(value, "mut")?;
-    let shared = mark_at(value, "shared")?;
+    let content_type = member_at(value, "type").and_then(read_core_value)?;
+    let (mutable, shared) = marks_at(value, "mut", "shared")?;
     Some(GlobalType {
         content_type,
         mutable,
@@ -91,15 +95,15 @@ fn read_global(value: &Value<'_>) -> Option<GlobalType>
 }
 
 // The sort that is the only key of the object.
-fn sort_name(value: &Value<'_>) -> Option<&'static str>
-    ensures { option_map (λ name. name.now) result ≡ only_key (map (λ row. row.0) entity_forms) (view value.now) }
+fn sort_name(value: Node<'_, '_>) -> Option<&'static str>
+    ensures { option_map (λ name. name.now) result ≡ only_key (map (λ row. row.0) entity_forms) (view value.entry) }
 {
     only_key_of(value, &["func", "tag", "table", "memory", "global"])
 }
 
 // What stands under the name of a sort.
-fn read_under(name: &str, body: &Value<'_>) -> Option<TypeRef>
-    ensures { result ≡ entity_under name.now (view body.now) }
+fn read_under(name: &str, body: Node<'_, '_>) -> Option<TypeRef>
+    ensures { result ≡ entity_under name.now (view body.entry) }
 {
     match name {
         "func" => index_of(body).map(TypeRef::Func),
@@ -112,8 +116,8 @@ fn read_under(name: &str, body: &Value<'_>) -> Option<TypeRef>
 }
 
 /// What an import or an export of a core module is.
-pub fn read_entity(value: &Value<'_>) -> Option<TypeRef>
-    ensures { result ≡ entity_of (view value.now) }
+pub fn read_entity(value: Node<'_, '_>) -> Option<TypeRef>
+    ensures { result ≡ entity_of (view value.entry) }
 {
     let name = sort_name(value)?;
     read_under(name, member_at(value, name)?)

@@ -1,17 +1,18 @@
 // Core value types.
-ghost use Rattle.std.specs.Prelude.{◌≡◌, option_map};
+ghost use Rattle.std.specs.Prelude.{◌≡◌, Bool, option_map};
 ghost use Rattle.serde_json.specs.Find.{get};
 ghost use Rattle.wcv_listing.specs.Core.{number_names, heap_names, named_heap, heap_of, ref_type_of, core_value_of};
-ghost use Rattle.wcv_listing.specs.Fields.{named, mark};
+ghost use Rattle.wcv_listing.specs.Fields.{both, named, mark};
 ghost use Rattle.wcv_listing.specs.Seen.{view};
 
+use crate::list::named_in;
+use crate::node::Node;
 use crate::value::{bool_of, has_only_keys, index_of, member_at, text_of};
-use json::Value;
 use wcv_core::{AbstractHeap, HeapType, RefType, ValType};
 
 /// The mark under a key, which is false where it is absent, or `None` where what is there is no Boolean.
-pub fn mark_at(value: &Value<'_>, key: &str) -> Option<bool>
-    ensures { result ≡ mark (get key.now (view value.now)) }
+pub fn mark_at(value: Node<'_, '_>, key: &str) -> Option<bool>
+    ensures { result ≡ mark (get key.now (view value.entry)) }
 {
     match member_at(value, key) {
         None => Some(false),
@@ -19,52 +20,65 @@ pub fn mark_at(value: &Value<'_>, key: &str) -> Option<bool>
     }
 }
 
+/// The marks under two keys.
+pub fn marks_at(value: Node<'_, '_>, first: &str, second: &str) -> Option<(bool, bool)>
+    ensures { result ≡ both (λ (a b : Bool). (a, b)) (mark (get first.now (view value.entry))) (mark (get second.now (view value.entry))) }
+{
+    let a = mark_at(value, first)?;
+    let b = mark_at(value, second)?;
+    Some((a, b))
+}
+
 // The type of that name that is no reference.
 fn number_named(name: &str) -> Option<ValType>
     ensures { result ≡ named number_names name.now }
 {
-    match name {
-        "i32" => Some(ValType::I32),
-        "i64" => Some(ValType::I64),
-        "f32" => Some(ValType::F32),
-        "f64" => Some(ValType::F64),
-        "v128" => Some(ValType::V128),
-        _ => None,
-    }
+    named_in(
+        &[
+            ("i32", ValType::I32),
+            ("i64", ValType::I64),
+            ("f32", ValType::F32),
+            ("f64", ValType::F64),
+            ("v128", ValType::V128),
+        ],
+        name,
+    )
 }
 
 // The heap type of that name.
 fn heap_named(name: &str) -> Option<AbstractHeap>
     ensures { result ≡ named heap_names name.now }
 {
-    match name {
-        "func" => Some(AbstractHeap::Func),
-        "nofunc" => Some(AbstractHeap::NoFunc),
-        "extern" => Some(AbstractHeap::Extern),
-        "noextern" => Some(AbstractHeap::NoExtern),
-        "any" => Some(AbstractHeap::Any),
-        "eq" => Some(AbstractHeap::Eq),
-        "i31" => Some(AbstractHeap::I31),
-        "struct" => Some(AbstractHeap::Struct),
-        "array" => Some(AbstractHeap::Array),
-        "none" => Some(AbstractHeap::None),
-        "exn" => Some(AbstractHeap::Exn),
-        "noexn" => Some(AbstractHeap::NoExn),
-        _ => None,
-    }
+    named_in(
+        &[
+            ("func", AbstractHeap::Func),
+            ("nofunc", AbstractHeap::NoFunc),
+            ("extern", AbstractHeap::Extern),
+            ("noextern", AbstractHeap::NoExtern),
+            ("any", AbstractHeap::Any),
+            ("eq", AbstractHeap::Eq),
+            ("i31", AbstractHeap::I31),
+            ("struct", AbstractHeap::Struct),
+            ("array", AbstractHeap::Array),
+            ("none", AbstractHeap::None),
+            ("exn", AbstractHeap::Exn),
+            ("noexn", AbstractHeap::NoExn),
+        ],
+        name,
+    )
 }
 
 // A heap type by its name.
-fn read_named_heap(value: &Value<'_>) -> Option<HeapType>
-    ensures { result ≡ named_heap (view value.now) }
+fn read_named_heap(value: Node<'_, '_>) -> Option<HeapType>
+    ensures { result ≡ named_heap (view value.entry) }
 {
     let name = text_of(value)?;
     heap_named(name).map(HeapType::Abstract)
 }
 
 // A heap type by its name, or a core type by its index.
-fn read_heap(value: &Value<'_>) -> Option<HeapType>
-    ensures { result ≡ heap_of (view value.now) }
+fn read_heap(value: Node<'_, '_>) -> Option<HeapType>
+    ensures { result ≡ heap_of (view value.entry) }
 {
     match text_of(value) {
         Some(name) => heap_named(name).map(HeapType::Abstract),
@@ -73,11 +87,11 @@ fn read_heap(value: &Value<'_>) -> Option<HeapType>
 }
 
 /// A reference type.
-pub fn read_ref_type(value: &Value<'_>) -> Option<RefType>
-    ensures { result ≡ ref_type_of (view value.now) }
+pub fn read_ref_type(value: Node<'_, '_>) -> Option<RefType>
+    ensures { result ≡ ref_type_of (view value.entry) }
 {
     if has_only_keys(value, &["ref", "null"]) {
-        let heap = read_heap(member_at(value, "ref")?)?;
+        let heap = member_at(value, "ref").and_then(read_heap)?;
         let nullable = mark_at(value, "null")?;
         Some(RefType {
             nullable,
@@ -85,9 +99,8 @@ pub fn read_ref_type(value: &Value<'_>) -> Option<RefType>
             heap,
         })
     } else if has_only_keys(value, &["ref", "null", "shared"]) {
-        let heap = read_named_heap(member_at(value, "ref")?)?;
-        let nullable = mark_at(value, "null")?;
-        let shared = mark_at(value, "shared")?;
+        let heap = member_at(value, "ref").and_then(read_named_heap)?;
+        let (nullable, shared) = marks_at(value, "null", "shared")?;
         Some(RefType {
             nullable,
             shared,
@@ -99,8 +112,8 @@ pub fn read_ref_type(value: &Value<'_>) -> Option<RefType>
 }
 
 /// A core value type.
-pub fn read_core_value(value: &Value<'_>) -> Option<ValType>
-    ensures { result ≡ core_value_of (view value.now) }
+pub fn read_core_value(value: Node<'_, '_>) -> Option<ValType>
+    ensures { result ≡ core_value_of (view value.entry) }
 {
     match text_of(value) {
         Some(name) => number_named(name),

@@ -8,9 +8,11 @@ ghost use Rattle.wcv_listing.specs.Values.{value_of};
 ghost use Rattle.wcv_syntax.specs.View.{defined_view};
 
 use crate::list::{FromValue, read_list};
-use crate::value::{has_only_keys, index_of, is_null, list_of, member_at, only_key_of, text_of};
-use crate::value_type::{primitive_of, read_optional, read_params, read_value_type};
-use json::Value;
+use crate::node::Node;
+use crate::value::{
+    has_only_keys, index_of, is_null, member_at, one_or_two_of, only_key_of, pair_of, text_of,
+};
+use crate::value_type::{optional_type, primitive_of, read_optional, read_params, read_value_type};
 use std::alloc::Global;
 use wcv_core::{OutOfMemory, Text};
 use wcv_syntax::{ComponentDefinedType, ComponentValType, VariantCase};
@@ -21,23 +23,15 @@ impl FromValue for VariantCase {
 
     ghost meant = { case_of };
 
-    fn from_value(alloc: Global, value: &Value<'_>) -> Result<Option<VariantCase>, OutOfMemory> {
-        let Some(list) = list_of(value) else {
+    fn from_value(alloc: Global, value: Node<'_, '_>) -> Result<Option<VariantCase>, OutOfMemory> {
+        let Some((name, payload)) = one_or_two_of(value) else {
             return Ok(None);
         };
-        if list.len() != 1 && list.len() != 2 {
-            return Ok(None);
-        }
-        let Some(name) = text_of(&list[0]) else {
+        let Some(name) = text_of(name) else {
             return Ok(None);
         };
-        let ty = if list.len() == 2 {
-            let Some(payload) = read_value_type(&list[1]) else {
-                return Ok(None);
-            };
-            Some(payload)
-        } else {
-            None
+        let Some(ty) = optional_type(payload) else {
+            return Ok(None);
         };
         let name = Text::new(alloc, name)?;
         Ok(Some(VariantCase { name, ty }))
@@ -50,7 +44,7 @@ impl FromValue for Text {
 
     ghost meant = { as_str };
 
-    fn from_value(alloc: Global, value: &Value<'_>) -> Result<Option<Text>, OutOfMemory> {
+    fn from_value(alloc: Global, value: Node<'_, '_>) -> Result<Option<Text>, OutOfMemory> {
         match text_of(value) {
             Some(name) => Ok(Some(Text::new(alloc, name)?)),
             None => Ok(None),
@@ -59,34 +53,28 @@ impl FromValue for Text {
 }
 
 // A map by the types of its keys and its values.
-fn read_map(value: &Value<'_>) -> Option<ComponentDefinedType>
-    ensures { option_map defined_view result ≡ map_of (view value.now) }
+fn read_map(value: Node<'_, '_>) -> Option<ComponentDefinedType>
+    ensures { option_map defined_view result ≡ map_of (view value.entry) }
 {
-    let list = list_of(value)?;
-    if list.len() != 2 {
-        return None;
-    }
-    let key = read_value_type(&list[0])?;
-    let value = read_value_type(&list[1])?;
+    let (key, value) = pair_of(value)?;
+    let key = read_value_type(key)?;
+    let value = read_value_type(value)?;
     Some(ComponentDefinedType::Map(key, value))
 }
 
 // A list by the type of its elements and its length.
-fn read_fixed_list(value: &Value<'_>) -> Option<ComponentDefinedType>
-    ensures { option_map defined_view result ≡ fixed_list_of (view value.now) }
+fn read_fixed_list(value: Node<'_, '_>) -> Option<ComponentDefinedType>
+    ensures { option_map defined_view result ≡ fixed_list_of (view value.entry) }
 {
-    let list = list_of(value)?;
-    if list.len() != 2 {
-        return None;
-    }
-    let element = read_value_type(&list[0])?;
-    let length = index_of(&list[1])?;
+    let (element, length) = pair_of(value)?;
+    let element = read_value_type(element)?;
+    let length = index_of(length)?;
     Some(ComponentDefinedType::FixedLengthList(element, length))
 }
 
 // A result by the types of its payloads.
-fn read_result(value: &Value<'_>) -> Option<ComponentDefinedType>
-    ensures { option_map defined_view result ≡ result_of (view value.now) }
+fn read_result(value: Node<'_, '_>) -> Option<ComponentDefinedType>
+    ensures { option_map defined_view result ≡ result_of (view value.entry) }
 {
     if !has_only_keys(value, &["ok", "err"]) {
         return None;
@@ -97,8 +85,8 @@ fn read_result(value: &Value<'_>) -> Option<ComponentDefinedType>
 }
 
 // The type of what a future or a stream hands over, which null says is absent.
-fn read_payload(value: &Value<'_>) -> Option<Option<ComponentValType>>
-    ensures { result ≡ null_or value_of (view value.now) }
+fn read_payload(value: Node<'_, '_>) -> Option<Option<ComponentValType>>
+    ensures { result ≡ null_or value_of (view value.entry) }
 {
     if is_null(value) {
         Some(None)
@@ -108,8 +96,8 @@ fn read_payload(value: &Value<'_>) -> Option<Option<ComponentValType>>
 }
 
 // The form that is the only key of the object.
-fn form_name(value: &Value<'_>) -> Option<&'static str>
-    ensures { option_map (λ name. name.now) result ≡ only_key (map (λ row. row.0) defined_forms) (view value.now) }
+fn form_name(value: Node<'_, '_>) -> Option<&'static str>
+    ensures { option_map (λ name. name.now) result ≡ only_key (map (λ row. row.0) defined_forms) (view value.entry) }
 {
     only_key_of(
         value,
@@ -136,9 +124,9 @@ fn form_name(value: &Value<'_>) -> Option<&'static str>
 fn read_form(
     alloc: Global,
     name: &str,
-    body: &Value<'_>,
+    body: Node<'_, '_>,
 ) -> Result<Option<ComponentDefinedType>, OutOfMemory>
-    ensures { IfOk result (λ ty. option_map defined_view ty ≡ form_of name.now (view body.now)) }
+    ensures { IfOk result (λ ty. option_map defined_view ty ≡ form_of name.now (view body.entry)) }
 {
     match name {
         "record" => Ok(read_params(alloc, body)?.map(ComponentDefinedType::Record)),
@@ -162,9 +150,9 @@ fn read_form(
 /// A defined type.
 pub fn read_defined(
     alloc: Global,
-    value: &Value<'_>,
+    value: Node<'_, '_>,
 ) -> Result<Option<ComponentDefinedType>, OutOfMemory>
-    ensures { IfOk result (λ ty. option_map defined_view ty ≡ defined_of (view value.now)) }
+    ensures { IfOk result (λ ty. option_map defined_view ty ≡ defined_of (view value.entry)) }
 {
     if let Some(name) = text_of(value) {
         return Ok(primitive_of(name).map(ComponentDefinedType::Primitive));

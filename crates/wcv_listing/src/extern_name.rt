@@ -2,18 +2,18 @@
 ghost use Rattle.std.specs.Prelude.{◌≡◌, IfOk, option_map};
 ghost use Rattle.serde_json.specs.Find.{as_str, get};
 ghost use Rattle.wcv_listing.specs.Fields.{optional};
-ghost use Rattle.wcv_listing.specs.Forms.{plain, name_object_of, extern_name_of};
+ghost use Rattle.wcv_listing.specs.Forms.{name_object_of, extern_name_of};
 ghost use Rattle.wcv_listing.specs.Seen.{view};
 
+use crate::node::Node;
 use crate::value::{has_only_keys, member_at, text_at, text_of};
-use json::Value;
 use std::alloc::Global;
 use wcv_core::{OutOfMemory, Text};
 use wcv_syntax::ComponentExternName;
 
 // A text under a key that may be absent, or `None` where what is there is none.
-fn optional_text<'a>(value: &Value<'a>, key: &str) -> Option<Option<&'a str>>
-    ensures { option_map (option_map (λ text. text.now)) result ≡ optional as_str (get key.now (view value.now)) }
+fn optional_text<'a>(value: Node<'_, 'a>, key: &str) -> Option<Option<&'a str>>
+    ensures { option_map (option_map (λ text. text.now)) result ≡ optional as_str (get key.now (view value.entry)) }
 {
     match member_at(value, key) {
         None => Some(None),
@@ -31,25 +31,39 @@ fn own_text(alloc: Global, text: Option<&str>) -> Result<Option<Text>, OutOfMemo
     }
 }
 
-// A name without anything beside it.
-fn plain_name(alloc: Global, name: &str) -> Result<ComponentExternName, OutOfMemory>
-    ensures { IfOk result (λ n. n ≡ plain name.now) }
+// A name of these texts.
+fn own_name(
+    alloc: Global,
+    name: &str,
+    implements: Option<&str>,
+    suffix: Option<&str>,
+    id: Option<&str>,
+) -> Result<ComponentExternName, OutOfMemory>
+    ensures { IfOk result (λ n. n ≡ record {
+      name = name.now;
+      implements = option_map (λ text. text.now) implements.entry;
+      version_suffix = option_map (λ text. text.now) suffix.entry;
+      external_id = option_map (λ text. text.now) id.entry;
+    }) }
 {
     let name = Text::new(alloc, name)?;
+    let implements = own_text(alloc, implements)?;
+    let version_suffix = own_text(alloc, suffix)?;
+    let external_id = own_text(alloc, id)?;
     Ok(ComponentExternName {
         name,
-        implements: None,
-        version_suffix: None,
-        external_id: None,
+        implements,
+        version_suffix,
+        external_id,
     })
 }
 
 // A name with what stands beside it.
 fn read_name_object(
     alloc: Global,
-    value: &Value<'_>,
+    value: Node<'_, '_>,
 ) -> Result<Option<ComponentExternName>, OutOfMemory>
-    ensures { IfOk result (λ name. name ≡ name_object_of (view value.now)) }
+    ensures { IfOk result (λ name. name ≡ name_object_of (view value.entry)) }
 {
     if !has_only_keys(value, &["name", "implements", "suffix", "id"]) {
         return Ok(None);
@@ -66,27 +80,18 @@ fn read_name_object(
     let Some(id) = optional_text(value, "id") else {
         return Ok(None);
     };
-    let name = Text::new(alloc, name)?;
-    let implements = own_text(alloc, implements)?;
-    let version_suffix = own_text(alloc, suffix)?;
-    let external_id = own_text(alloc, id)?;
-    Ok(Some(ComponentExternName {
-        name,
-        implements,
-        version_suffix,
-        external_id,
-    }))
+    Ok(Some(own_name(alloc, name, implements, suffix, id)?))
 }
 
 /// The name of an import or an export.
 pub fn read_extern_name(
     alloc: Global,
-    value: &Value<'_>,
+    value: Node<'_, '_>,
 ) -> Result<Option<ComponentExternName>, OutOfMemory>
-    ensures { IfOk result (λ name. name ≡ extern_name_of (view value.now)) }
+    ensures { IfOk result (λ name. name ≡ extern_name_of (view value.entry)) }
 {
     match text_of(value) {
-        Some(name) => Ok(Some(plain_name(alloc, name)?)),
+        Some(name) => Ok(Some(own_name(alloc, name, None, None, None)?)),
         None => read_name_object(alloc, value),
     }
 }

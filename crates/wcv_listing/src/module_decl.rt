@@ -7,30 +7,27 @@ ghost use Rattle.wcv_syntax.specs.View.{module_decl_view, code_decl_view};
 
 use crate::core_entity::read_entity;
 use crate::list::FromValue;
+use crate::node::Node;
 use crate::sub_type::read_rec;
-use crate::value::{has_only_keys, index_of, list_of, member_at, text_of};
-use json::Value;
+use crate::value::{has_only_keys, index_of, member_at, pair_of, text_of, triple_of};
 use std::alloc::Global;
 use wcv_core::{OutOfMemory, Text};
 use wcv_syntax::{Import, ModuleDecl, ModuleTypeDeclaration};
 
 // An import.
-fn read_core_import(alloc: Global, value: &Value<'_>) -> Result<Option<Import>, OutOfMemory>
-    ensures { IfOk result (λ import. import ≡ core_import_of (view value.now)) }
+fn read_core_import(alloc: Global, value: Node<'_, '_>) -> Result<Option<Import>, OutOfMemory>
+    ensures { IfOk result (λ import. import ≡ core_import_of (view value.entry)) }
 {
-    let Some(list) = list_of(value) else {
+    let Some((module, name, ty)) = triple_of(value) else {
         return Ok(None);
     };
-    if list.len() != 3 {
-        return Ok(None);
-    }
-    let Some(module) = text_of(&list[0]) else {
+    let Some(module) = text_of(module) else {
         return Ok(None);
     };
-    let Some(name) = text_of(&list[1]) else {
+    let Some(name) = text_of(name) else {
         return Ok(None);
     };
-    let Some(ty) = read_entity(&list[2]) else {
+    let Some(ty) = read_entity(ty) else {
         return Ok(None);
     };
     let module = Text::new(alloc, module)?;
@@ -39,49 +36,23 @@ fn read_core_import(alloc: Global, value: &Value<'_>) -> Result<Option<Import>, 
 }
 
 // An export.
-fn read_core_export(alloc: Global, value: &Value<'_>) -> Result<Option<ModuleDecl>, OutOfMemory>
-    ensures { IfOk result (λ decl. option_map code_decl_view decl ≡ core_export_of (view value.now)) }
+fn read_core_export(alloc: Global, value: Node<'_, '_>) -> Result<Option<ModuleDecl>, OutOfMemory>
+    ensures { IfOk result (λ decl. option_map code_decl_view decl ≡ core_export_of (view value.entry)) }
 {
-    let Some(list) = list_of(value) else {
+    let Some((name, ty)) = pair_of(value) else {
         return Ok(None);
     };
-    if list.len() != 2 {
-        return Ok(None);
-    }
-    let Some(name) = text_of(&list[0]) else {
+    let Some(name) = text_of(name) else {
         return Ok(None);
     };
-    let Some(ty) = read_entity(&list[1]) else {
+    let Some(ty) = read_entity(ty) else {
         return Ok(None);
     };
     let name = Text::new(alloc, name)?;
     Ok(Some(ModuleDecl::Export { name, ty }))
 }
 
-/// A declaration of a core module.
-pub fn read_module_decl(alloc: Global, value: &Value<'_>) -> Result<Option<ModuleDecl>, OutOfMemory>
-    ensures { IfOk result (λ decl. option_map code_decl_view decl ≡ module_decl_of (view value.now)) }
-{
-    if has_only_keys(value, &["type"]) {
-        let Some(body) = member_at(value, "type") else {
-            return Ok(None);
-        };
-        Ok(read_rec(alloc, body)?.map(ModuleDecl::Ty))
-    } else if has_only_keys(value, &["import"]) {
-        let Some(body) = member_at(value, "import") else {
-            return Ok(None);
-        };
-        Ok(read_core_import(alloc, body)?.map(ModuleDecl::Import))
-    } else if has_only_keys(value, &["export"]) {
-        let Some(body) = member_at(value, "export") else {
-            return Ok(None);
-        };
-        read_core_export(alloc, body)
-    } else {
-        Ok(None)
-    }
-}
-
+// A declaration of a core module.
 impl FromValue for ModuleDecl {
     ghost Form = { Module_decl };
 
@@ -89,38 +60,39 @@ impl FromValue for ModuleDecl {
 
     ghost meant = { module_decl_of };
 
-    fn from_value(alloc: Global, value: &Value<'_>) -> Result<Option<ModuleDecl>, OutOfMemory> {
-        read_module_decl(alloc, value)
+    fn from_value(alloc: Global, value: Node<'_, '_>) -> Result<Option<ModuleDecl>, OutOfMemory> {
+        if has_only_keys(value, &["type"]) {
+            let Some(body) = member_at(value, "type") else {
+                return Ok(None);
+            };
+            Ok(read_rec(alloc, body)?.map(ModuleDecl::Ty))
+        } else if has_only_keys(value, &["import"]) {
+            let Some(body) = member_at(value, "import") else {
+                return Ok(None);
+            };
+            Ok(read_core_import(alloc, body)?.map(ModuleDecl::Import))
+        } else if has_only_keys(value, &["export"]) {
+            let Some(body) = member_at(value, "export") else {
+                return Ok(None);
+            };
+            read_core_export(alloc, body)
+        } else {
+            Ok(None)
+        }
     }
 }
 
 // An outer alias of a core type.
-fn read_core_outer(value: &Value<'_>) -> Option<ModuleTypeDeclaration>
-    ensures { option_map module_decl_view result ≡ core_outer_of (view value.now) }
+fn read_core_outer(value: Node<'_, '_>) -> Option<ModuleTypeDeclaration>
+    ensures { option_map module_decl_view result ≡ core_outer_of (view value.entry) }
 {
-    let list = list_of(value)?;
-    if list.len() != 2 {
-        return None;
-    }
-    let count = index_of(&list[0])?;
-    let index = index_of(&list[1])?;
+    let (count, index) = pair_of(value)?;
+    let count = index_of(count)?;
+    let index = index_of(index)?;
     Some(ModuleTypeDeclaration::OuterAlias { count, index })
 }
 
-/// A declaration of the type of a core module.
-pub fn read_type_decl(
-    alloc: Global,
-    value: &Value<'_>,
-) -> Result<Option<ModuleTypeDeclaration>, OutOfMemory>
-    ensures { IfOk result (λ decl. option_map module_decl_view decl ≡ type_decl_of (view value.now)) }
-{
-    if has_only_keys(value, &["alias"]) {
-        Ok(member_at(value, "alias").and_then(read_core_outer))
-    } else {
-        Ok(read_module_decl(alloc, value)?.map(ModuleDecl::in_module_type))
-    }
-}
-
+// A declaration of the type of a core module.
 impl FromValue for ModuleTypeDeclaration {
     ghost Form = { Module_decl };
 
@@ -130,8 +102,12 @@ impl FromValue for ModuleTypeDeclaration {
 
     fn from_value(
         alloc: Global,
-        value: &Value<'_>,
+        value: Node<'_, '_>,
     ) -> Result<Option<ModuleTypeDeclaration>, OutOfMemory> {
-        read_type_decl(alloc, value)
+        if has_only_keys(value, &["alias"]) {
+            Ok(member_at(value, "alias").and_then(read_core_outer))
+        } else {
+            Ok(ModuleDecl::from_value(alloc, value)?.map(ModuleDecl::in_module_type))
+        }
     }
 }

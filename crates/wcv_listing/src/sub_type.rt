@@ -2,7 +2,7 @@
 ghost use Rattle.std.specs.Prelude.{◌≡◌, IfOk, codes, map, option_map};
 ghost use Rattle.serde_json.specs.Find.{get};
 ghost use Rattle.wcv_listing.specs.Core.{core_value_of};
-ghost use Rattle.wcv_listing.specs.CoreForms.{packed_of, storage_of, field_of, core_func_of, composite_forms, composite_of, final_mark, super_of, sub_of, rec_of};
+ghost use Rattle.wcv_listing.specs.CoreForms.{storage_of, field_of, core_func_of, composite_forms, composite_of, final_mark, super_of, sub_of, rec_of};
 ghost use Rattle.wcv_listing.specs.Fields.{first_of, optional};
 ghost use Rattle.wcv_listing.specs.Seen.{view};
 ghost use Rattle.wcv_syntax.specs.Model.{Sub_form, core_func};
@@ -10,38 +10,28 @@ ghost use Rattle.wcv_syntax.specs.View.{composite_view, sub_view, rec_view};
 
 use crate::core_value::{mark_at, read_core_value};
 use crate::list::{FromValue, read_list};
-use crate::value::{bool_of, first_key, has_only_keys, index_of, list_of, member_at, text_of};
-use json::Value;
+use crate::node::Node;
+use crate::value::{bool_of, first_key, has_only_keys, index_of, member_at, pair_of, text_of};
 use std::alloc::Global;
 use wcv_core::{
     ArrayType, CompositeInnerType, FieldType, FuncType, OutOfMemory, RecGroup, StorageType,
     StructType, SubType, SuperType, ValType,
 };
 
-// The type that only a field can have, by its name.
-fn read_packed(value: &Value<'_>) -> Option<StorageType>
-    ensures { result ≡ packed_of (view value.now) }
-{
-    match text_of(value)? {
-        "i8" => Some(StorageType::I8),
-        "i16" => Some(StorageType::I16),
-        _ => None,
-    }
-}
-
 // The type of a field.
-fn read_storage(value: &Value<'_>) -> Option<StorageType>
-    ensures { result ≡ storage_of (view value.now) }
+fn read_storage(value: Node<'_, '_>) -> Option<StorageType>
+    ensures { result ≡ storage_of (view value.entry) }
 {
-    match read_packed(value) {
-        Some(packed) => Some(packed),
-        None => read_core_value(value).map(StorageType::Val),
+    match text_of(value) {
+        Some("i8") => Some(StorageType::I8),
+        Some("i16") => Some(StorageType::I16),
+        _ => read_core_value(value).map(StorageType::Val),
     }
 }
 
 // A field.
-fn read_field(value: &Value<'_>) -> Option<FieldType>
-    ensures { result ≡ field_of (view value.now) }
+fn read_field(value: Node<'_, '_>) -> Option<FieldType>
+    ensures { result ≡ field_of (view value.entry) }
 {
     if !has_only_keys(value, &["type", "mut"]) {
         return None;
@@ -56,7 +46,7 @@ impl FromValue for FieldType {
 
     ghost meant = { field_of };
 
-    fn from_value(_alloc: Global, value: &Value<'_>) -> Result<Option<FieldType>, OutOfMemory> {
+    fn from_value(_alloc: Global, value: Node<'_, '_>) -> Result<Option<FieldType>, OutOfMemory> {
         Ok(read_field(value))
     }
 }
@@ -66,25 +56,22 @@ impl FromValue for ValType {
 
     ghost meant = { core_value_of };
 
-    fn from_value(_alloc: Global, value: &Value<'_>) -> Result<Option<ValType>, OutOfMemory> {
+    fn from_value(_alloc: Global, value: Node<'_, '_>) -> Result<Option<ValType>, OutOfMemory> {
         Ok(read_core_value(value))
     }
 }
 
 // A function type.
-fn read_core_func(alloc: Global, value: &Value<'_>) -> Result<Option<FuncType>, OutOfMemory>
-    ensures { IfOk result (λ func. option_map (λ f. core_func f.params.items f.results.items) func ≡ core_func_of (view value.now)) }
+fn read_core_func(alloc: Global, value: Node<'_, '_>) -> Result<Option<FuncType>, OutOfMemory>
+    ensures { IfOk result (λ func. option_map (λ f. core_func f.params.items f.results.items) func ≡ core_func_of (view value.entry)) }
 {
-    let Some(list) = list_of(value) else {
+    let Some((params, results)) = pair_of(value) else {
         return Ok(None);
     };
-    if list.len() != 2 {
-        return Ok(None);
-    }
-    let Some(params) = read_list(alloc, &list[0])? else {
+    let Some(params) = read_list(alloc, params)? else {
         return Ok(None);
     };
-    let Some(results) = read_list(alloc, &list[1])? else {
+    let Some(results) = read_list(alloc, results)? else {
         return Ok(None);
     };
     Ok(Some(FuncType { params, results }))
@@ -94,9 +81,9 @@ fn read_core_func(alloc: Global, value: &Value<'_>) -> Result<Option<FuncType>, 
 fn read_composite(
     alloc: Global,
     name: &str,
-    body: &Value<'_>,
+    body: Node<'_, '_>,
 ) -> Result<Option<CompositeInnerType>, OutOfMemory>
-    ensures { IfOk result (λ ty. option_map composite_view ty ≡ composite_of name.now (view body.now)) }
+    ensures { IfOk result (λ ty. option_map composite_view ty ≡ composite_of name.now (view body.entry)) }
 {
     match name {
         "func" => Ok(read_core_func(alloc, body)?.map(CompositeInnerType::Func)),
@@ -117,15 +104,15 @@ fn read_composite(
 }
 
 // The name of the form under which the value has a body.
-fn form_name(value: &Value<'_>) -> Option<&'static str>
-    ensures { option_map (λ name. name.now) result ≡ first_of (map (λ row. row.0) composite_forms) (view value.now) }
+fn form_name(value: Node<'_, '_>) -> Option<&'static str>
+    ensures { option_map (λ name. name.now) result ≡ first_of (map (λ row. row.0) composite_forms) (view value.entry) }
 {
     first_key(value, &["func", "struct", "array"])
 }
 
 // Whether the type is final, which it is where nothing says so, or `None` where what is there is no Boolean.
-fn read_final(value: &Value<'_>) -> Option<bool>
-    ensures { result ≡ final_mark (get (codes "final") (view value.now)) }
+fn read_final(value: Node<'_, '_>) -> Option<bool>
+    ensures { result ≡ final_mark (get (codes "final") (view value.entry)) }
 {
     match member_at(value, "final") {
         None => Some(true),
@@ -134,8 +121,8 @@ fn read_final(value: &Value<'_>) -> Option<bool>
 }
 
 // The supertype, where there is one, or `None` where what is there is no index.
-fn read_super(value: &Value<'_>) -> Option<Option<SuperType>>
-    ensures { result ≡ optional super_of (get (codes "super") (view value.now)) }
+fn read_super(value: Node<'_, '_>) -> Option<Option<SuperType>>
+    ensures { result ≡ optional super_of (get (codes "super") (view value.entry)) }
 {
     match member_at(value, "super") {
         None => Some(None),
@@ -154,7 +141,7 @@ impl FromValue for SubType {
 
     ghost meant = { sub_of };
 
-    fn from_value(alloc: Global, value: &Value<'_>) -> Result<Option<SubType>, OutOfMemory> {
+    fn from_value(alloc: Global, value: Node<'_, '_>) -> Result<Option<SubType>, OutOfMemory> {
         let Some(name) = form_name(value) else {
             return Ok(None);
         };
@@ -186,8 +173,8 @@ impl FromValue for SubType {
 }
 
 /// A group of core types.
-pub fn read_rec(alloc: Global, value: &Value<'_>) -> Result<Option<RecGroup>, OutOfMemory>
-    ensures { IfOk result (λ group. option_map rec_view group ≡ rec_of (view value.now)) }
+pub fn read_rec(alloc: Global, value: Node<'_, '_>) -> Result<Option<RecGroup>, OutOfMemory>
+    ensures { IfOk result (λ group. option_map rec_view group ≡ rec_of (view value.entry)) }
 {
     Ok(read_list(alloc, value)?.map(|types| RecGroup { types }))
 }

@@ -5,9 +5,9 @@ ghost use Rattle.wcv_listing.specs.Fields.{optional};
 ghost use Rattle.wcv_listing.specs.Seen.{view};
 ghost use Rattle.wcv_listing.specs.Values.{primitive_named, value_of, param_of, params_of};
 
-use crate::list::{FromValue, read_list};
-use crate::value::{index_of, list_of, member_at, text_of};
-use json::Value;
+use crate::list::{FromValue, named_in, read_list};
+use crate::node::Node;
+use crate::value::{index_of, member_at, pair_of, text_of};
 use std::alloc::Global;
 use wcv_core::{OutOfMemory, PrimitiveValType, Text};
 use wcv_syntax::ComponentValType;
@@ -16,28 +16,30 @@ use wcv_syntax::ComponentValType;
 pub fn primitive_of(name: &str) -> Option<PrimitiveValType>
     ensures { result ≡ primitive_named name.now }
 {
-    match name {
-        "bool" => Some(PrimitiveValType::Bool),
-        "s8" => Some(PrimitiveValType::S8),
-        "u8" => Some(PrimitiveValType::U8),
-        "s16" => Some(PrimitiveValType::S16),
-        "u16" => Some(PrimitiveValType::U16),
-        "s32" => Some(PrimitiveValType::S32),
-        "u32" => Some(PrimitiveValType::U32),
-        "s64" => Some(PrimitiveValType::S64),
-        "u64" => Some(PrimitiveValType::U64),
-        "f32" => Some(PrimitiveValType::F32),
-        "f64" => Some(PrimitiveValType::F64),
-        "char" => Some(PrimitiveValType::Char),
-        "string" => Some(PrimitiveValType::String),
-        "error-context" => Some(PrimitiveValType::ErrorContext),
-        _ => None,
-    }
+    named_in(
+        &[
+            ("bool", PrimitiveValType::Bool),
+            ("s8", PrimitiveValType::S8),
+            ("u8", PrimitiveValType::U8),
+            ("s16", PrimitiveValType::S16),
+            ("u16", PrimitiveValType::U16),
+            ("s32", PrimitiveValType::S32),
+            ("u32", PrimitiveValType::U32),
+            ("s64", PrimitiveValType::S64),
+            ("u64", PrimitiveValType::U64),
+            ("f32", PrimitiveValType::F32),
+            ("f64", PrimitiveValType::F64),
+            ("char", PrimitiveValType::Char),
+            ("string", PrimitiveValType::String),
+            ("error-context", PrimitiveValType::ErrorContext),
+        ],
+        name,
+    )
 }
 
 /// A primitive by its name, or a type by its index.
-pub fn read_value_type(value: &Value<'_>) -> Option<ComponentValType>
-    ensures { result ≡ value_of (view value.now) }
+pub fn read_value_type(value: Node<'_, '_>) -> Option<ComponentValType>
+    ensures { result ≡ value_of (view value.entry) }
 {
     match text_of(value) {
         Some(name) => primitive_of(name).map(ComponentValType::Primitive),
@@ -45,14 +47,21 @@ pub fn read_value_type(value: &Value<'_>) -> Option<ComponentValType>
     }
 }
 
-/// A value type under a key that may be absent, or `None` where what is there is none.
-pub fn read_optional(value: &Value<'_>, key: &str) -> Option<Option<ComponentValType>>
-    ensures { result ≡ optional value_of (get key.now (view value.now)) }
+/// A value type that may be absent, or `None` where what is there is none.
+pub fn optional_type(value: Option<Node<'_, '_>>) -> Option<Option<ComponentValType>>
+    ensures { result ≡ optional value_of (option_map view value.entry) }
 {
-    match member_at(value, key) {
+    match value {
         None => Some(None),
         Some(ty) => read_value_type(ty).map(Some),
     }
+}
+
+/// A value type under a key that may be absent, or `None` where what is there is none.
+pub fn read_optional(value: Node<'_, '_>, key: &str) -> Option<Option<ComponentValType>>
+    ensures { result ≡ optional value_of (get key.now (view value.entry)) }
+{
+    optional_type(member_at(value, key))
 }
 
 impl FromValue for ComponentValType {
@@ -62,7 +71,7 @@ impl FromValue for ComponentValType {
 
     fn from_value(
         _alloc: Global,
-        value: &Value<'_>,
+        value: Node<'_, '_>,
     ) -> Result<Option<ComponentValType>, OutOfMemory> {
         Ok(read_value_type(value))
     }
@@ -76,18 +85,15 @@ impl FromValue for (Text, ComponentValType) {
 
     fn from_value(
         alloc: Global,
-        value: &Value<'_>,
+        value: Node<'_, '_>,
     ) -> Result<Option<(Text, ComponentValType)>, OutOfMemory> {
-        let Some(list) = list_of(value) else {
+        let Some((name, ty)) = pair_of(value) else {
             return Ok(None);
         };
-        if list.len() != 2 {
-            return Ok(None);
-        }
-        let Some(name) = text_of(&list[0]) else {
+        let Some(name) = text_of(name) else {
             return Ok(None);
         };
-        let Some(ty) = read_value_type(&list[1]) else {
+        let Some(ty) = read_value_type(ty) else {
             return Ok(None);
         };
         let name = Text::new(alloc, name)?;
@@ -98,9 +104,9 @@ impl FromValue for (Text, ComponentValType) {
 /// Names and value types.
 pub fn read_params(
     alloc: Global,
-    value: &Value<'_>,
+    value: Node<'_, '_>,
 ) -> Result<Option<Vec<(Text, ComponentValType)>>, OutOfMemory>
-    ensures { IfOk result (λ params. option_map (λ ps. ps.items) params ≡ params_of (view value.now)) }
+    ensures { IfOk result (λ params. option_map (λ ps. ps.items) params ≡ params_of (view value.entry)) }
 {
     read_list(alloc, value)
 }
