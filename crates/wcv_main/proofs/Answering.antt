@@ -1,4 +1,5 @@
 -- From what the parts of a run did to what it answers.
+use Rattle.wcv_core.specs.Limits.{max_listing}
 use Rattle.std.proofs.Common.{◌≡◌, ℕ, ◌+◌, ◌<◌, ◌≤◌, ◌⊎◌, inl, inr, List, [], ◌++◌, length, Option, Some, None, IfSome, refl, sym, ap, ◌∙◌, subst, arith, length-append, ⊎_elim}
 use Rattle.std.proofs.lemmas.List.{append-nil}
 use Rattle.std.proofs.lemmas.Bool.{cases_lt}
@@ -8,7 +9,7 @@ use Rattle.wcv_main.specs.declared.status.Status.{Status}
 use Rattle.wcv_main.specs.declared.status.Status.TheVariants as status
 use Rattle.wcv_core.specs.declared.error.ErrorKind.{ErrorKind}
 use Rattle.wcv_lower.specs.Context.{Context}
-use Rattle.wcv_main.specs.Due.{Due, wrong_words, too_long, no_json, no_shape, sections, limit, due_of_bytes, due_over, usage, IsExpected, accepted_text, refusal_text}
+use Rattle.wcv_main.specs.Due.{Due, wrong_words, too_long, no_json, no_shape, sections, due_of_bytes, due_over, usage, IsExpected, accepted_text, refusal_text}
 use Rattle.wcv_core.specs.Names.{base}
 use Rattle.wcv_state.proofs.EndChecks.{end_has_type}
 use Rattle.wcv_link.specs.Valid.{around_root, ValidTo, Refused}
@@ -75,15 +76,15 @@ module _ (words : List (List ℕ)) (left old new : Option (List ℕ)) (result s 
       cuts_told (Some d) due (inl w) may = absurd (no_stand_in s answer (subst MayStandIn w.0 may))
       cuts_told (Some d) due (inr w) may = (s, text, due, w.1)
 
-long_due : (bytes : List ℕ) → limit < length bytes → due_of_bytes bytes ≡ too_long
+long_due : (bytes : List ℕ) → max_listing < length bytes → due_of_bytes bytes ≡ too_long
 long_due bytes long = grind (arith, nat_tests)
 
 -- What is due is the same for the bytes that were read as for all that were left.
-pub same_due : (left after : Option (List ℕ)) (v : List ℕ) → Consumes left after v → length v ≤ limit + 1 → (length v ≤ limit → IsAtEnd after)
+pub same_due : (left after : Option (List ℕ)) (v : List ℕ) → Consumes left after v → length v ≤ max_listing + 1 → (length v ≤ max_listing → IsAtEnd after)
     → IfSome left (λ bytes. due_of_bytes v ≡ due_of_bytes bytes)
 same_due None after v read short end = tt
 same_due (Some bytes) None v read short end = absurd read
 same_due (Some bytes) (Some rest) v read short end = ⊎_elim
     (λ h. long_due v h ∙ sym (long_due bytes (omega (arith, ap length read, length-append v rest))))
     (λ h. ap due_of_bytes (sym (append-nil v) ∙ ap (λ r. v ++ r) (sym (end h)) ∙ sym read))
-    (cases_lt limit (length v))
+    (cases_lt max_listing (length v))

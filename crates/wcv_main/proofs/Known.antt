@@ -1,7 +1,7 @@
 -- Known bytes over two calls.
-use Rattle.std.proofs.Common.{ℕ, ◌+◌, ◌≤◌, List, [], ◌++◌, length, take, drop, Option, Some, None, refl, sym, ap, ◌∙◌, append_assoc, append-nil, length-append, arith}
+use Rattle.std.proofs.Common.{ℕ, ◌+◌, ◌≤◌, List, [], ◌++◌, length, take, drop, Option, Some, None, sym, ap, ◌∙◌, append_assoc, append-nil, length-append, arith}
 use Rattle.std.proofs.Math.Seq.{take-add}
-use Rattle.std.specs.Io.KnownBytes.{Appends, Consumes, Keeps}
+use Rattle.std.specs.Io.KnownBytes.{Appends, Consumes}
 use Rattle.wcv_main.specs.Pump.{ConsumesAtMost}
 
 pub consumes_both : (a b c : Option (List ℕ)) (xs ys : List ℕ) → Consumes a b xs → Consumes b c ys → Consumes a c (xs ++ ys)
@@ -9,10 +9,6 @@ consumes_both None b c xs ys h k = tt
 consumes_both (Some a) None c xs ys h k = absurd h
 consumes_both (Some a) (Some b) None xs ys h k = absurd k
 consumes_both (Some a) (Some b) (Some c) xs ys h k = h ∙ ap (λ r. xs ++ r) k ∙ sym (append_assoc xs ys c)
-
-pub consumes_nothing : (a : Option (List ℕ)) → Consumes a a []
-consumes_nothing None = tt
-consumes_nothing (Some a) = refl
 
 pub appends_nothing : (a : Option (List ℕ)) → Appends a a []
 appends_nothing None = tt
@@ -24,12 +20,6 @@ appends_both (Some a) None c xs ys h k = absurd h
 appends_both (Some a) (Some b) None xs ys h k = absurd k
 appends_both (Some a) (Some b) (Some c) xs ys h k = k ∙ ap (λ r. r ++ ys) h ∙ append_assoc a xs ys
 
-pub appends_kept : (a b c : Option (List ℕ)) (xs : List ℕ) → Appends a b xs → Keeps b c → Appends a c xs
-appends_kept None b c xs h k = tt
-appends_kept (Some a) None c xs h k = absurd h
-appends_kept (Some a) (Some b) None xs h k = absurd k
-appends_kept (Some a) (Some b) (Some c) xs h k = k ∙ h
-
 -- after the first n bytes of a text, m more
 pub appends_prefix : (a b c : Option (List ℕ)) (text : List ℕ) (n m : ℕ) → Appends a b (take n text) → Appends b c (take m (drop n text)) → Appends a c (take (n + m) text)
 appends_prefix a b c text n m h k = rw (take-add n m text) (appends_both a b c (take n text) (take m (drop n text)) h k)
@@ -37,14 +27,3 @@ appends_prefix a b c text n m h k = rw (take-add n m text) (appends_both a b c (
 -- what was kept, and then a few bytes
 pub at_most_more : (a b c : Option (List ℕ)) (xs : List ℕ) (m n : ℕ) → Consumes a b xs → ConsumesAtMost b c m → length xs + m ≤ n → ConsumesAtMost a c n
 at_most_more a b c xs m n h k fits = (xs ++ k.0, consumes_both a b c xs k.0 h k.1, omega (arith, length-append xs k.0, k.2))
-
-pub at_most_nothing : (a : Option (List ℕ)) (n : ℕ) → ConsumesAtMost a a n
-at_most_nothing a n = ([], consumes_nothing a, omega arith)
-
-pub at_most_kept : (a b : Option (List ℕ)) (n : ℕ) → Keeps a b → ConsumesAtMost a b n
-at_most_kept None b n h = ([], tt, omega arith)
-at_most_kept (Some a) None n h = absurd h
-at_most_kept (Some a) (Some b) n h = ([], sym h, omega arith)
-
-pub at_most_these : (a b : Option (List ℕ)) (xs : List ℕ) (n : ℕ) → Consumes a b xs → length xs ≤ n → ConsumesAtMost a b n
-at_most_these a b xs n h fits = (xs, h, fits)

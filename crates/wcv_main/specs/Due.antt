@@ -1,4 +1,5 @@
 -- What is due for the words and the bytes of a run, where nothing fails.
+use Rattle.wcv_core.specs.Limits.{max_listing}
 use Rattle.std.specs.Prelude.{ℕ, ◌≡◌, ◌⊎◌, List, [], ◌∷◌, ◌++◌, length, Bool, false, nat_lt, if◌then◌else◌, codes, Option, Some}
 use Rattle.std.specs.Option.{option_map}
 use Rattle.std.specs.Str.{bytes_eq}
@@ -39,12 +40,8 @@ due_of_outcome not_json = no_json
 due_of_outcome (bad_shape at) = no_shape at
 due_of_outcome (listed l) = sections l.features (items_of l.entries) l.end
 
--- the most bytes of a listing
-abbrev pub limit : ℕ
-limit = 67108864
-
 abbrev pub due_of_bytes : List ℕ → Due
-due_of_bytes bytes = if nat_lt limit (length bytes) then too_long else due_of_outcome (outcome_of bytes)
+due_of_bytes bytes = if nat_lt max_listing (length bytes) then too_long else due_of_outcome (outcome_of bytes)
 
 abbrev pub due_of : List (List ℕ) → List ℕ → Due
 due_of words bytes = if is_validate words then due_of_bytes bytes else wrong_words

@@ -7,15 +7,13 @@ ghost use Rattle.wcv_main.specs.declared.pump.ReadError.TheVariants.{Memory};
 
 use crate::ends::{Failed, Sink, Source};
 use std::alloc::{AllocError, Global};
-
-/// How many bytes a listing has at most.
-pub const LIMIT: usize = 67_108_864;
+use wcv_core::limits::MAX_LISTING;
 
 // How many bytes are asked for at once.
 const CHUNK: usize = 65_536;
 
 /// Why not all was read.
-#[derive(Clone, Copy, Debug, PartialEq, Eq)]
+#[derive(Clone, Copy)]
 pub enum ReadError {
     /// A read failed.
     Failed,
@@ -59,15 +57,15 @@ pub fn read_all<S: Source>(alloc: Global, source: &mut S) -> Result<Vec<u8>, Rea
     ensures failed { IsErrOf result ReadError.Failed → Rose (S.faults source.old) (S.faults source.new) }
     ensures steady { OnOk result (S.faults source.new ≡ S.faults source.old) }
     ensures memory { IsErrOf result ReadError.Memory → S.faults source.new ≡ S.faults source.old }
-    ensures bounded { ConsumesAtMost (S.left source.old) (S.left source.new) (LIMIT + 1) }
-    ensures limit { IfOk result (λ v. length v.items ≤ LIMIT + 1) }
+    ensures bounded { ConsumesAtMost (S.left source.old) (S.left source.new) (MAX_LISTING + 1) }
+    ensures limit { IfOk result (λ v. length v.items ≤ MAX_LISTING + 1) }
     ensures bytes { IfOk result (λ v. Consumes (S.left source.old) (S.left source.new) v.items) }
-    ensures end { IfOk result (λ v. length v.items ≤ LIMIT → IsAtEnd (S.left source.new)) }
+    ensures end { IfOk result (λ v. length v.items ≤ MAX_LISTING → IsAtEnd (S.left source.new)) }
 {
     let mut bytes = Vec::new(alloc);
     let mut chunk = [0u8; CHUNK];
-    while bytes.len() <= LIMIT {
-        let room = CHUNK.min(LIMIT + 1 - bytes.len());
+    while bytes.len() <= MAX_LISTING {
+        let room = CHUNK.min(MAX_LISTING + 1 - bytes.len());
         if read_some(source, &mut bytes, &mut chunk[..room])? == 0 {
             return Ok(bytes);
         }

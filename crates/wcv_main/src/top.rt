@@ -15,11 +15,12 @@ ghost use Rattle.wcv_main.specs.Report.{report, space_lengths as lengths_of_spac
 ghost use Rattle.wcv_main.specs.Answers.{IsOfListing, MayStandIn, Answers, Cuts, Finishes};
 
 use crate::ends::{Sink, Source};
-use crate::pump::{LIMIT, ReadError, read_all, write_all};
+use crate::pump::{ReadError, read_all, write_all};
 use crate::report::push_report;
 use crate::status::Status;
 use crate::words::Words;
 use std::alloc::{AllocError, Global};
+use wcv_core::limits::MAX_LISTING;
 use wcv_core::{Error, ErrorKind};
 use wcv_link::{Accepted, validate_sections};
 use wcv_listing::{Listing, ListingError, read_listing};
@@ -116,10 +117,10 @@ fn answer_listing(alloc: Global, listing: Listing) -> Result<(Status, String), A
 /// The status and the text that are due with the bytes of a listing.
 fn answer(alloc: Global, bytes: &[u8]) -> Result<(Status, String), AllocError>
     ensures kind { IfOk result (λ answer. IsOfListing answer.0) }
-    ensures long { IfOk result (λ answer. answer.0 ≡ Status.TooLong → LIMIT < length bytes.now) }
+    ensures long { IfOk result (λ answer. answer.0 ≡ Status.TooLong → MAX_LISTING < length bytes.now) }
     ensures due { IfOk result (λ answer. IsExpected (due_of_bytes bytes.now) answer.0 (string_bytes answer.1)) }
 {
-    if bytes.len() > LIMIT {
+    if bytes.len() > MAX_LISTING {
         let text = String::from_str(alloc, "listing is longer than 67108864 bytes\n")?;
         return Ok((Status::TooLong, text));
     }
@@ -168,8 +169,8 @@ pub fn run<S: Source, K: Sink>(alloc: Global, words: &Words, source: &mut S, sin
     ensures write_always { K.faults sink.old < K.faults sink.new → result ≡ Status.WriteFault }
     ensures source_later { S.faults source.old ≤ S.faults source.new }
     ensures sink_later { K.faults sink.old ≤ K.faults sink.new }
-    ensures bounded { ConsumesAtMost (S.left source.old) (S.left source.new) (LIMIT + 1) }
-    ensures too_long { result ≡ Status.TooLong → ConsumesExactly (S.left source.old) (S.left source.new) (LIMIT + 1) }
+    ensures bounded { ConsumesAtMost (S.left source.old) (S.left source.new) (MAX_LISTING + 1) }
+    ensures too_long { result ≡ Status.TooLong → ConsumesExactly (S.left source.old) (S.left source.new) (MAX_LISTING + 1) }
     ensures to_the_end { result ≡ Status.Done → IsAtEnd (S.left source.new) }
 {
     if !is_validate_command(words) {
