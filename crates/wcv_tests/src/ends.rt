@@ -1,6 +1,6 @@
 // The ends over readers, writers and memory, and what stands on them.
-use crate::driver::words_of;
 use crate::fakes::{BreaksOnce, FailsOnce};
+use std::alloc::Global;
 use std::test::Fail;
 use wcv_main::{
     Failed, MemorySink, MemorySource, ReadAdapter, Sink, Source, Words, WriteAdapter,
@@ -65,6 +65,17 @@ fn memory_fails_at_the_listed_calls(rt: HostRuntime) -> Result<(), Fail> {
     assert_eq!(rt; sink.write(b"e"), Ok(1));
     assert_eq!(rt; sink.taken(), &b"abe"[..]);
     Ok(())
+}
+
+// The words that a line holds, parted by single spaces.
+pub fn words_of(alloc: Global, line: &str) -> Result<Words, Fail> {
+    let mut words = Words::new(alloc);
+    if !line.is_empty() {
+        for word in line.split(' ') {
+            words.push(word).ok().ok_or("no memory")?;
+        }
+    }
+    Ok(words)
 }
 
 // The words and the bytes of runs, each with its status.

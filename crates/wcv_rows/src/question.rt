@@ -1,0 +1,125 @@
+// What a row asks.
+use std::alloc::{AllocError, Global};
+
+/// How a listing begins.
+const HEAD: &str = "{\"version\":1,\"items\":[";
+
+/// The words of a run, the listing, and which reads and writes fail.
+#[derive(Drop)]
+pub struct Question<'a> {
+    words: &'a str,
+    text: String,
+    is_whole: bool,
+    features: &'a str,
+    end: &'a str,
+    items: u64,
+    at: Option<&'a str>,
+    reads: &'a str,
+    writes: &'a str,
+}
+
+impl<'a> Question<'a> {
+    /// The command `validate` on no items.
+    pub fn new(alloc: Global) -> Question<'a> {
+        Question {
+            words: "validate",
+            text: String::new(alloc),
+            is_whole: false,
+            features: "",
+            end: "99",
+            items: 0,
+            at: None,
+            reads: "",
+            writes: "",
+        }
+    }
+
+    /// One line of a row: a word, and what stands behind it.
+    pub fn push_line(&mut self, line: &'a str) -> Result<(), AllocError> {
+        let (word, rest) = line.split_once(' ').unwrap_or((line, ""));
+        match word {
+            "" => {}
+            "words" => self.words = rest,
+            "features" => self.features = rest,
+            "end" => self.end = rest,
+            "reads" => self.reads = rest,
+            "writes" => self.writes = rest,
+            "listing" => return self.push_text(rest),
+            _ => return self.push_item(word, rest),
+        }
+        Ok(())
+    }
+
+    /// One line of a listing's own text.
+    fn push_text(&mut self, line: &str) -> Result<(), AllocError> {
+        if self.is_whole {
+            self.text.push_str("\n")?;
+        }
+        self.is_whole = true;
+        self.text.push_str(line)
+    }
+
+    /// One more item, by its form, with its offset behind `@` if it is not its position, and its body.
+    fn push_item(&mut self, form: &'a str, body: &str) -> Result<(), AllocError> {
+        self.text
+            .push_str(if self.items == 0 { HEAD } else { ",\n" })?;
+        match form.split_once('@') {
+            Some((form, at)) => {
+                self.at = Some(at);
+                write!(self.text, "{{\"at\":{at},\"{form}\":{body}}}")?;
+            }
+            None => {
+                let at = self.items;
+                self.at = None;
+                write!(self.text, "{{\"at\":{at},\"{form}\":{body}}}")?;
+            }
+        }
+        self.items = self.items.saturating_add(1);
+        Ok(())
+    }
+
+    /// Ends the listing.
+    pub fn finish(&mut self) -> Result<(), AllocError> {
+        if self.is_whole {
+            return Ok(());
+        }
+        if self.items == 0 {
+            self.text.push_str(HEAD)?;
+        }
+        let end = self.end;
+        write!(self.text, "],\"end\":{end}")?;
+        if !self.features.is_empty() {
+            let features = self.features;
+            write!(self.text, ",\"features\":{features}")?;
+        }
+        self.text.push_str("}")
+    }
+
+    pub fn words(&self) -> &str {
+        self.words
+    }
+
+    pub fn reads(&self) -> &str {
+        self.reads
+    }
+
+    pub fn writes(&self) -> &str {
+        self.writes
+    }
+
+    /// The offset at which a refusal is due: that which stands behind ` at `, or else that of the last item.
+    pub fn offset(&self, alloc: Global, due: &str) -> Result<String, AllocError> {
+        let (first, _) = due.split_once('\n').unwrap_or((due, ""));
+        let named = first.split_once(" at ").map(|(_, at)| at);
+        match named.or(self.at) {
+            Some("end") => String::from_str(alloc, self.end),
+            Some(at) => String::from_str(alloc, at),
+            None => self.items.saturating_sub(1).to_string(alloc),
+        }
+    }
+
+    /// The bytes of the listing.
+    pub fn into_bytes(self) -> Vec<u8> {
+        self.text.into_bytes()
+    }
+}
