@@ -1,6 +1,5 @@
 pub mod Closing
 pub mod Known
-pub mod Making
 pub mod Owning
 pub mod Standing
-pub mod States
+pub mod Opened

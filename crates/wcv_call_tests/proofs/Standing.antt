@@ -1,51 +1,48 @@
--- Entities that stand.
+-- What stands in an arena, and in one that grew.
 use Rattle.std.proofs.Common.{◌≡◌, sym, subst}
-use Rattle.std.specs.Prelude.{List, [], ◌∷◌, ◌++◌, Bool, true, false, cond, All}
-use Rattle.std.proofs.lemmas.List.Elements.{All-nil, All-push}
-use Rattle.wcv_types.proofs.All.{all-both}
+use Rattle.std.specs.Prelude.{List, [], ◌∷◌, ◌++◌, All}
+use Rattle.std.proofs.lemmas.List.Elements.{All-nil, All-cons, All-head, All-tail, All-push, All-append}
 use Rattle.wcv_types.specs.Arena.{Arena}
-use Rattle.wcv_types.specs.Entities.{any_part, EntityStands, EntryStands}
-use Rattle.wcv_types.specs.Sets.{has_type, with_type, AllStand}
-use Rattle.wcv_types.specs.Standing.{Stands, KeepsTrees}
-use Rattle.wcv_types.specs.Tree.{Text}
-use Rattle.wcv_types.specs.declared.ids.ComponentAnyTypeId.{ComponentAnyTypeId}
-use Rattle.wcv_types.specs.declared.ids.Part.{Part}
+use Rattle.wcv_types.specs.Entities.{EntityStands, EntryStands, SlotStands}
+use Rattle.wcv_types.specs.Standing.{Stands}
+use Rattle.wcv_types.specs.Tree.{Text, Extern_name, Role, export, import}
+use Rattle.wcv_types.specs.Unfold.{Slot, leaf, at, both, core, slot_refs, parts_in, entity_slot, entry_slots}
 use Rattle.wcv_types.specs.declared.item_map.ComponentItem.{ComponentItem}
 use Rattle.wcv_types.specs.declared.shapes.ComponentEntityType.{ComponentEntityType}
 use Rattle.wcv_syntax.specs.declared.name.ComponentExternName.{ComponentExternName}
 use Rattle.wcv_names.specs.Externs.{entry_of}
 
--- the same entity stands
-pub same_stands : (a : Arena) (x y : ComponentEntityType) → x ≡ y → EntityStands a y → EntityStands a x
-same_stands a x y e = subst (EntityStands a) (sym e)
-
-pub none_stand : (a : Arena) → All (EntryStands a) []
-none_stand a = All-nil (EntryStands a)
+abbrev Entry : Type 0
+Entry = Text × ComponentItem
 
 -- entries of a list, and one more behind them
 pub one_more_stands : (a : Arena) (es later : List (Text × ComponentItem)) (n : ComponentExternName) (x : ComponentEntityType) → later ≡ es ++ entry_of n x ∷ [] → EntityStands a x → All (EntryStands a) es → All (EntryStands a) later
 one_more_stands a es later n x e h k = subst (All (EntryStands a)) (sym e) (All-push (EntryStands a) es (entry_of n x) k h)
 
--- so by the item
-pub one_item_more_stands : (a : Arena) (es later : List (Text × ComponentItem)) (e : Text × ComponentItem) → later ≡ es ++ e ∷ [] → EntityStands a e.1.ty → All (EntryStands a) es → All (EntryStands a) later
-one_item_more_stands a es later e q h k = subst (All (EntryStands a)) (sym q) (All-push (EntryStands a) es e k h)
+-- so a list with one alone
+pub one_item_stands : (a : Arena) (es later : List (Text × ComponentItem)) (e : Text × ComponentItem) → es ≡ [] → later ≡ es ++ e ∷ [] → EntityStands a e.1.ty → All (EntryStands a) later
+one_item_stands a es later e n q h = subst (All (EntryStands a)) (sym q) (All-push (EntryStands a) es e (subst (All (EntryStands a)) (sym n) (All-nil (EntryStands a))) h)
 
--- no type
-pub no_part_stands : (a : Arena) (ps : List Part) → ps ≡ [] → All (Stands a) ps
-no_part_stands a ps e = subst (All (Stands a)) (sym e) (All-nil (Stands a))
+pub none_stand : (a : Arena) (es : List Entry) → es ≡ [] → All (EntryStands a) es
+none_stand a es e = subst (All (EntryStands a)) (sym e) (All-nil (EntryStands a))
 
--- types that stood stand in an arena that keeps them
-pub all_kept : (a b : Arena) (ps : List Part) → KeepsTrees a b → All (Stands a) ps → All (Stands b) ps
-all_kept a b ps k h = all-both (Stands a) (Stands a) (Stands b) (λ p i j. k.stands p i) ps h h
+-- ## The parts of entries that stand
 
--- and one more behind them
-pub one_part_more_stands : (a b : Arena) (ps later : List Part) (p : Part) → KeepsTrees a b → All (Stands a) ps → Stands b p → later ≡ ps ++ p ∷ [] → All (Stands b) later
-one_part_more_stands a b ps later p k h s e = subst (All (Stands b)) (sym e) (All-push (Stands b) ps p (all_kept a b ps k h) s)
+refs_stand : (a : Arena) (s : Slot) → SlotStands a s → All (Stands a) (slot_refs s)
+refs_stand a (leaf o) h = All-nil (Stands a)
+refs_stand a (core e) h = All-nil (Stands a)
+refs_stand a (at q) h = All-cons (Stands a) q [] h (All-nil (Stands a))
+refs_stand a (both c r) h = All-cons (Stands a) c (r ∷ []) h.0 (All-cons (Stands a) r [] h.1 (All-nil (Stands a)))
 
-either_stands : (a : Arena) (has : Bool) (ids : List ComponentAnyTypeId) (id : ComponentAnyTypeId) → AllStand a ids → Stands a (any_part id) → AllStand a (cond has ids (ids ++ id ∷ []))
-either_stands a true ids id h s = h
-either_stands a false ids id h s = All-push (λ x. Stands a (any_part x)) ids id h s
+pub entries_fit : (a : Arena) (role : Extern_name → Role) (es : List Entry) → All (EntryStands a) es → All (Stands a) (parts_in (entry_slots role es))
+entries_fit a role [] h = All-nil (Stands a)
+entries_fit a role (e ∷ es) h =
+    All-append (Stands a) (slot_refs (entity_slot e.1.ty)) (parts_in (entry_slots role es)) (refs_stand a (entity_slot e.1.ty) (All-head (EntryStands a) e es h))
+    (entries_fit a role es (All-tail (EntryStands a) e es h))
 
--- a set with one more type, which it may have already
-pub one_type_more_stands : (a : Arena) (ids later : List ComponentAnyTypeId) (id : ComponentAnyTypeId) → later ≡ with_type ids id → AllStand a ids → Stands a (any_part id) → AllStand a later
-one_type_more_stands a ids later id e h s = subst (AllStand a) (sym e) (either_stands a (has_type ids id) ids id h s)
+-- so of imports and exports
+pub both_fit : (a : Arena) (is es : List Entry) → All (EntryStands a) is → All (EntryStands a) es → All (Stands a) (parts_in (entry_slots import is ++ entry_slots export es))
+both_fit a [] es h k = entries_fit a export es k
+both_fit a (i ∷ is) es h k =
+    All-append (Stands a) (slot_refs (entity_slot i.1.ty)) (parts_in (entry_slots import is ++ entry_slots export es)) (refs_stand a (entity_slot i.1.ty) (All-head (EntryStands a) i is h))
+    (both_fit a is es (All-tail (EntryStands a) i is h) k)

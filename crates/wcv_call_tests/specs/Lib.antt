@@ -1,2 +1,2 @@
-pub mod Closed
-pub mod Entries
+pub mod Sorts
+pub mod States

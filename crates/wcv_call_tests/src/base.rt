@@ -1,73 +1,23 @@
-// Labels, texts, places, refusals and maps.
-use crate::table::{Answers, hold};
-use std::alloc::Global;
+// Labels, maps and messages.
 use std::test::Fail;
-use wcv_core::{
-    Error, ErrorKind, Excerpt, IndexMapAppendOnly, KebabString, LabelSet, Place, Text, is_label,
-};
-
-// One text is empty.
-const LABELS: &str = "\
-a => true a
-foo-x => true foo-x
-FOO-x => true FOO-x
-a-1 => true a-1
-a1-B2 => true a1-B2
- => false -
-- => false -
--a => false -
-a- => false -
-a--b => false -
-1a => false -
-Foo => false -
-a_b => false -
-a.b => false -
-é => false -";
-
-// Whether a text is a label, by the question and by what is made of it.
-struct IsLabel;
-
-impl Answers for IsLabel {
-    fn answer(&self, alloc: Global, asked: &str) -> Result<String, Fail> {
-        let is = is_label(asked);
-        match KebabString::new(alloc, asked)? {
-            Some(label) => Ok(format!(in alloc; "{is} {}", label.as_str())?),
-            None => Ok(format!(in alloc; "{is} -")?),
-        }
-    }
-}
+use wcv_core::{Error, ErrorKind, Excerpt, IndexMapAppendOnly, KebabString};
 
 #[test]
-fn labels_are_words_joined_by_dashes(rt: HostRuntime) -> Result<(), Fail> {
-    hold(rt.alloc(), LABELS, &IsLabel)
-}
-
-#[test]
-fn labels_of_one_list_differ_in_more_than_case(rt: HostRuntime) -> Result<(), Fail> {
-    let mut labels = LabelSet::new(rt.alloc());
-    for text in "a-b a ab b-a".split(' ') {
-        assert!(rt; labels.insert(text)?, "{text}");
-    }
-    for text in "a-B a-b A-B A AB Ab B-A".split(' ') {
-        assert!(rt; !labels.insert(text)?, "{text}");
-    }
-    Ok(())
-}
-
-#[test]
-fn texts_are_kept(rt: HostRuntime) -> Result<(), Fail> {
-    let text = Text::new(rt.alloc(), "naïve")?;
-    assert_eq!(rt; text.as_str(), "naïve");
-    Ok(())
-}
-
-#[test]
-fn places_are_kept(rt: HostRuntime) -> Result<(), Fail> {
+fn a_label_is_kept(rt: HostRuntime) -> Result<(), Fail> {
     let alloc = rt.alloc();
-    let mut map = IndexMapAppendOnly::new(alloc);
-    map.insert(5u64, Place::new(alloc, &[3, 0, 7])?)?;
-    let place = map.get(&5).ok_or("no place")?;
-    assert_eq!(rt; place.positions(), [3, 0, 7].as_slice());
+    let label = KebabString::new(alloc, "FOO-x1")?.ok_or("no label")?;
+    assert_eq!(rt; label.as_str(), "FOO-x1");
+    assert!(rt; KebabString::new(alloc, "foo-")?.is_none());
+    Ok(())
+}
+
+#[test]
+fn a_map_gives_its_pairs_in_order(rt: HostRuntime) -> Result<(), Fail> {
+    let mut map = IndexMapAppendOnly::new(rt.alloc());
+    map.insert(7u64, 1u64)?;
+    map.insert(3, 2)?;
+    assert!(rt; map.iter().next() == Some((&7, &1)));
+    assert!(rt; map.into_iter().next() == Some((7, 1)));
     Ok(())
 }
 

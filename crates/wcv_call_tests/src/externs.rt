@@ -1,23 +1,95 @@
-// Which entries may join a list of exports, by their names.
+// Which names a value, an instance and a component may have, and how such entries count.
 ghost use Rattle.std.specs.Prelude.{All, IfOk, OnOk};
+ghost use Rattle.wcv_call_tests.specs.Sorts.{AreOf};
 ghost use Rattle.wcv_names.specs.FuncTrees.{names_in};
 ghost use Rattle.wcv_names.specs.KeySet.{HasKeys};
-ghost use Rattle.wcv_state.specs.Contents.{StateStands};
 ghost use Rattle.wcv_types.specs.Entities.{EntityStands, EntryStands};
 
-use crate::declared::{Question, answer_over};
-use crate::extern_rows::{COUNT, PLAIN, ROWS, TYPES, UPPER};
+use crate::sorts::{Sorts, of_each_sort};
 use crate::table::{Answers, hold};
-use crate::written::value_word;
 use bitflags::Flags;
 use std::alloc::Global;
-use std::fmt::Write;
 use std::test::Fail;
-use wcv_core::{Error, ExternKind, Text, WasmFeatures};
+use wcv_core::{Error, ExternKind, PrimitiveValType, Text, WasmFeatures};
 use wcv_names::{ComponentNameContext, NameSet};
-use wcv_state::ComponentState;
-use wcv_syntax::{ComponentExternName, ComponentValType as WrittenType};
+use wcv_syntax::ComponentExternName;
 use wcv_types::{ComponentEntityType, ComponentValType, ItemMap, TypeAlloc, TypeInfo};
+
+/// The letters of sorts (a value, an instance and a component), and a name or names of one list: what becomes of them.
+const ROWS: &str = "\
+vic x => ok
+vic x-Y => ok
+vic a:b/c => ok
+vic a:b/c@1.2.3 => ok
+vic x id=e => ok
+vic a:b/c id=e => ok
+vic 1x => Name at 0
+vic a:b => Name at 0
+vic a:b/c@1 => Name at 0
+vic [constructor]r => MethodName at 0
+vic [method]r.f => MethodName at 0
+vic [get]x => MethodName at 0
+vic [set]x => MethodName at 0
+vic [method][get]r.f => MethodName at 0
+vic [static][set]r.f => MethodName at 0
+vic [static]r.f => MethodName at 0
+i x implements=a:b/c => ok
+i x implements=a:b/c@1.2.3 => ok
+i x implements=a:b/c id=e => ok
+vc x implements=a:b/c => Name at 0
+i a:b/c implements=a:b/d => Name at 0
+i [static]r.f implements=a:b/c => Name at 0
+i [get]x implements=a:b/c => Name at 0
+i x implements=y => Name at 0
+i x implements= => Name at 0
+i x implements=a:b/c@1 => Name at 0
+i a:b/c@1 suffix=.2.3 => ok
+i x implements=a:b/c@1.2 suffix=.3 => ok
+i x implements=a:b/c@1 suffix=.2.3 id=e => ok
+vc a:b/c@1 suffix=.2.3 => Name at 0
+i a:b/c@1 suffix=.2 => Name at 0
+i a:b/c@1.2.3 suffix= => Name at 0
+i a:b/c suffix=.2.3 => Name at 0
+i x suffix=.2.3 => Name at 0
+i x implements=a:b/c suffix=.2.3 => Name at 0
+i a:b/c suffix=.0 => Name at 0
+i a:b/c suffix=1.0.0 => Name at 0
+i a:b/c@1.2 suffix=.3-rc.1+b => ok
+i a:b/c@1.2. suffix=3 => ok
+i a:b/c@1.2.3 suffix=.4 => Name at 0
+i a:b/c@1.2.3 suffix=4 => ok
+vic x | y => ok
+vic x | x => Conflict at 1
+vic x | X => Conflict at 1
+vic x | y | x => Conflict at 2
+vic a:b/c | a:b/c => Conflict at 1
+vic a:b/c | a:b/d | c => ok
+i x implements=a:b/c | y implements=a:b/c => ok
+i x implements=a:b/c | x => Conflict at 1";
+
+/// So by the default features.
+const PLAIN: &str = "\
+vic x => ok
+vic a:b/c@1.2.3 => ok
+vic x id=e => Feature at 0
+vic [get]x => Feature at 0
+i x implements=a:b/c => Feature at 0
+i a:b/c@1 suffix=.2.3 => Feature at 0
+vic x | y id=e => Feature at 1";
+
+/// A letter, a name, and how large and how deep the whole is before: what it is then.
+const COUNTS: &str = "\
+v x 1 1 => 2 2
+i x 1 1 => 3 3
+c x 1 1 => 4 4
+c x id=e 5 9 => 8 9
+v x 999999 512 => 1000000 512
+v x 1000000 1 => Limit at 0
+v x 1 513 => Limit at 0
+i x 999998 1 => 1000000 3
+i x 999999 1 => Limit at 0
+c x 999997 1 => 1000000 4
+c x 999998 1 => Limit at 0";
 
 // One text beside a name.
 fn add_beside(alloc: Global, words: &str, whole: &mut ComponentExternName) -> Result<(), Fail> {
@@ -32,8 +104,8 @@ fn add_beside(alloc: Global, words: &str, whole: &mut ComponentExternName) -> Re
     Ok(())
 }
 
-/// The whole name: a name, and maybe texts beside it.
-pub fn whole_name(alloc: Global, words: &str) -> Result<ComponentExternName, Fail> {
+// The whole name: a name, and maybe texts beside it.
+fn whole_name(alloc: Global, words: &str) -> Result<ComponentExternName, Fail> {
     let (name, beside) = words.split_once(' ').unwrap_or((words, ""));
     let mut whole = ComponentExternName {
         name: Text::new(alloc, name)?,
@@ -47,113 +119,32 @@ pub fn whole_name(alloc: Global, words: &str) -> Result<ComponentExternName, Fai
     Ok(whole)
 }
 
-// Whether an entry brings a function type.
-fn is_func(entry: &str) -> bool {
-    entry.find(" = type ").is_none() && entry.find(" = value ").is_none()
+/// The letter of an entity, the names under which it joins, how large and how deep the whole is before, and the
+/// features.
+#[derive(Drop)]
+struct Row<'a> {
+    letter: char,
+    names: &'a str,
+    info: TypeInfo,
+    features: WasmFeatures,
 }
 
-// The types of a row: those that stand before, and the function types of the entries.
-fn types_of(alloc: Global, row: &str) -> Result<String, Fail> {
-    let mut text = String::from_str(alloc, TYPES)?;
-    for entry in row.split(" | ") {
-        let (_, words) = entry.split_once(" = ").ok_or("an entry has no type")?;
-        if is_func(entry) {
-            write!(text, "; {words}")?;
-        }
-    }
-    Ok(text)
-}
-
-/// A value of the defined type at an index.
-fn defined_of(
-    index: u32,
-    state: &ComponentState,
-    types: &TypeAlloc,
-) -> Result<ComponentEntityType, Fail>
-    requires { StateStands types.now state.now }
-    ensures { IfOk result (λ x. EntityStands types.now x) }
+/// The entity of a letter.
+fn of_letter(letter: char, types: &TypeAlloc, ids: Sorts) -> ComponentEntityType
+    requires { AreOf types.now ids }
+    ensures { EntityStands types.now result }
 {
     let _ = types;
-    match state.defined_type_at(index, 0) {
-        Ok(id) => Ok(ComponentEntityType::Value(ComponentValType::Ty(id))),
-        Err(_) => Err("there is no such defined type".into()),
+    match letter {
+        'i' => ComponentEntityType::Instance(ids.instance),
+        'c' => ComponentEntityType::Component(ids.component),
+        _ => ComponentEntityType::Value(ComponentValType::Primitive(PrimitiveValType::U32)),
     }
 }
 
-/// A value of the written type.
-fn value_of(
-    ty: WrittenType,
-    state: &ComponentState,
-    types: &TypeAlloc,
-) -> Result<ComponentEntityType, Fail>
-    requires { StateStands types.now state.now }
-    ensures { IfOk result (λ x. EntityStands types.now x) }
-{
-    match ty {
-        WrittenType::Primitive(primitive) => Ok(ComponentEntityType::Value(
-            ComponentValType::Primitive(primitive),
-        )),
-        WrittenType::Ty(index) => defined_of(index, state, types),
-    }
-}
-
-/// The type at an index.
-fn type_of(
-    index: u32,
-    state: &ComponentState,
-    types: &TypeAlloc,
-) -> Result<ComponentEntityType, Fail>
-    requires { StateStands types.now state.now }
-    ensures { IfOk result (λ x. EntityStands types.now x) }
-{
-    let _ = types;
-    match state.component_type_at(index, 0) {
-        Ok(id) => Ok(ComponentEntityType::Ty {
-            created: id,
-            referenced: id,
-        }),
-        Err(_) => Err("there is no such type".into()),
-    }
-}
-
-/// A function of the type at an index.
-fn func_of(
-    index: u32,
-    state: &ComponentState,
-    types: &TypeAlloc,
-) -> Result<ComponentEntityType, Fail>
-    requires { StateStands types.now state.now }
-    ensures { IfOk result (λ x. EntityStands types.now x) }
-{
-    let _ = types;
-    match state.function_type_at(index, 0) {
-        Ok(id) => Ok(ComponentEntityType::Func(id)),
-        Err(_) => Err("there is no such function type".into()),
-    }
-}
-
-/// The entity that the words of an entry give; a function has the type at the index.
-fn entity(
-    words: &str,
-    index: u32,
-    state: &ComponentState,
-    types: &TypeAlloc,
-) -> Result<ComponentEntityType, Fail>
-    requires { StateStands types.now state.now }
-    ensures { IfOk result (λ x. EntityStands types.now x) }
-{
-    if let Some(word) = words.strip_prefix("value ") {
-        return value_of(value_word(word)?, state, types);
-    }
-    if let Some(word) = words.strip_prefix("type ") {
-        return type_of(word.parse()?, state, types);
-    }
-    func_of(index, state, types)
-}
-
-/// An entity joins the exports under a whole name.
+/// An entity joins the imports under a whole name.
 #[tactic(auto, using(crate::proofs::Standing::one_more_stands))]
-pub fn enter(
+fn enter(
     context: &ComponentNameContext,
     name: &ComponentExternName,
     ty: &ComponentEntityType,
@@ -172,7 +163,7 @@ pub fn enter(
 {
     context.validate_extern(
         name,
-        ExternKind::Export,
+        ExternKind::Import,
         ty,
         types,
         offset,
@@ -183,219 +174,187 @@ pub fn enter(
     )
 }
 
-/// An entry of a row joins; a function has the type at the index.
-fn join(
-    alloc: Global,
+/// An entity under names, one after another.
+fn entered(
     context: &ComponentNameContext,
-    entry: &str,
-    index: u32,
-    state: &ComponentState,
+    row: &Row<'_>,
     types: &TypeAlloc,
-    offset: u64,
+    ids: Sorts,
     keys: &mut NameSet,
     items: &mut ItemMap,
-    features: &WasmFeatures,
+    info: &mut TypeInfo,
 ) -> Result<Result<(), Error>, Fail>
-    requires stands { StateStands types.now state.now }
+    requires ids { AreOf types.now ids }
     requires items { All (EntryStands types.now) items.old }
     requires keys { HasKeys keys.old (names_in items.old) }
     ensures items { IfOk result (λ r. OnOk r (All (EntryStands types.now) items.new)) }
     ensures keys { IfOk result (λ r. OnOk r (HasKeys keys.new (names_in items.new))) }
 {
-    let (name, words) = entry.split_once(" = ").ok_or("an entry has no type")?;
-    let name = whole_name(alloc, name)?;
-    let ty = entity(words, index, state, types)?;
-    let mut info = TypeInfo { size: 1, depth: 1 };
-    Ok(enter(
-        context, &name, &ty, types, offset, keys, items, &mut info, features,
-    ))
-}
-
-/// What becomes of the entries of a row.
-fn joined(
-    alloc: Global,
-    context: &ComponentNameContext,
-    row: &str,
-    state: &ComponentState,
-    types: &TypeAlloc,
-    keys: &mut NameSet,
-    items: &mut ItemMap,
-    features: &WasmFeatures,
-) -> Result<Result<(), Error>, Fail>
-    requires stands { StateStands types.now state.now }
-    requires items { All (EntryStands types.now) items.old }
-    requires keys { HasKeys keys.old (names_in items.old) }
-{
-    let mut index = COUNT;
     let mut offset: u64 = 0;
-    for entry in row.split(" | ") {
-        if let Err(error) = join(
-            alloc, context, entry, index, state, types, offset, keys, items, features,
-        )? {
+    let ty = of_letter(row.letter, types, ids);
+    for words in row.names.split(" | ") {
+        let name = whole_name(types.allocator(), words)?;
+        if let Err(error) = enter(
+            context,
+            &name,
+            &ty,
+            types,
+            offset,
+            keys,
+            items,
+            info,
+            &row.features,
+        ) {
             return Ok(Err(error));
-        }
-        if is_func(entry) {
-            index = index.saturating_add(1);
         }
         offset = offset.saturating_add(1);
     }
     Ok(Ok(()))
 }
 
-// The names of resources: the first resource has that name.
-fn names(alloc: Global, name: &str, state: &ComponentState) -> Result<ComponentNameContext, Fail> {
-    let mut context = ComponentNameContext::new(alloc);
-    match state.resource_at(0, 0) {
-        Ok(id) => context.register(name, id)?,
-        Err(_) => return Err("there is no resource".into()),
+/// So in a list with no entry: what the whole is then.
+fn joined(row: &Row<'_>, types: &TypeAlloc, ids: Sorts) -> Result<Result<TypeInfo, Error>, Fail>
+    requires { AreOf types.now ids }
+{
+    let mut keys = NameSet::new(types.allocator());
+    let mut items = ItemMap::new(types.allocator());
+    let mut info = row.info;
+    let context = ComponentNameContext::new(types.allocator());
+    match entered(&context, row, types, ids, &mut keys, &mut items, &mut info)? {
+        Ok(()) => Ok(Ok(info)),
+        Err(error) => Ok(Err(error)),
     }
-    Ok(context)
 }
 
-/// So in a list with no entry.
-fn joined_alone(
-    alloc: Global,
-    context: &ComponentNameContext,
-    row: &str,
-    state: &ComponentState,
-    types: &TypeAlloc,
-    features: &WasmFeatures,
-) -> Result<Result<(), Error>, Fail>
-    requires { StateStands types.now state.now }
-{
-    let mut keys = NameSet::new(alloc);
-    let mut items = ItemMap::new(alloc);
-    joined(
-        alloc, context, row, state, types, &mut keys, &mut items, features,
-    )
+// So over types of each sort.
+fn found(alloc: Global, row: &Row<'_>) -> Result<Result<TypeInfo, Error>, Fail> {
+    let (types, ids) = of_each_sort(alloc)?;
+    joined(row, &types, ids)
 }
 
-/// The answer of a row, over its types.
-fn row_answer(
-    alloc: Global,
-    row: &Row<'_>,
-    state: &ComponentState,
-    types: &TypeAlloc,
-) -> Result<String, Fail>
-    requires { StateStands types.now state.now }
-{
-    let context = names(alloc, row.name, state)?;
-    match joined_alone(alloc, &context, row.entries, state, types, row.features)? {
-        Ok(()) => Ok(String::from_str(alloc, "ok")?),
+// What becomes of the row.
+fn answer_words(alloc: Global, row: &Row<'_>) -> Result<String, Fail> {
+    match found(alloc, row)? {
+        Ok(_) => Ok(String::from_str(alloc, "ok")?),
         Err(error) => Ok(format!(in alloc; "{} at {}", error.kind(), error.offset())?),
     }
 }
 
-// The name of the first resource, the entries, and the features that hold.
-#[derive(Drop)]
-struct Row<'a> {
-    name: &'a str,
-    entries: &'a str,
-    features: &'a WasmFeatures,
-}
-
-impl Question for Row<'_> {
-    fn answer(
-        &self,
-        alloc: Global,
-        state: &mut ComponentState,
-        types: &mut TypeAlloc,
-    ) -> Result<String, Fail> {
-        row_answer(alloc, self, state, types)
-    }
-}
-
-// The name of the first resource, and the features that hold.
+// What becomes of a name under these features, which is the same for all letters.
 #[derive(Clone, Copy)]
-struct Rows {
-    name: &'static str,
+struct Named {
     features: WasmFeatures,
 }
 
-// What becomes of a row.
-impl Answers for Rows {
+impl Answers for Named {
     fn answer(&self, alloc: Global, asked: &str) -> Result<String, Fail> {
-        let text = types_of(alloc, asked)?;
-        let row = Row {
-            name: self.name,
-            entries: asked,
-            features: &self.features,
-        };
-        answer_over(alloc, text.as_str(), &row)
-    }
-}
-
-// So of rows.
-fn hold_rows(
-    alloc: Global,
-    rows: &str,
-    name: &'static str,
-    features: WasmFeatures,
-) -> Result<(), Fail> {
-    hold(alloc, rows, &Rows { name, features })
-}
-
-#[test]
-fn entries_look_as_their_names_say(rt: HostRuntime) -> Result<(), Fail> {
-    hold_rows(rt.alloc(), ROWS, "r", WasmFeatures::all())?;
-    hold_rows(rt.alloc(), UPPER, "FOO", WasmFeatures::all())?;
-    hold_rows(rt.alloc(), PLAIN, "r", WasmFeatures::default())
-}
-
-// A name, and the index of a resource.
-#[derive(Drop)]
-struct Asked<'a> {
-    name: &'a str,
-    index: u32,
-}
-
-// Whether the reference to that resource has the name, and whether some reference has it.
-fn named(
-    alloc: Global,
-    context: &ComponentNameContext,
-    asked: &Asked<'_>,
-    state: &ComponentState,
-) -> Result<String, Fail> {
-    match state.resource_at(asked.index, 0) {
-        Ok(id) => {
-            let named = context.is_named(&id, asked.name);
-            let some = context.has_name(asked.name)?;
-            Ok(format!(in alloc; "{named} {some}")?)
+        let (letters, names) = asked.split_once(' ').ok_or("a row has no name")?;
+        let mut line = String::new(alloc);
+        for letter in letters.chars() {
+            let row = Row {
+                letter,
+                names,
+                info: TypeInfo { size: 1, depth: 1 },
+                features: self.features,
+            };
+            let answer = answer_words(alloc, &row)?;
+            if !line.is_empty() && line != answer {
+                return Err("letters are answered differently".into());
+            }
+            line = answer;
         }
-        Err(_) => Err("there is no resource".into()),
+        Ok(line)
     }
 }
-
-impl Question for Asked<'_> {
-    fn answer(
-        &self,
-        alloc: Global,
-        state: &mut ComponentState,
-        types: &mut TypeAlloc,
-    ) -> Result<String, Fail> {
-        let _ = types;
-        let context = names(alloc, "r-S", state)?;
-        named(alloc, &context, self, state)
-    }
-}
-
-struct NamedResources;
-
-impl Answers for NamedResources {
-    fn answer(&self, alloc: Global, asked: &str) -> Result<String, Fail> {
-        let (name, index) = asked.split_once(' ').ok_or("a name has no index")?;
-        let index = index.parse()?;
-        answer_over(alloc, "resource; resource", &Asked { name, index })
-    }
-}
-
-const NAMES: &str = "\
-r-S 0 => true true
-r-s 0 => false false
-r-S 1 => false true
- 0 => false false";
 
 #[test]
-fn resources_have_names(rt: HostRuntime) -> Result<(), Fail> {
-    hold(rt.alloc(), NAMES, &NamedResources)
+fn names_are_for_their_sorts(rt: HostRuntime) -> Result<(), Fail> {
+    let features = WasmFeatures::all();
+    hold(rt.alloc(), ROWS, &Named { features })?;
+    let features = WasmFeatures::default();
+    hold(rt.alloc(), PLAIN, &Named { features })
+}
+
+// The row of a letter, a name, a size and a depth.
+fn counted_row(asked: &str) -> Result<Row<'_>, Fail> {
+    let (rest, depth) = asked.rsplit_once(' ').ok_or("a row has no depth")?;
+    let (rest, size) = rest.rsplit_once(' ').ok_or("a row has no size")?;
+    let (letter, names) = rest.split_once(' ').ok_or("a row has no name")?;
+    Ok(Row {
+        letter: letter.chars().next().ok_or("a row has no letter")?,
+        names,
+        info: TypeInfo {
+            size: size.parse()?,
+            depth: depth.parse()?,
+        },
+        features: WasmFeatures::all(),
+    })
+}
+
+// How large and how deep the whole is then.
+struct Counted;
+
+impl Answers for Counted {
+    fn answer(&self, alloc: Global, asked: &str) -> Result<String, Fail> {
+        match found(alloc, &counted_row(asked)?)? {
+            Ok(info) => Ok(format!(in alloc; "{} {}", info.size, info.depth)?),
+            Err(error) => Ok(format!(in alloc; "{} at {}", error.kind(), error.offset())?),
+        }
+    }
+}
+
+#[test]
+fn entries_count(rt: HostRuntime) -> Result<(), Fail> {
+    hold(rt.alloc(), COUNTS, &Counted)
+}
+
+/// An entity under a name.
+fn for_letter(
+    context: &ComponentNameContext,
+    letter: char,
+    names: &str,
+    types: &TypeAlloc,
+    ids: Sorts,
+    keys: &mut NameSet,
+    items: &mut ItemMap,
+    info: &mut TypeInfo,
+) -> Result<(), Fail>
+    requires ids { AreOf types.now ids }
+    requires items { All (EntryStands types.now) items.old }
+    requires keys { HasKeys keys.old (names_in items.old) }
+    ensures items { OnOk result (All (EntryStands types.now) items.new) }
+    ensures keys { OnOk result (HasKeys keys.new (names_in items.new)) }
+{
+    let row = Row {
+        letter,
+        names,
+        info: *info,
+        features: WasmFeatures::all(),
+    };
+    match entered(context, &row, types, ids, keys, items, info)? {
+        Ok(()) => Ok(()),
+        Err(_) => Err("a name is refused".into()),
+    }
+}
+
+/// An entity of each sort.
+pub fn of_all(types: &TypeAlloc, ids: Sorts) -> Result<ItemMap, Fail>
+    requires { AreOf types.now ids }
+    ensures { IfOk result (All (EntryStands types.now)) }
+{
+    let mut keys = NameSet::new(types.allocator());
+    let mut items = ItemMap::new(types.allocator());
+    let mut info = TypeInfo { size: 1, depth: 1 };
+    let context = ComponentNameContext::new(types.allocator());
+    for_letter(
+        &context, 'v', "v", types, ids, &mut keys, &mut items, &mut info,
+    )?;
+    let name = "i implements=a:b/c@1.2 suffix=.3 id=e";
+    for_letter(
+        &context, 'i', name, types, ids, &mut keys, &mut items, &mut info,
+    )?;
+    for_letter(
+        &context, 'c', "c", types, ids, &mut keys, &mut items, &mut info,
+    )?;
+    Ok(items)
 }

@@ -1,127 +1,73 @@
-// Core modules: what declarations make of one, and which are refused.
-ghost use Rattle.std.specs.Prelude.{All};
-ghost use Rattle.wcv_core.specs.CoreGroups.{total};
-ghost use Rattle.wcv_core.specs.CoreWritten.{IsKnown};
-ghost use Rattle.wcv_syntax.specs.ModuleTypes.{module_entries};
-
-use crate::module_entries::{export_words, import_words};
-use crate::module_rows::{PLAIN, ROWS};
-use crate::module_words::declarations;
-use crate::table::{Answers, hold};
+// What a core module is while its declarations are read.
+use crate::core_types::group;
 use bitflags::Flags;
 use std::alloc::Global;
-use std::fmt::Write;
 use std::test::Fail;
-use wcv_core::{Error, WasmFeatures};
+use wcv_core::{ErrorKind, MemoryType, Text, WasmFeatures};
 use wcv_module::{Module, NoOuter};
+use wcv_syntax::{Import, ModuleTypeDeclaration, TypeRef};
 use wcv_types::TypeAlloc;
 
-/// The declarations join a module, one by one.
+pub const MEMORY: MemoryType = MemoryType {
+    initial: 1,
+    maximum: None,
+    memory64: false,
+    shared: false,
+    page_size_log2: 16,
+};
+
+// A function type and another name for it, a memory that is imported, and a function that is exported.
+fn declarations(alloc: Global) -> Result<Vec<ModuleTypeDeclaration>, Fail> {
+    let mut decls = Vec::new(alloc);
+    decls.push(ModuleTypeDeclaration::Ty(group(alloc)?))?;
+    decls.push(ModuleTypeDeclaration::OuterAlias { count: 0, index: 0 })?;
+    decls.push(ModuleTypeDeclaration::Import(Import {
+        module: Text::new(alloc, "m")?,
+        name: Text::new(alloc, "n")?,
+        ty: TypeRef::Memory(MEMORY),
+    }))?;
+    decls.push(ModuleTypeDeclaration::Export {
+        name: Text::new(alloc, "f")?,
+        ty: TypeRef::Func(1),
+    })?;
+    Ok(decls)
+}
+
+/// The module of these declarations, with nothing around it.
 #[tactic(auto, using(crate::proofs::Known::none_around))]
-fn add_all(
-    alloc: Global,
-    text: &str,
-    made: &mut Module,
-    types: &mut TypeAlloc,
-) -> Result<Result<(), Error>, Fail>
-    requires { All (IsKnown (total types.old.core)) (module_entries made.old) }
-{
-    let mut offset: u64 = 0;
-    for decl in declarations(alloc, text)? {
-        if let Err(error) = made.add_declaration(decl, &NoOuter, types, offset) {
-            return Ok(Err(error));
-        }
-        offset = offset.saturating_add(1);
-    }
-    Ok(Ok(()))
+fn declared(alloc: Global, types: &mut TypeAlloc) -> Result<Module, Fail> {
+    let decls = declarations(alloc)?;
+    let made = Module::declare(alloc, WasmFeatures::all(), decls, &NoOuter, types, 0);
+    Ok(made.ok().ok_or("no module")?)
 }
 
-// The ids of the types of a module.
-fn ids(alloc: Global, made: &Module) -> Result<String, Fail> {
-    let mut line = String::new(alloc);
-    for id in made.types() {
-        write!(line, " {}", id.index)?;
-    }
-    Ok(line)
-}
-
-// What a module is in the end: its size, its types, its imports and its exports.
-fn ended(alloc: Global, made: &Module) -> Result<String, Fail> {
-    match made.imports_for_module_type(9) {
-        Ok(imports) => {
-            let ids = ids(alloc, made)?;
-            let ins = import_words(alloc, &imports)?;
-            let outs = export_words(alloc, made.exports())?;
-            let size = made.size();
-            Ok(format!(in alloc; "{size} types{ids} in{ins} out{outs}")?)
-        }
-        Err(error) => Ok(format!(in alloc; "{} at {}", error.kind(), error.offset())?),
-    }
-}
-
-/// What becomes of declarations.
-fn added(
-    alloc: Global,
-    text: &str,
-    made: &mut Module,
-    types: &mut TypeAlloc,
-) -> Result<String, Fail>
-    requires { All (IsKnown (total types.old.core)) (module_entries made.old) }
-{
-    match add_all(alloc, text, made, types)? {
-        Ok(()) => ended(alloc, made),
-        Err(error) => Ok(format!(in alloc; "{} at {}", error.kind(), error.offset())?),
-    }
-}
-
-// So in a module with none.
-#[tactic(auto, using(crate::proofs::Known::empty_known))]
-fn declared(alloc: Global, text: &str, features: WasmFeatures) -> Result<String, Fail> {
-    let mut types = TypeAlloc::new(alloc, features);
-    let mut made = Module::new(alloc, features);
-    added(alloc, text, &mut made, &mut types)
-}
-
-#[derive(Clone, Copy)]
-struct DeclaredModule {
-    features: WasmFeatures,
-}
-
-impl Answers for DeclaredModule {
-    fn answer(&self, alloc: Global, asked: &str) -> Result<String, Fail> {
-        declared(alloc, asked, self.features)
-    }
+/// How many types, imports and exports it has, and how large it is.
+fn counts(made: &Module) -> (usize, usize, usize, u64) {
+    (
+        made.types().len(),
+        made.imports().len(),
+        made.exports().len(),
+        made.size(),
+    )
 }
 
 #[test]
 fn declarations_make_a_module(rt: HostRuntime) -> Result<(), Fail> {
-    let features = WasmFeatures::all();
-    hold(rt.alloc(), ROWS, &DeclaredModule { features })?;
-    let features = WasmFeatures::empty();
-    hold(rt.alloc(), PLAIN, &DeclaredModule { features })
-}
-
-// A function type with many parameters, and so many imports of it.
-fn large(alloc: Global, imports: usize) -> Result<String, Fail> {
-    let mut text = String::from_str(alloc, "rec func")?;
-    for k in 0..99_999 {
-        let _ = k;
-        text.push_str(" i32")?;
+    let mut types = TypeAlloc::new(rt.alloc(), WasmFeatures::all());
+    let made = declared(rt.alloc(), &mut types)?;
+    assert!(rt; counts(&made) == (2, 1, 1, 3));
+    assert!(rt;
+        made.imports_for_module_type(9)
+            .ok()
+            .ok_or("no imports")?
+            .len()
+            == 1
+    );
+    match made.outer_type_at(&NoOuter, 1, 0, 9) {
+        Ok(_) => Err("nothing is open around a module".into()),
+        Err(error) => {
+            assert!(rt; error.kind() == ErrorKind::OutOfBounds && error.offset() == 9);
+            Ok(())
+        }
     }
-    text.push_str(" ->")?;
-    for k in 0..imports {
-        write!(text, "; export e{k} func 0")?;
-    }
-    Ok(text)
-}
-
-#[test]
-fn a_module_has_a_greatest_size(rt: HostRuntime) -> Result<(), Fail> {
-    let alloc = rt.alloc();
-    for (exports, due) in [(9, "900001 types 0 in out e0 "), (10, "Limit at 10")] {
-        let text = large(alloc, exports)?;
-        let found = declared(alloc, text.as_str(), WasmFeatures::all())?;
-        assert!(rt; found.as_str().starts_with(due), "{exports}");
-    }
-    Ok(())
 }

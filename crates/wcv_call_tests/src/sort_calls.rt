@@ -1,19 +1,22 @@
-// Calls of the arena over types of each sort.
-ghost use Rattle.std.specs.Prelude.{All, IfOk, OnOk};
+// Calls of the arena over an instance, a component and a core instance.
+ghost use Rattle.std.specs.Prelude.{◌≡◌, ◌<◌, IfOk, OnOk};
+ghost use Rattle.wcv_call_tests.specs.Sorts.{AreOf};
 ghost use Rattle.wcv_types.specs.Entities.{any_part};
-ghost use Rattle.wcv_types.specs.Sets.{AllStand};
-ghost use Rattle.wcv_types.specs.Standing.{Stands};
+ghost use Rattle.wcv_types.specs.Standing.{KeepsTrees, Stands};
+ghost use Rattle.wcv_types.specs.declared.ids.Part.TheVariants as part;
 
-use crate::sort_call_rows::CALLS;
-use crate::sort_entries::{any_of, entries, part_of, resource_of};
-use crate::sort_shapes::{path_words, shape_words};
-use crate::sorts::{Numbered, SORTS, SortQuestion, answer_over_sorts};
-use crate::table::{Answers, hold};
+use crate::sorts::{Sorts, of_each_sort};
+use bitflags::Flags;
 use std::alloc::Global;
 use std::fmt::Write;
+use std::marker::Brand;
+use std::sync::ledger::{Blank, Ledger};
 use std::test::Fail;
+use wcv_core::{OutOfMemory, PrimitiveValType, WasmFeatures};
 use wcv_types::{
-    ComponentAnyTypeId, NodeSort, Part, Parts, ResourceSet, TypeAlloc, TypeInfo, TypeSet, TypeSort,
+    ComponentAnyTypeId, ComponentFuncType, ComponentFuncTypeId, ComponentInstanceTypeId,
+    ComponentTypeId, ComponentValType, CoreInstanceTypeKind, NodeSort, NodeStore, Part,
+    ResourceSet, Steps, TypeAlloc, TypeInfo, TypeSet, TypeSort,
 };
 
 // A type in words: its sort and its place, or of a reference the resource and the stamp.
@@ -26,23 +29,9 @@ fn part_words(alloc: Global, part: Part) -> Result<String, Fail> {
         Part::Module(id) => ("module", id.index),
         Part::CoreInstance(id) => ("core-instance", id.index),
         Part::Core(id) => ("core", id.index),
-        Part::Resource(id) => {
-            return Ok(format!(in alloc; "resource {}.{}", id.resource.index, id.stamp)?);
-        }
+        Part::Resource(id) => ("resource", id.stamp),
     };
     Ok(format!(in alloc; "{sort} {index}")?)
-}
-
-/// The parts of a node, in words.
-fn parts_of<S: NodeSort>(alloc: Global, types: &TypeAlloc, id: S) -> Result<String, Fail>
-    requires { Stands types.now (S.as_part id) }
-{
-    let mut line = String::new(alloc);
-    for k in 0..id.part_count(types) {
-        let part = part_words(alloc, id.part_at(types, k))?;
-        write!(line, " {part}")?;
-    }
-    Ok(line)
 }
 
 /// A node with its size, its depth and its parts.
@@ -51,195 +40,199 @@ fn node<S: NodeSort>(alloc: Global, types: &TypeAlloc, id: S) -> Result<String, 
 {
     let info = id.info(types);
     let name = part_words(alloc, id.part())?;
-    let parts = parts_of(alloc, types, id)?;
-    Ok(format!(in alloc; "{name}: {} {}{parts}", info.size, info.depth)?)
-}
-
-/// A type that is no node with its size, its depth and how many parts it has.
-fn leaf<S: TypeSort>(alloc: Global, types: &TypeAlloc, id: S) -> Result<String, Fail>
-    requires { Stands types.now (S.as_part id) }
-{
-    let info = id.info(types);
-    let name = part_words(alloc, id.part())?;
-    let count = id.part_count(types);
-    Ok(format!(in alloc; "{name}: {} {} {count} parts", info.size, info.depth)?)
-}
-
-/// A type with its size, its depth and its parts.
-fn whole(alloc: Global, types: &TypeAlloc, part: Part) -> Result<String, Fail>
-    requires { Stands types.now part }
-{
-    match part {
-        Part::Defined(id) => node(alloc, types, id),
-        Part::Func(id) => node(alloc, types, id),
-        Part::Instance(id) => node(alloc, types, id),
-        Part::Component(id) => node(alloc, types, id),
-        Part::Module(id) => node(alloc, types, id),
-        Part::CoreInstance(id) => node(alloc, types, id),
-        Part::Resource(id) => leaf(alloc, types, id),
-        Part::Core(id) => leaf(alloc, types, id),
-    }
-}
-
-/// The type of that number.
-fn known(alloc: Global, word: &str, types: &TypeAlloc, parts: &Parts) -> Result<String, Fail>
-    requires { All (Stands types.now) parts.now }
-{
-    whole(alloc, types, part_of(word, types, parts)?)
-}
-
-/// What the type of that number is made of.
-fn shape(alloc: Global, word: &str, types: &TypeAlloc, parts: &Parts) -> Result<String, Fail>
-    requires { All (Stands types.now) parts.now }
-{
-    shape_words(alloc, types, part_of(word, types, parts)?)
-}
-
-// Resources in words.
-fn resources(alloc: Global, set: &ResourceSet) -> Result<String, Fail> {
-    let mut line = String::from_str(alloc, "free")?;
-    for k in 0..set.len() {
-        if let Some(id) = set.get_index(k) {
-            write!(line, " {}", id.index)?;
-        }
+    let mut line = format!(in alloc; "{name}: {} {}", info.size, info.depth)?;
+    for k in 0..id.part_count(types) {
+        let part = part_words(alloc, id.part_at(types, k))?;
+        write!(line, " {part}")?;
     }
     Ok(line)
 }
 
-/// What is free in the type of that number.
-fn free(alloc: Global, word: &str, types: &TypeAlloc, parts: &Parts) -> Result<String, Fail>
-    requires { All (Stands types.now) parts.now }
+/// Of each sort a node.
+fn nodes(alloc: Global, types: &TypeAlloc, ids: Sorts) -> Result<String, Fail>
+    requires { AreOf types.now ids }
 {
-    let id = any_of(part_of(word, types, parts)?, types)?;
-    let mut set = ResourceSet::new(alloc);
-    types.free_variables_any_type_id(id, &mut set)?;
-    resources(alloc, &set)
+    let instance = node(alloc, types, ids.instance)?;
+    let component = node(alloc, types, ids.component)?;
+    let made = node(alloc, types, ids.made)?;
+    Ok(format!(in alloc; "{instance}\n{component}\n{made}")?)
 }
 
-/// One more type joins a set.
-fn join(id: ComponentAnyTypeId, types: &TypeAlloc, set: &mut TypeSet) -> Result<(), Fail>
-    requires id { Stands types.now (any_part id) }
-    requires set { AllStand types.now set.old }
-    ensures { OnOk result (AllStand types.now set.new) }
+const NODES: &str = "\
+instance 0: 2 2 resource 0 resource 0
+component 1: 3 3 instance 0
+core-instance 2: 1 1";
+
+#[test]
+fn nodes_have_sizes_depths_and_parts(rt: HostRuntime) -> Result<(), Fail> {
+    let (types, ids) = of_each_sort(rt.alloc())?;
+    let found = nodes(rt.alloc(), &types, ids)?;
+    assert_eq!(rt; found.as_str(), NODES);
+    Ok(())
+}
+
+/// How many exports the types have.
+fn shapes(types: &TypeAlloc, ids: Sorts) -> [usize; 3]
+    requires { AreOf types.now ids }
 {
-    let _ = types;
-    match set.push(id) {
-        Ok(()) => Ok(()),
-        Err(error) => Err(error.into()),
+    let made = match &types.get(ids.made).kind {
+        CoreInstanceTypeKind::Instantiated(_) => 9,
+        CoreInstanceTypeKind::Exports(exports) => exports.len(),
+    };
+    let instance = types.get(ids.instance).exports.len();
+    let component = types.get(ids.component).exports.len();
+    [instance, component, made]
+}
+
+/// How many exports an instance has, by a view that is counted.
+fn viewed<L: Ledger>(types: &TypeAlloc, id: ComponentInstanceTypeId, blank: Blank) -> usize
+    requires stands { Stands types.now (part.Instance id) }
+    requires name { blank.name ≡ L.name }
+    requires parts { blank.parts ≡ L.parts }
+    requires some { 0 < blank.parts }
+{
+    let mut steps: Steps<L> = Steps::new(blank);
+    types.view(id, &mut steps).exports.len()
+}
+
+/// So in a count of its own.
+fn viewed_once(types: &TypeAlloc, ids: Sorts) -> usize
+    requires { AreOf types.now ids }
+{
+    viewed::<Brand>(types, ids.instance, Blank::new(1))
+}
+
+#[test]
+fn nodes_are_read(rt: HostRuntime) -> Result<(), Fail> {
+    let (types, ids) = of_each_sort(rt.alloc())?;
+    assert!(rt; shapes(&types, ids) == [1, 1, 0]);
+    assert!(rt; viewed_once(&types, ids) == 1);
+    Ok(())
+}
+
+/// The one resource that is free in a type.
+fn free_in(types: &TypeAlloc, id: ComponentAnyTypeId) -> Result<(usize, bool), Fail>
+    requires { Stands types.now (any_part id) }
+{
+    let mut free = ResourceSet::new(types.allocator());
+    types.free_variables_any_type_id(id, &mut free)?;
+    match free.get_index(0) {
+        Some(id) => Ok((free.len(), id.index == 0)),
+        None => Ok((0, false)),
     }
 }
 
-/// The set of the types of these numbers; `-` is none.
-fn set_of(alloc: Global, words: &str, types: &TypeAlloc, parts: &Parts) -> Result<TypeSet, Fail>
-    requires { All (Stands types.now) parts.now }
-    ensures { IfOk result (AllStand types.now) }
+/// Whether the contents of a type are named by the empty set.
+fn named(types: &TypeAlloc, id: ComponentAnyTypeId) -> Result<bool, OutOfMemory>
+    requires { Stands types.now (any_part id) }
 {
-    let mut set = TypeSet::new(alloc);
-    if words == "-" {
-        return Ok(set);
-    }
-    for word in words.split(' ') {
-        join(
-            any_of(part_of(word, types, parts)?, types)?,
-            types,
-            &mut set,
-        )?;
-    }
-    Ok(set)
+    types.all_valtypes_named(&id, &TypeSet::new(types.allocator()))
 }
 
-/// Whether the contents of a type are named by such a set.
-fn named(alloc: Global, words: &str, types: &TypeAlloc, parts: &Parts) -> Result<String, Fail>
-    requires { All (Stands types.now) parts.now }
+/// Of an instance and a component what is free in them, and whether their contents are named.
+fn asked(types: &TypeAlloc, ids: Sorts) -> Result<[(usize, bool, bool); 2], Fail>
+    requires { AreOf types.now ids }
 {
-    let (word, words) = words.split_once(" by ").ok_or("a set is missing")?;
-    let id = any_of(part_of(word, types, parts)?, types)?;
-    let set = set_of(alloc, words, types, parts)?;
-    Ok(format!(in alloc; "{}", types.all_valtypes_named(&id, &set)?)?)
+    let instance = ComponentAnyTypeId::Instance(ids.instance);
+    let component = ComponentAnyTypeId::Component(ids.component);
+    let (first, is_first) = free_in(types, instance)?;
+    let (second, is_second) = free_in(types, component)?;
+    Ok([
+        (first, is_first, named(types, instance)?),
+        (second, is_second, named(types, component)?),
+    ])
 }
 
-/// The resources of these numbers.
-fn resource_set(
-    alloc: Global,
-    words: &str,
-    types: &TypeAlloc,
-    parts: &Parts,
-) -> Result<ResourceSet, Fail>
-    requires { All (Stands types.now) parts.now }
+#[test]
+fn resources_are_free_and_contents_named(rt: HostRuntime) -> Result<(), Fail> {
+    let (types, ids) = of_each_sort(rt.alloc())?;
+    assert!(rt; asked(&types, ids)? == [(1, true, true), (1, true, true)]);
+    Ok(())
+}
+
+const U32: ComponentValType = ComponentValType::Primitive(PrimitiveValType::U32);
+
+const U8: ComponentValType = ComponentValType::Primitive(PrimitiveValType::U8);
+
+#[test]
+fn value_types_are_equal(rt: HostRuntime) -> Result<(), Fail> {
+    let types = TypeAlloc::new(rt.alloc(), WasmFeatures::all());
+    assert!(rt; types.val_type_eq(&U32, &U32) && !types.val_type_eq(&U32, &U8));
+    Ok(())
+}
+
+/// Whether nothing has to be named in a function type and in a value type.
+#[tactic(auto, using(wcv_types::proofs::Fitting::fits_plain))]
+fn plain(alloc: Global, types: &mut TypeAlloc) -> Result<[bool; 2], OutOfMemory> {
+    let shape = ComponentFuncType {
+        async_: true,
+        info: TypeInfo { size: 2, depth: 2 },
+        params: Vec::new(alloc),
+        result: Some(U32),
+    };
+    let id: ComponentFuncTypeId = types.push_ty(shape)?;
+    Ok([types.is_plain_func(id), types.is_plain_value(&U32)])
+}
+
+#[test]
+fn numbers_need_no_name(rt: HostRuntime) -> Result<(), Fail> {
+    let mut types = TypeAlloc::new(rt.alloc(), WasmFeatures::all());
+    assert!(rt; plain(rt.alloc(), &mut types)? == [true, true]);
+    Ok(())
+}
+
+/// The same type under a new identity.
+fn again(types: &mut TypeAlloc, id: ComponentAnyTypeId) -> Result<ComponentAnyTypeId, OutOfMemory>
+    requires { Stands types.old (any_part id) }
+    ensures made { IfOk result (λ made. Stands types.new (any_part made)) }
+    ensures stay { OnOk result (KeepsTrees types.old types.new) }
 {
-    let mut set = ResourceSet::new(alloc);
-    for word in words.split(' ') {
-        set.push(resource_of(word, types, parts)?.resource)?;
-    }
-    Ok(set)
+    types.with_unique(id)
 }
 
-/// The first paths through entries to resources.
-fn paths(alloc: Global, words: &str, types: &TypeAlloc, parts: &Parts) -> Result<String, Fail>
-    requires { All (Stands types.now) parts.now }
+/// The place of an instance under a new identity, and how many exports it has.
+fn instance_again(types: &mut TypeAlloc, id: ComponentInstanceTypeId) -> Result<(u64, usize), Fail>
+    requires { Stands types.old (part.Instance id) }
 {
-    let (text, words) = words.split_once(" of ").ok_or("a set is missing")?;
-    let exports = entries(alloc, text, types, parts)?;
-    let set = resource_set(alloc, words, types, parts)?;
-    path_words(
-        alloc,
-        "paths",
-        &types.explicit_resource_paths(&exports, &set)?,
-    )
-}
-
-/// The answer of a call by its name.
-fn answered(
-    alloc: Global,
-    call: &Call<'_>,
-    types: &TypeAlloc,
-    parts: &Parts,
-) -> Result<String, Fail>
-    requires { All (Stands types.now) parts.now }
-{
-    match call.name {
-        "type" => known(alloc, call.words, types, parts),
-        "shape" => shape(alloc, call.words, types, parts),
-        "free" => free(alloc, call.words, types, parts),
-        "named" => named(alloc, call.words, types, parts),
-        _ => paths(alloc, call.words, types, parts),
-    }
-}
-
-// The name of a call, and what stands behind it.
-#[derive(Drop)]
-struct Call<'a> {
-    name: &'a str,
-    words: &'a str,
-}
-
-// A type under a new identity, which is the last of the types.
-fn renewed(alloc: Global, word: &str, over: &mut Numbered) -> Result<String, Fail> {
-    over.renew(word)?;
-    let (types, parts) = over.lent();
-    known(alloc, "12", types, parts)
-}
-
-impl SortQuestion for Call<'_> {
-    fn answer(&self, alloc: Global, over: &mut Numbered) -> Result<String, Fail> {
-        if self.name == "renew" {
-            return renewed(alloc, self.words, over);
-        }
-        let (types, parts) = over.lent();
-        answered(alloc, self, types, parts)
+    match again(types, ComponentAnyTypeId::Instance(id))? {
+        ComponentAnyTypeId::Instance(id) => Ok((id.index, types.get(id).exports.len())),
+        _ => Err("an instance is none".into()),
     }
 }
 
-struct Calls;
-
-impl Answers for Calls {
-    fn answer(&self, alloc: Global, asked: &str) -> Result<String, Fail> {
-        let (name, words) = asked.split_once(' ').ok_or("a call has no words")?;
-        answer_over_sorts(alloc, SORTS, &Call { name, words })
+/// So of a component.
+fn component_again(types: &mut TypeAlloc, id: ComponentTypeId) -> Result<(u64, usize), Fail>
+    requires { Stands types.old (part.Component id) }
+{
+    match again(types, ComponentAnyTypeId::Component(id))? {
+        ComponentAnyTypeId::Component(id) => Ok((id.index, types.get(id).exports.len())),
+        _ => Err("a component is none".into()),
     }
 }
 
 #[test]
-fn calls_answer_over_each_sort(rt: HostRuntime) -> Result<(), Fail> {
-    hold(rt.alloc(), CALLS, &Calls)
+fn types_get_new_identities(rt: HostRuntime) -> Result<(), Fail> {
+    let (mut types, ids) = of_each_sort(rt.alloc())?;
+    assert!(rt; instance_again(&mut types, ids.instance)? == (3, 1));
+    let (mut types, ids) = of_each_sort(rt.alloc())?;
+    assert!(rt; component_again(&mut types, ids.component)? == (3, 1));
+    Ok(())
+}
+
+/// Whether a reference that is built again without parts stays as it is.
+fn resource_rebuilt(types: &mut TypeAlloc) -> Result<bool, OutOfMemory> {
+    let id = types.alloc_resource_id()?;
+    let parts = types.no_parts();
+    let made = types.rebuild(id, &parts)?;
+    Ok(made == id)
+}
+
+#[test]
+fn a_reference_has_no_parts(rt: HostRuntime) -> Result<(), Fail> {
+    let mut types = TypeAlloc::new(rt.alloc(), WasmFeatures::all());
+    assert!(rt; resource_rebuilt(&mut types)?);
+    assert!(rt; types.resources_made() == 1);
+    let second = types.alloc_resource_id()?;
+    assert!(rt; (second.resource().index, second.stamp) == (1, 1));
+    Ok(())
 }

@@ -1,36 +1,32 @@
-// States: what is pushed joins its space, what stands at an index, and written types give entities.
-ghost use Rattle.std.specs.Prelude.{◌≡◌, false, OnOk};
-ghost use Rattle.wcv_core.specs.Features.{default_features};
-ghost use Rattle.wcv_state.specs.Contents.{empty_state};
-ghost use Rattle.wcv_state.specs.declared.kind.ComponentKind.TheVariants as kind;
+// States: what is pushed stands at its index, and resources have representations.
+ghost use Rattle.std.specs.Prelude.{◌≡◌, ◌<◌, false, length, All, IfOk, OnOk};
+ghost use Rattle.wcv_call_tests.specs.States.{IsNew};
+ghost use Rattle.wcv_decls.specs.Stack.{IsOpen};
 
-use crate::declared::{Question, answer_over};
-use crate::table::{Answers, hold_parted};
+use crate::modules::MEMORY;
+use crate::states::{Question, answer_words};
 use std::alloc::Global;
 use std::test::Fail;
 use wcv_core::{
-    AbstractHeap, CoreTypeId, Error, ErrorKind, GlobalType, HeapType, MemoryType, OutOfMemory,
-    RefType, TableType, ValType, WasmFeatures,
+    AbstractHeap, CoreTypeId, Error, GlobalType, HeapType, MemoryType, OutOfMemory, RefType,
+    TableType, ValType, WasmFeatures,
 };
 use wcv_state::{ComponentKind, ComponentState, Space};
-use wcv_syntax::ComponentTypeRef;
 use wcv_types::{
     AliasableResourceId, ComponentAnyTypeId, ComponentCoreInstanceTypeId,
-    ComponentCoreModuleTypeId, ComponentCoreTypeId, ComponentEntityType, ComponentFuncTypeId,
-    ComponentInstanceTypeId, ResourceId, TypeAlloc,
+    ComponentCoreModuleTypeId, ComponentCoreTypeId, ComponentFuncTypeId, ComponentInstanceTypeId,
+    ResourceId, TypeAlloc,
 };
 
-const CORE: CoreTypeId = CoreTypeId { index: 0 };
+const CORE: CoreTypeId = CoreTypeId { index: 4 };
 
-const FUNC: ComponentFuncTypeId = ComponentFuncTypeId { index: 0 };
+const MODULE: ComponentCoreModuleTypeId = ComponentCoreModuleTypeId { index: 5 };
 
-const MEMORY: MemoryType = MemoryType {
-    initial: 1,
-    maximum: None,
-    memory64: false,
-    shared: false,
-    page_size_log2: 16,
-};
+const MADE: ComponentCoreInstanceTypeId = ComponentCoreInstanceTypeId { index: 6 };
+
+const FUNC: ComponentFuncTypeId = ComponentFuncTypeId { index: 7 };
+
+const INSTANCE: ComponentInstanceTypeId = ComponentInstanceTypeId { index: 8 };
 
 const TABLE: TableType = TableType {
     element_type: RefType {
@@ -50,137 +46,177 @@ const GLOBAL: GlobalType = GlobalType {
     shared: false,
 };
 
-// The spaces into which there are pushes: one into the first, two into the second, and so on.
-const SPACES: [Space; 11] = [
-    Space::CoreTypes,
-    Space::CoreFuncs,
-    Space::CoreTags,
-    Space::CoreModules,
-    Space::CoreInstances,
-    Space::CoreMemories,
-    Space::CoreTables,
-    Space::CoreGlobals,
-    Space::Types,
-    Space::Funcs,
-    Space::Instances,
-];
-
-/// One push into a space of what is no core item.
-fn push(state: &mut ComponentState, space: Space) -> Result<(), OutOfMemory>
+/// One push into each space of core items.
+fn push_core(state: &mut ComponentState) -> Result<(), OutOfMemory>
     requires { state.old.spent ≡ false }
     ensures { OnOk result (state.new.spent ≡ false) }
 {
-    match space {
-        Space::Types => state.push_type(ComponentAnyTypeId::Func(FUNC)),
-        Space::Funcs => state.push_func(FUNC),
-        Space::Instances => state.push_instance(ComponentInstanceTypeId { index: 0 }),
-        _ => Ok(()),
-    }
+    state.push_core_type(ComponentCoreTypeId::Sub(CORE))?;
+    state.push_core_func(CORE)?;
+    state.push_core_tag(CORE)?;
+    state.push_core_module(MODULE)?;
+    state.push_core_instance(MADE)?;
+    state.push_core_memory(MEMORY)?;
+    state.push_core_table(TABLE)?;
+    state.push_core_global(GLOBAL)
 }
 
-/// One push into a space of what has a core type.
-fn push_typed(state: &mut ComponentState, space: Space) -> Result<(), OutOfMemory>
+/// One push into each other space that has one.
+fn push_others(state: &mut ComponentState) -> Result<(), OutOfMemory>
     requires { state.old.spent ≡ false }
     ensures { OnOk result (state.new.spent ≡ false) }
 {
-    match space {
-        Space::CoreTypes => state.push_core_type(ComponentCoreTypeId::Sub(CORE)),
-        Space::CoreFuncs => state.push_core_func(CORE),
-        Space::CoreTags => state.push_core_tag(CORE),
-        Space::CoreMemories => state.push_core_memory(MEMORY),
-        _ => push(state, space),
+    state.push_type(ComponentAnyTypeId::Func(FUNC))?;
+    state.push_func(FUNC)?;
+    state.push_instance(INSTANCE)
+}
+
+// Whether an answer is that one.
+fn is<T: PartialEq + Drop>(found: Result<T, Error>, due: T) -> bool {
+    match found {
+        Ok(found) => found == due,
+        Err(_) => false,
     }
 }
 
-/// One push into a space.
-fn push_any(state: &mut ComponentState, space: Space) -> Result<(), OutOfMemory>
-    requires { state.old.spent ≡ false }
-    ensures { OnOk result (state.new.spent ≡ false) }
-{
-    match space {
-        Space::CoreModules => state.push_core_module(ComponentCoreModuleTypeId { index: 0 }),
-        Space::CoreInstances => state.push_core_instance(ComponentCoreInstanceTypeId { index: 0 }),
-        Space::CoreTables => state.push_core_table(TABLE),
-        Space::CoreGlobals => state.push_core_global(GLOBAL),
-        _ => push_typed(state, space),
+// Whether it is the memory that was pushed, the table, and the global.
+fn is_memory(found: Result<MemoryType, Error>) -> bool {
+    match found {
+        Ok(ty) => ty.initial == MEMORY.initial && ty.maximum == MEMORY.maximum,
+        Err(_) => false,
     }
 }
 
-/// So many pushes into a space.
-fn push_some(state: &mut ComponentState, space: Space, count: usize) -> Result<(), OutOfMemory>
-    requires { state.old.spent ≡ false }
-    ensures { OnOk result (state.new.spent ≡ false) }
-{
-    for k in 0..count {
-        let _ = k;
-        push_any(state, space)?;
+fn is_table(found: Result<TableType, Error>) -> bool {
+    match found {
+        Ok(ty) => ty.initial == TABLE.initial && ty.maximum == TABLE.maximum,
+        Err(_) => false,
     }
-    Ok(())
 }
 
-/// The pushes into all spaces.
-pub fn push_all(state: &mut ComponentState) -> Result<(), OutOfMemory>
-    requires { state.old.spent ≡ false }
-    ensures { OnOk result (state.new.spent ≡ false) }
-{
-    let mut count: usize = 0;
-    for space in SPACES {
-        count = count.saturating_add(1);
-        push_some(state, space, count)?;
+fn is_global(found: Result<GlobalType, Error>) -> bool {
+    match found {
+        Ok(ty) => ty.mutable == GLOBAL.mutable,
+        Err(_) => false,
     }
-    Ok(())
 }
 
-/// The state of a component with nothing in it.
-pub fn empty(alloc: Global) -> ComponentState
-    ensures { result ≡ empty_state kind.Component default_features }
-{
-    ComponentState::new(alloc, ComponentKind::Component, WasmFeatures::default())
-}
-
-// The lengths of the thirteen spaces.
-fn lengths(state: &ComponentState) -> [usize; 13] {
+// Whether each of the core entries stands at an index.
+fn core_at(state: &ComponentState, index: u32) -> [bool; 8] {
     [
-        state.space_len(Space::CoreTypes),
-        state.space_len(Space::CoreFuncs),
-        state.space_len(Space::CoreTags),
-        state.space_len(Space::CoreModules),
-        state.space_len(Space::CoreInstances),
-        state.space_len(Space::CoreMemories),
-        state.space_len(Space::CoreTables),
-        state.space_len(Space::CoreGlobals),
-        state.space_len(Space::Types),
-        state.space_len(Space::Funcs),
-        state.space_len(Space::Values),
-        state.space_len(Space::Instances),
-        state.space_len(Space::Components),
+        is(state.core_type_at(index, 0), ComponentCoreTypeId::Sub(CORE)),
+        is(state.core_function_at(index, 0), CORE),
+        is(state.tag_at(index, 0), CORE),
+        is(state.module_at(index, 0), MODULE),
+        is(state.core_instance_at(index, 0), MADE),
+        is_memory(state.memory_at(index, 0)),
+        is_table(state.table_at(index, 0)),
+        is_global(state.global_at(index, 0)),
     ]
 }
 
-/// The lengths after the pushes, and how many types, functions and instances there are of both sorts.
-fn counts(state: &mut ComponentState) -> Result<([usize; 13], [usize; 3]), OutOfMemory>
-    requires { state.old.spent ≡ false }
-{
-    push_all(state)?;
-    let both = [
+// So of the others.
+fn others_at(state: &ComponentState, index: u32) -> [bool; 3] {
+    [
+        is(
+            state.component_type_at(index, 0),
+            ComponentAnyTypeId::Func(FUNC),
+        ),
+        is(state.function_type_at(index, 0), FUNC),
+        is(state.function_at(index, 0), FUNC),
+    ]
+}
+
+// How many of them.
+fn found_at(state: &ComponentState, index: u32) -> usize {
+    let mut count: usize = 0;
+    for there in core_at(state, index) {
+        count = count.saturating_add(usize::from(there));
+    }
+    for there in others_at(state, index) {
+        count = count.saturating_add(usize::from(there));
+    }
+    count
+}
+
+// The types, functions and instances of both sorts, and the instances, as digits.
+fn counts(state: &ComponentState) -> usize {
+    let mut digits: usize = 0;
+    for count in [
         state.type_count(),
         state.function_count(),
         state.instance_count(),
-    ];
-    Ok((lengths(state), both))
+        state.space_len(Space::Instances),
+    ] {
+        digits = digits.saturating_mul(10).saturating_add(count);
+    }
+    digits
 }
 
-// So in a state that was empty.
-fn pushed(alloc: Global) -> Result<([usize; 13], [usize; 3]), OutOfMemory> {
-    let mut state = empty(alloc);
-    counts(&mut state)
+// The imports and exports of what is a component and not spent.
+fn entries(state: &ComponentState) -> usize {
+    if state.kind() != ComponentKind::Component || state.is_spent() {
+        return 9;
+    }
+    state.imports().len().saturating_add(state.exports().len())
+}
+
+// What is asked of a state with one entry in each space that has a push.
+#[derive(Clone, Copy)]
+enum Pushed {
+    // how many entries stand at an index
+    At(u32),
+    Counts,
+    Entries,
+}
+
+fn told(state: &ComponentState, asked: Pushed) -> usize {
+    match asked {
+        Pushed::At(index) => found_at(state, index),
+        Pushed::Counts => counts(state),
+        Pushed::Entries => entries(state),
+    }
+}
+
+/// So of a state.
+fn told_of(
+    states: &mut [ComponentState],
+    types: &TypeAlloc,
+    asked: Pushed,
+) -> Result<usize, OutOfMemory>
+    requires some { 0 < length states.old }
+    requires open { All (IsOpen types.now) states.old }
+{
+    let _ = types;
+    let state = &mut states[0];
+    push_core(state)?;
+    push_others(state)?;
+    Ok(told(state, asked))
+}
+
+impl Question for Pushed {
+    fn answer(
+        self,
+        alloc: Global,
+        states: &mut Vec<ComponentState>,
+        types: &mut TypeAlloc,
+    ) -> Result<String, Error> {
+        let found = told_of(states.as_mut_slice(), types, self)?;
+        Ok(format!(in alloc; "{found}")?)
+    }
 }
 
 #[test]
-fn a_push_adds_one_to_its_space(rt: HostRuntime) -> Result<(), Fail> {
-    let (lengths, both) = pushed(rt.alloc())?;
-    assert_eq!(rt; lengths, [1, 2, 3, 4, 5, 6, 7, 8, 9, 10, 0, 11, 0]);
-    assert_eq!(rt; both, [10, 12, 16]);
+fn what_is_pushed_stands_at_its_index(rt: HostRuntime) -> Result<(), Fail> {
+    for (asked, due) in [
+        (Pushed::At(0), "11"),
+        (Pushed::At(1), "0"),
+        (Pushed::Counts, "2221"),
+        (Pushed::Entries, "0"),
+    ] {
+        let found = answer_words(rt.alloc(), asked)?;
+        assert_eq!(rt; found.as_str(), due);
+    }
     Ok(())
 }
 
@@ -188,112 +224,76 @@ const FIRST: ResourceId = ResourceId { index: 3 };
 
 const SECOND: ResourceId = ResourceId { index: 5 };
 
-const REFERENCE: AliasableResourceId = AliasableResourceId {
-    resource: FIRST,
-    stamp: 7,
-};
-
-const OTHER: AliasableResourceId = AliasableResourceId {
-    resource: SECOND,
-    stamp: 8,
-};
-
-/// A resource with a representation and one without are defined.
-fn define(state: &mut ComponentState) -> Result<(), OutOfMemory>
-    requires { state.old ≡ empty_state kind.Component default_features }
-    ensures { OnOk result (state.new.spent ≡ false) }
-{
-    state.define_resource(FIRST, Some(ValType::I64))?;
-    state.define_resource(SECOND, None)
+// A reference to a resource.
+fn reference(resource: ResourceId) -> ComponentAnyTypeId {
+    ComponentAnyTypeId::Resource(AliasableResourceId { resource, stamp: 7 })
 }
 
-/// A reference to each of them, and a function type.
-fn push_types(state: &mut ComponentState) -> Result<(), OutOfMemory>
-    requires { state.old.spent ≡ false }
+/// A resource with a representation and one without are defined, and stand at 0 and 1; a function type stands at 2.
+fn define(state: &mut ComponentState) -> Result<(), OutOfMemory>
+    requires { IsNew state.old }
 {
-    state.push_type(ComponentAnyTypeId::Resource(REFERENCE))?;
-    state.push_type(ComponentAnyTypeId::Resource(OTHER))?;
+    state.define_resource(FIRST, Some(ValType::I64))?;
+    state.define_resource(SECOND, None)?;
+    state.push_type(reference(FIRST))?;
+    state.push_type(reference(SECOND))?;
     state.push_type(ComponentAnyTypeId::Func(FUNC))
 }
 
-// The reference to a resource, and the resource with its representation, or why there is none.
-type Found = (
-    Result<AliasableResourceId, ErrorKind>,
-    Result<(ResourceId, ValType), ErrorKind>,
-);
-
-/// What stands at an index of these types.
-fn look(state: &mut ComponentState, index: u32) -> Result<Found, OutOfMemory>
-    requires { state.old ≡ empty_state kind.Component default_features }
+/// The resource at an index, which `i64` represents.
+fn represented(states: &mut [ComponentState], index: u32) -> Result<usize, Error>
+    requires some { 0 < length states.old }
+    requires new { All IsNew states.old }
 {
+    let state = &mut states[0];
     define(state)?;
-    push_types(state)?;
-    let resource = state.resource_at(index, 4);
-    let local = state.local_rep(index, 4);
-    Ok((resource.map_err(|e| e.kind()), local.map_err(|e| e.kind())))
+    match state.local_rep(index, 4)? {
+        (id, ValType::I64) => Ok(id.index as usize),
+        _ => Ok(0),
+    }
 }
 
-// So in a state that was empty.
-fn resource_at(alloc: Global, index: u32) -> Result<Found, OutOfMemory> {
-    let mut state = empty(alloc);
-    look(&mut state, index)
+/// A state with nothing in it.
+fn empty(alloc: Global) -> ComponentState
+    ensures { IsNew result }
+{
+    ComponentState::new(alloc, ComponentKind::Component, WasmFeatures::default())
+}
+
+/// So in a list of its own.
+fn alone(alloc: Global) -> Result<Vec<ComponentState>, OutOfMemory>
+    ensures some { IfOk result (λ states. 0 < length states.items) }
+    ensures new { IfOk result (λ states. All IsNew states.items) }
+{
+    let mut states = Vec::new(alloc);
+    states.push(empty(alloc))?;
+    Ok(states)
+}
+
+// The resource at an index of it.
+fn resource_at(alloc: Global, index: u32) -> Result<usize, Error> {
+    let mut states = alone(alloc)?;
+    represented(states.as_mut_slice(), index)
+}
+
+// In words.
+fn resource_words(alloc: Global, index: u32) -> Result<String, Fail> {
+    match resource_at(alloc, index) {
+        Ok(number) => Ok(format!(in alloc; "{number}")?),
+        Err(error) => Ok(format!(in alloc; "{} at {}", error.kind(), error.offset())?),
+    }
 }
 
 #[test]
 fn resources_have_representations(rt: HostRuntime) -> Result<(), Fail> {
     for (index, due) in [
-        (0, (Ok(REFERENCE), Ok((FIRST, ValType::I64)))),
-        (1, (Ok(OTHER), Err(ErrorKind::ResourceScope))),
-        (2, (Err(ErrorKind::WrongSort), Err(ErrorKind::WrongSort))),
-        (
-            3,
-            (Err(ErrorKind::OutOfBounds), Err(ErrorKind::OutOfBounds)),
-        ),
+        (0, "3"),
+        (1, "ResourceScope at 4"),
+        (2, "WrongSort at 4"),
+        (3, "OutOfBounds at 4"),
     ] {
-        assert_eq!(rt; resource_at(rt.alloc(), index)?, due, "{index}");
+        let found = resource_words(rt.alloc(), index)?;
+        assert_eq!(rt; found.as_str(), due);
     }
     Ok(())
-}
-
-// The entity of a function of the type at an index, or why there is none.
-#[derive(Drop)]
-struct FuncAt {
-    index: u32,
-}
-
-// Its words.
-fn entity_words(alloc: Global, found: Result<ComponentEntityType, Error>) -> Result<String, Fail> {
-    match found {
-        Ok(ComponentEntityType::Func(id)) => Ok(format!(in alloc; "func {}", id.index)?),
-        Ok(_) => Err("an entity is no function".into()),
-        Err(error) => Ok(format!(in alloc; "{} at {}", error.kind(), error.offset())?),
-    }
-}
-
-impl Question for FuncAt {
-    fn answer(
-        &self,
-        alloc: Global,
-        state: &mut ComponentState,
-        types: &mut TypeAlloc,
-    ) -> Result<String, Fail> {
-        let found = state.check_type_ref(&ComponentTypeRef::Func(self.index), types, 5);
-        entity_words(alloc, found)
-    }
-}
-
-struct Written;
-
-impl Answers for Written {
-    fn answer(&self, alloc: Global, asked: &str) -> Result<String, Fail> {
-        let index = asked.parse()?;
-        answer_over(alloc, "resource; fn -> -", &FuncAt { index })
-    }
-}
-
-const WRITTEN: &str = "0 => WrongSort at 5|1 => func 0|2 => OutOfBounds at 5|7 => OutOfBounds at 5";
-
-#[test]
-fn a_written_function_type_gives_its_entity(rt: HostRuntime) -> Result<(), Fail> {
-    hold_parted(rt.alloc(), WRITTEN, '|', &Written)
 }
