@@ -34,10 +34,10 @@ module _ (fs : WasmFeatures) (n : ℕ) (es : List Core_entry) (w : Group) where
   abbrev order : Checks
   order = order_checks (length es) w
 
-  pub needs_caused : (offset : ℕ) (e : Error) → CausedBy (group_needs fs w) offset e → CausedBy (written_checks fs n es w) offset e
+  pub needs_caused : {M : Type 0} (offset : ℕ) (e : Error M) → CausedBy (group_needs fs w) offset e → CausedBy (written_checks fs n es w) offset e
   needs_caused offset e c = caused_left needed (indices (length w) ++ order) offset e c
 
-  pub index_caused : (len offset : ℕ) (e : Error) → len ≡ length w → CausedBy (all_checks (index_checks n es len) w) offset e → CausedBy (written_checks fs n es w) offset e
+  pub index_caused : {M : Type 0} (len offset : ℕ) (e : Error M) → len ≡ length w → CausedBy (all_checks (index_checks n es len) w) offset e → CausedBy (written_checks fs n es w) offset e
   index_caused len offset e l c =
       caused_right needed (indices (length w) ++ order) offset e (caused_left (indices (length w)) order offset e (subst (λ (m : ℕ). CausedBy (all_checks (index_checks n es m) w) offset e) l c))
 
@@ -45,7 +45,7 @@ module _ (fs : WasmFeatures) (n : ℕ) (es : List Core_entry) (w : Group) where
   order_is : (len : ℕ) (g : Group) → g ≡ closed_group es w → IsFree (all_checks (index_checks n es len) w) → order_checks 0 g ≡ order
   order_is len g k b = ap (order_checks 0) k ∙ order-closed n len es 0 (length es) w (omega arith) b
 
-  pub order_caused : (len : ℕ) (g : Group) (offset : ℕ) (e : Error) → g ≡ closed_group es w → IsFree (all_checks (index_checks n es len) w) → CausedBy (order_checks 0 g) offset e → CausedBy (written_checks fs n es w) offset e
+  pub order_caused : {M : Type 0} (len : ℕ) (g : Group) (offset : ℕ) (e : Error M) → g ≡ closed_group es w → IsFree (all_checks (index_checks n es len) w) → CausedBy (order_checks 0 g) offset e → CausedBy (written_checks fs n es w) offset e
   order_caused len g offset e k b c =
       caused_right needed (indices (length w) ++ order) offset e (caused_right (indices (length w)) order offset e (subst (λ (cs : Checks). CausedBy cs offset e) (order_is len g k b) c))
 
@@ -63,10 +63,10 @@ is_free_true (c ∷ cs) f = λ j. not (f.0 j) && is_free_true cs f.1 j
 pub then_free : (cs ds : Checks) → IsFree cs → IsFree ds → IsFree (then_checks cs ds)
 then_free cs ds f g = free_both cs (cond (is_free cs) ds []) f (subst (λ (b : Bool). IsFree (cond b ds [])) (sym (is_free_true cs f)) g)
 
-pub then_first : (cs ds : Checks) (offset : ℕ) (e : Error) → CausedBy cs offset e → MemoryOrCausedBy (then_checks cs ds) offset e
+pub then_first : {M : Type 0} (cs ds : Checks) (offset : ℕ) (e : Error M) → CausedBy cs offset e → MemoryOrCausedBy (then_checks cs ds) offset e
 then_first cs ds offset e c = inr (caused_left cs (cond (is_free cs) ds []) offset e c)
 
-pub then_second : (cs ds : Checks) (offset : ℕ) (e : Error) → IsFree cs → MemoryOrCausedBy ds offset e → MemoryOrCausedBy (then_checks cs ds) offset e
+pub then_second : {M : Type 0} (cs ds : Checks) (offset : ℕ) (e : Error M) → IsFree cs → MemoryOrCausedBy ds offset e → MemoryOrCausedBy (then_checks cs ds) offset e
 then_second cs ds offset e f (inl m) = inl m
 then_second cs ds offset e f (inr c) = inr (caused_right cs (cond (is_free cs) ds []) offset e (subst (λ (b : Bool). CausedBy (cond b ds []) offset e) (sym (is_free_true cs f)) c))
 
@@ -93,7 +93,7 @@ rules_new gs hs g i n a h f l =
 pub limit_free : (gs : List Group) (g : Group) (n : ℕ) → id_of gs g ≡ None → n ≡ length g → IsFree (too_many max_entries (total gs + n)) → IsFree (limit_checks gs g)
 limit_free gs g n a l f = subst IsFree (limit_new gs g n a l) f
 
-pub limit_caused : (gs : List Group) (g : Group) (n offset : ℕ) (e : Error) → id_of gs g ≡ None → n ≡ length g → CausedBy (too_many max_entries (total gs + n)) offset e → MemoryOrCausedBy (limit_checks gs g) offset e
+pub limit_caused : {M : Type 0} (gs : List Group) (g : Group) (n offset : ℕ) (e : Error M) → id_of gs g ≡ None → n ≡ length g → CausedBy (too_many max_entries (total gs + n)) offset e → MemoryOrCausedBy (limit_checks gs g) offset e
 limit_caused gs g n offset e a l c = inr (subst (λ (cs : Checks). CausedBy cs offset e) (limit_new gs g n a l) c)
 
 pub rules_free : (gs hs : List Group) (g : Group) (i n : ℕ) → id_of gs g ≡ None → hs ≡ gs ++ g ∷ [] → i ≡ total gs → n ≡ length g
@@ -101,11 +101,11 @@ pub rules_free : (gs hs : List Group) (g : Group) (i n : ℕ) → id_of gs g ≡
 rules_free gs hs g i n a h f l r c =
     free_both (limit_checks gs g) (all_checks (type_checks (with_group gs g)) (group_ids gs g)) (limit_free gs g n a l r) (subst IsFree (rules_new gs hs g i n a h f l) c)
 
-pub room_caused : (gs : List Group) (g : Group) (n offset : ℕ) (e : Error) → id_of gs g ≡ None → n ≡ length g → CausedBy (too_many max_entries (total gs + n)) offset e → MemoryOrCausedBy (rule_checks gs g) offset e
+pub room_caused : {M : Type 0} (gs : List Group) (g : Group) (n offset : ℕ) (e : Error M) → id_of gs g ≡ None → n ≡ length g → CausedBy (too_many max_entries (total gs + n)) offset e → MemoryOrCausedBy (rule_checks gs g) offset e
 room_caused gs g n offset e a l c =
     inr (caused_left (limit_checks gs g) (all_checks (type_checks (with_group gs g)) (group_ids gs g)) offset e (subst (λ (cs : Checks). CausedBy cs offset e) (limit_new gs g n a l) c))
 
-pub rules_caused : (gs hs : List Group) (g : Group) (i n offset : ℕ) (e : Error) → id_of gs g ≡ None → hs ≡ gs ++ g ∷ [] → i ≡ total gs → n ≡ length g
+pub rules_caused : {M : Type 0} (gs hs : List Group) (g : Group) (i n offset : ℕ) (e : Error M) → id_of gs g ≡ None → hs ≡ gs ++ g ∷ [] → i ≡ total gs → n ≡ length g
     → CausedBy (all_checks (type_checks hs) (range_with_len i n)) offset e → MemoryOrCausedBy (rule_checks gs g) offset e
 rules_caused gs hs g i n offset e a h f l c =
     inr (caused_right (limit_checks gs g) (all_checks (type_checks (with_group gs g)) (group_ids gs g)) offset e (subst (λ (cs : Checks). CausedBy cs offset e) (rules_new gs hs g i n a h f l) c))
@@ -145,10 +145,10 @@ pub all_free : (fs : WasmFeatures) (gs : List Group) (es : List Core_entry) (w g
 all_free fs gs es w g n l e a b =
     then_free (written_checks fs (total gs) es w) (table_checks gs (closed_group es w)) (subst (λ (m : ℕ). IsFree (written_checks fs m es w)) l a) (subst (λ (h : Group). IsFree (table_checks gs h)) e b)
 
-pub alone_caused : (fs : WasmFeatures) (gs : List Group) (es : List Core_entry) (w : Group) (n offset : ℕ) (err : Error) → n ≡ total gs → CausedBy (written_checks fs n es w) offset err → MemoryOrCausedBy (group_checks fs gs es w) offset err
+pub alone_caused : {M : Type 0} (fs : WasmFeatures) (gs : List Group) (es : List Core_entry) (w : Group) (n offset : ℕ) (err : Error M) → n ≡ total gs → CausedBy (written_checks fs n es w) offset err → MemoryOrCausedBy (group_checks fs gs es w) offset err
 alone_caused fs gs es w n offset err l c = then_first (written_checks fs (total gs) es w) (table_checks gs (closed_group es w)) offset err (subst (λ (m : ℕ). CausedBy (written_checks fs m es w) offset err) l c)
 
-pub table_caused : (fs : WasmFeatures) (gs : List Group) (es : List Core_entry) (w g : Group) (n offset : ℕ) (err : Error) → n ≡ total gs → g ≡ closed_group es w
+pub table_caused : {M : Type 0} (fs : WasmFeatures) (gs : List Group) (es : List Core_entry) (w g : Group) (n offset : ℕ) (err : Error M) → n ≡ total gs → g ≡ closed_group es w
     → IsFree (written_checks fs n es w) → MemoryOrCausedBy (table_checks gs g) offset err → MemoryOrCausedBy (group_checks fs gs es w) offset err
 table_caused fs gs es w g n offset err l e a c =
     then_second (written_checks fs (total gs) es w) (table_checks gs (closed_group es w)) offset err (subst (λ (m : ℕ). IsFree (written_checks fs m es w)) l a) (subst (λ (h : Group). MemoryOrCausedBy (table_checks gs h) offset err) e c)

@@ -26,11 +26,11 @@ all_checks f [] = []
 all_checks f (x ∷ xs) = f x ++ all_checks f xs
 
 -- the error is one of the causes, at that offset
-abbrev pub CausedBy : Checks → ℕ → Error → Type 0
+abbrev pub CausedBy : {M : Type 0} → Checks → ℕ → Error M → Type 0
 CausedBy cs offset e = Cause cs (error_kind e) × (error_offset e ≡ offset)
 
 -- the error is out of memory, or one of the causes at that offset
-abbrev pub MemoryOrCausedBy : Checks → ℕ → Error → Type 0
+abbrev pub MemoryOrCausedBy : {M : Type 0} → Checks → ℕ → Error M → Type 0
 MemoryOrCausedBy cs offset e = (error_kind e ≡ kind.OutOfMemory) ⊎ CausedBy cs offset e
 
 -- there are more than the limit

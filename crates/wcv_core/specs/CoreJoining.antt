@@ -81,5 +81,5 @@ abbrev pub IsBegun : {S : Type 0} → (S → ℕ → S) → (S → S) → S → 
 IsBegun add failed s is t = (k : ℕ) × (t ≡ failed (with_types add s (take k is)))
 
 -- after a refusal nothing has changed; if memory ended, the table may have the group, and the space some of its types
-abbrev pub IsLeft : {S : Type 0} → (S → ℕ → S) → (S → S) → S → S → List Group → List Group → Group → Error → Type 0
+abbrev pub IsLeft : {M : Type 0} {S : Type 0} → (S → ℕ → S) → (S → S) → S → S → List Group → List Group → Group → Error M → Type 0
 IsLeft add failed s t gs hs g e = ((t ≡ s) × (hs ≡ gs)) ⊎ ((error_kind e ≡ kind.OutOfMemory) × ((hs ≡ grown gs g) × IsBegun add failed s (group_ids gs g) t))

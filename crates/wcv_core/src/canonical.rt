@@ -12,7 +12,7 @@ use crate::core_closing::{Site, close_subs};
 use crate::core_features::check_group_features;
 use crate::core_table::CoreTypes;
 use crate::core_types::{RecGroup, SubType, SuperType};
-use crate::error::{Error, ErrorKind};
+use crate::error::{Error, ErrorKind, Refusal, Why};
 use crate::memory::OutOfMemory;
 use crate::rec_group::InternRecGroup;
 
@@ -26,20 +26,24 @@ fn is_late(position: usize, supertype: Option<SuperType>) -> bool
     }
 }
 
-fn late(position: usize, offset: u64) -> Error
+fn late(position: usize, offset: u64) -> Refusal<'static>
     ensures kind { error_kind result ≡ ErrorKind.CoreType }
     ensures offset { error_offset result ≡ offset }
 {
     Error::new(
         ErrorKind::CoreType,
         offset,
-        format_args!("type {position} of the group has a supertype that does not stand before it"),
+        Why::new("type %1 of the group has a supertype that does not stand before it").numbers([
+            position as u64,
+            0,
+            0,
+        ]),
     )
 }
 
 /// Whether each supertype stands before its type. The group is in closed form.
 #[tactic(auto, using(crate::proofs::Ordered::order_next, crate::proofs::Ordered::order_fails))]
-fn check_order(types: &[SubType], offset: u64) -> Result<(), Error>
+fn check_order(types: &[SubType], offset: u64) -> Result<(), Refusal<'static>>
     ensures ok { OnOk result (IsFree (order_checks 0 (map sub_form types.now))) }
     ensures err { IfErr result (CausedBy (order_checks 0 (map sub_form types.now)) offset) }
 {
@@ -57,7 +61,7 @@ fn close_group<G: InternRecGroup>(
     known: u64,
     rec: RecGroup,
     offset: u64,
-) -> Result<RecGroup, Error>
+) -> Result<RecGroup, Refusal<'static>>
     ensures ok { IfOk result (λ closed. group_form closed ≡ closed_group (G.entries group.now) (group_form rec)) }
     ensures free { OnOk result (IsFree (written_checks (G.allowed group.now) known (G.entries group.now) (group_form rec))) }
     ensures err { IfErr result (CausedBy (written_checks (G.allowed group.now) known (G.entries group.now) (group_form rec)) offset) }
@@ -77,9 +81,10 @@ fn close_group<G: InternRecGroup>(
         Err(err) => return Err(err),
     }
     match check_order(closed.types.as_slice(), offset) {
-        Ok(()) => Ok(closed),
-        Err(err) => Err(err),
+        Ok(()) => {}
+        Err(err) => return Err(err),
     }
+    Ok(closed)
 }
 
 /// Adds the types of a group behind the others of a space. They stand in the table.
@@ -113,7 +118,7 @@ fn intern_into<G: InternRecGroup>(
     core: &mut CoreTypes,
     closed: RecGroup,
     offset: u64,
-) -> Result<(), Error>
+) -> Result<(), Refusal<'static>>
     requires closed { IsClosed (total core.old) (group_form closed) }
     requires known { All (IsKnown (total core.old)) (G.entries group.old) }
     requires room { length (G.entries group.old) + length (group_form closed) < 2 ^ 32 }
@@ -133,7 +138,7 @@ fn intern_into<G: InternRecGroup>(
     };
     match add_ids(group, core, first, count) {
         Ok(()) => Ok(()),
-        Err(_) => Err(Error::from(OutOfMemory)),
+        Err(_) => Err(Refusal::from(OutOfMemory)),
     }
 }
 
@@ -145,7 +150,7 @@ pub fn canonicalize_and_intern_rec_group<G: InternRecGroup>(
     core: &mut CoreTypes,
     rec: RecGroup,
     offset: u64,
-) -> Result<(), Error>
+) -> Result<(), Refusal<'static>>
     requires known { All (IsKnown (total core.old)) (G.entries group.old) }
     requires room { length (G.entries group.old) + length (group_form rec) < 2 ^ 32 }
     ensures free { OnOk result (IsFree (group_checks (G.allowed group.old) core.old (G.entries group.old) (group_form rec))) }

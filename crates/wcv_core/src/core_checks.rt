@@ -10,18 +10,20 @@ ghost use Rattle.wcv_core.specs.Refusal.{error_kind, error_offset};
 
 use crate::core_rows::Rows;
 use crate::core_types::CoreTypeId;
-use crate::error::{Error, ErrorKind};
+use crate::error::{Error, ErrorKind, Refusal, Why};
 use crate::limits::MAX_SUPERTYPES;
 
 /// A refusal of the type at this position of its group.
-fn refused(kind: ErrorKind, position: u64, what: &str, offset: u64) -> Error
+fn refused(kind: ErrorKind, position: u64, what: &'static str, offset: u64) -> Refusal<'static>
     ensures kind { error_kind result ≡ kind }
     ensures offset { error_offset result ≡ offset }
 {
     Error::new(
         kind,
         offset,
-        format_args!("type {position} of the group {what}"),
+        Why::new("type %1 of the group %w")
+            .word(what)
+            .numbers([position, 0, 0]),
     )
 }
 
@@ -54,7 +56,7 @@ impl Rows {
         parent: CoreTypeId,
         position: u64,
         offset: u64,
-    ) -> Result<(), Error>
+    ) -> Result<(), Refusal<'static>>
         requires id { id.index < total self.now }
         requires parent { parent.index < total self.now }
         ensures ok { OnOk result (IsFree (super_checks self.now id.index (Some parent.index))) }
@@ -82,7 +84,7 @@ impl Rows {
 
     /// Whether a type keeps the rules.
     #[tactic(auto, using(crate::proofs::Within::parent_within))]
-    fn check_type(&self, id: CoreTypeId, position: u64, offset: u64) -> Result<(), Error>
+    fn check_type(&self, id: CoreTypeId, position: u64, offset: u64) -> Result<(), Refusal<'static>>
         requires { id.index < total self.now }
         ensures ok { OnOk result (IsFree (type_checks self.now id.index)) }
         ensures err { IfErr result (CausedBy (type_checks self.now id.index) offset) }
@@ -99,7 +101,7 @@ impl Rows {
 
     /// Whether none of so many types, from this id on, has too many supertypes above it. This is looked at before
     /// anything is matched: a walk up from a type is then short, whatever the group has.
-    fn check_depths(&self, first: u64, count: u64, offset: u64) -> Result<(), Error>
+    fn check_depths(&self, first: u64, count: u64, offset: u64) -> Result<(), Refusal<'static>>
         requires { first + count ≤ total self.now }
         ensures ok { OnOk result ((k : ℕ) → k < count → get_or (depths_of self.now) (first + k) 0 ≤ max_supertypes) }
         ensures err { IfErr result (CausedBy (all_checks (type_checks self.now) (range_with_len first count)) offset) }
@@ -115,7 +117,7 @@ impl Rows {
 
     /// Whether so many types keep the rules, those of a group from its first id on.
     #[tactic(auto, using(crate::proofs::Closing::free_ranged))]
-    pub fn check_types(&self, first: u64, count: u64, offset: u64) -> Result<(), Error>
+    pub fn check_types(&self, first: u64, count: u64, offset: u64) -> Result<(), Refusal<'static>>
         requires { first + count ≤ total self.now }
         ensures ok { OnOk result (IsFree (all_checks (type_checks self.now) (range_with_len first count))) }
         ensures err { IfErr result (CausedBy (all_checks (type_checks self.now) (range_with_len first count)) offset) }

@@ -8,7 +8,7 @@ use crate::core_types::{
     CompositeInnerType, FieldType, FuncType, HeapType, RefType, StorageType, SubType, SuperType,
     ValType,
 };
-use crate::error::{Error, ErrorKind};
+use crate::error::{Error, ErrorKind, Refusal, Why};
 use crate::rec_group::InternRecGroup;
 
 /// Where a group is put into closed form: how many types the table has, how many the group, and the offset
@@ -20,7 +20,11 @@ pub struct Site {
     pub offset: u64,
 }
 
-fn close_index<G: InternRecGroup>(group: &G, site: Site, index: u32) -> Result<HeapType, Error>
+fn close_index<G: InternRecGroup>(
+    group: &G,
+    site: Site,
+    index: u32,
+) -> Result<HeapType, Refusal<'static>>
     ensures ok { IfOk result (λ h. h ≡ closed_heap (G.entries group.now) (HeapType.Index index)) }
     ensures free { OnOk result (IsFree (heap_checks site.known (G.entries group.now) site.len (HeapType.Index index))) }
     ensures err { IfErr result (CausedBy (heap_checks site.known (G.entries group.now) site.len (HeapType.Index index)) site.offset) }
@@ -39,14 +43,18 @@ fn close_index<G: InternRecGroup>(group: &G, site: Site, index: u32) -> Result<H
     Err(Error::new(
         ErrorKind::OutOfBounds,
         site.offset,
-        format_args!(
-            "core type {index} is out of bounds: {own} stand before the group, which has {len} more"
-        ),
+        Why::new(
+            "core type %1 is out of bounds: %2 stand before the group, which has %3 more",
+        ).numbers([index as u64, own as u64, len]),
     ))
 }
 
 /// The heap in closed form.
-fn close_heap<G: InternRecGroup>(group: &G, site: Site, heap: HeapType) -> Result<HeapType, Error>
+fn close_heap<G: InternRecGroup>(
+    group: &G,
+    site: Site,
+    heap: HeapType,
+) -> Result<HeapType, Refusal<'static>>
     ensures ok { IfOk result (λ h. h ≡ closed_heap (G.entries group.now) heap) }
     ensures free { OnOk result (IsFree (heap_checks site.known (G.entries group.now) site.len heap)) }
     ensures err { IfErr result (CausedBy (heap_checks site.known (G.entries group.now) site.len heap) site.offset) }
@@ -61,7 +69,7 @@ fn close_heap<G: InternRecGroup>(group: &G, site: Site, heap: HeapType) -> Resul
             Err(Error::new(
                 ErrorKind::OutOfBounds,
                 site.offset,
-                "a core type is named by an id that is not of the table",
+                Why::new("a core type is named by an id that is not of the table"),
             ))
         }
     }
@@ -77,7 +85,11 @@ pub fn closed_mark(heap: HeapType, mark: bool) -> bool
     }
 }
 
-fn close_val<G: InternRecGroup>(group: &G, site: Site, ty: ValType) -> Result<ValType, Error>
+fn close_val<G: InternRecGroup>(
+    group: &G,
+    site: Site,
+    ty: ValType,
+) -> Result<ValType, Refusal<'static>>
     ensures ok { IfOk result (λ v. v ≡ closed_val (G.entries group.now) ty) }
     ensures free { OnOk result (IsFree (val_checks site.known (G.entries group.now) site.len ty)) }
     ensures err { IfErr result (CausedBy (val_checks site.known (G.entries group.now) site.len ty) site.offset) }
@@ -105,7 +117,7 @@ fn close_vals<G: InternRecGroup>(
     group: &G,
     site: Site,
     types: &mut Vec<ValType>,
-) -> Result<(), Error>
+) -> Result<(), Refusal<'static>>
     ensures ok { OnOk result (types.new.items ≡ map (closed_val (G.entries group.now)) types.old.items) }
     ensures free { OnOk result (IsFree (all_checks (val_checks site.known (G.entries group.now) site.len) types.old.items)) }
     ensures err { IfErr result (CausedBy (all_checks (val_checks site.known (G.entries group.now) site.len) types.old.items) site.offset) }
@@ -123,7 +135,7 @@ fn close_field<G: InternRecGroup>(
     group: &G,
     site: Site,
     field: FieldType,
-) -> Result<FieldType, Error>
+) -> Result<FieldType, Refusal<'static>>
     ensures ok { IfOk result (λ f. f ≡ closed_field (G.entries group.now) field) }
     ensures free { OnOk result (IsFree (field_checks site.known (G.entries group.now) site.len field)) }
     ensures err { IfErr result (CausedBy (field_checks site.known (G.entries group.now) site.len field) site.offset) }
@@ -145,7 +157,7 @@ fn close_fields<G: InternRecGroup>(
     group: &G,
     site: Site,
     types: &mut Vec<FieldType>,
-) -> Result<(), Error>
+) -> Result<(), Refusal<'static>>
     ensures ok { OnOk result (types.new.items ≡ map (closed_field (G.entries group.now)) types.old.items) }
     ensures free { OnOk result (IsFree (all_checks (field_checks site.known (G.entries group.now) site.len) types.old.items)) }
     ensures err { IfErr result (CausedBy (all_checks (field_checks site.known (G.entries group.now) site.len) types.old.items) site.offset) }
@@ -182,7 +194,7 @@ fn close_super<G: InternRecGroup>(
     group: &G,
     site: Site,
     supertype: Option<SuperType>,
-) -> Result<Option<SuperType>, Error>
+) -> Result<Option<SuperType>, Refusal<'static>>
     ensures ok { IfOk result (λ t. t ≡ closed_super (G.entries group.now) supertype) }
     ensures free { OnOk result (IsFree (super_index_checks site.known (G.entries group.now) site.len supertype)) }
     ensures err { IfErr result (CausedBy (super_index_checks site.known (G.entries group.now) site.len supertype) site.offset) }
@@ -196,7 +208,11 @@ fn close_super<G: InternRecGroup>(
     }
 }
 
-fn close_func<G: InternRecGroup>(group: &G, site: Site, func: &mut FuncType) -> Result<(), Error>
+fn close_func<G: InternRecGroup>(
+    group: &G,
+    site: Site,
+    func: &mut FuncType,
+) -> Result<(), Refusal<'static>>
     ensures ok { OnOk result (func_form func.new.params.items func.new.results.items ≡ closed_form (G.entries group.now) (func_form func.old.params.items func.old.results.items)) }
     ensures free { OnOk result (IsFree (form_checks site.known (G.entries group.now) site.len (func_form func.old.params.items func.old.results.items))) }
     ensures err { IfErr result (CausedBy (form_checks site.known (G.entries group.now) site.len (func_form func.old.params.items func.old.results.items)) site.offset) }
@@ -214,7 +230,7 @@ fn close_form<G: InternRecGroup>(
     group: &G,
     site: Site,
     form: &mut CompositeInnerType,
-) -> Result<(), Error>
+) -> Result<(), Refusal<'static>>
     ensures ok { OnOk result (composite_form form.new ≡ closed_form (G.entries group.now) (composite_form form.old)) }
     ensures free { OnOk result (IsFree (form_checks site.known (G.entries group.now) site.len (composite_form form.old))) }
     ensures err { IfErr result (CausedBy (form_checks site.known (G.entries group.now) site.len (composite_form form.old)) site.offset) }
@@ -232,7 +248,11 @@ fn close_form<G: InternRecGroup>(
     }
 }
 
-fn close_sub<G: InternRecGroup>(group: &G, site: Site, ty: &mut SubType) -> Result<(), Error>
+fn close_sub<G: InternRecGroup>(
+    group: &G,
+    site: Site,
+    ty: &mut SubType,
+) -> Result<(), Refusal<'static>>
     ensures ok { OnOk result (sub_form ty.new ≡ closed_sub (G.entries group.now) (sub_form ty.old)) }
     ensures free { OnOk result (IsFree (index_checks site.known (G.entries group.now) site.len (sub_form ty.old))) }
     ensures err { IfErr result (CausedBy (index_checks site.known (G.entries group.now) site.len (sub_form ty.old)) site.offset) }
@@ -254,7 +274,7 @@ pub fn close_subs<G: InternRecGroup>(
     group: &G,
     site: Site,
     types: &mut Vec<SubType>,
-) -> Result<(), Error>
+) -> Result<(), Refusal<'static>>
     ensures ok { OnOk result (map sub_form types.new.items ≡ closed_group (G.entries group.now) (map sub_form types.old.items)) }
     ensures free { OnOk result (IsFree (all_checks (index_checks site.known (G.entries group.now) site.len) (map sub_form types.old.items))) }
     ensures err { IfErr result (CausedBy (all_checks (index_checks site.known (G.entries group.now) site.len) (map sub_form types.old.items)) site.offset) }

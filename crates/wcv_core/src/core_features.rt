@@ -2,37 +2,47 @@
 ghost use Rattle.std.specs.Prelude.{◌≡◌, ◌++◌, not, map, OnOk, IfErr};
 ghost use Rattle.wcv_core.specs.Checks.{IsFree, CausedBy, all_checks};
 ghost use Rattle.wcv_core.specs.CoreFeatures.{needs, gc, function_references, shared_everything, is_gc_name, is_exn_name, heap_needs, ref_needs, val_needs, field_needs, form_needs, sub_needs, group_needs};
+ghost use Rattle.wcv_core.specs.Refusal.{error_kind, error_offset};
 ghost use Rattle.wcv_core.specs.CoreForm.{func_form, composite_form, sub_form, group_form};
 
 use crate::core_types::{
     AbstractHeap, CompositeInnerType, FieldType, FuncType, HeapType, RecGroup, RefType,
     StorageType, SubType, ValType,
 };
-use crate::error::{Error, ErrorKind};
+use crate::error::{Error, ErrorKind, Refusal, Why};
 use crate::features::WasmFeatures;
 use bitflags::Flags;
-use std::fmt;
+
+/// The refusal of what needs a feature that the listing does not name. `by` says what needs it, and the name
+/// stands at `%n` there, if it has one.
+pub fn missing_feature<'a>(
+    by: &'static str,
+    name: &'a str,
+    feature: &'static str,
+    offset: u64,
+) -> Refusal<'a>
+    ensures kind { error_kind result ≡ ErrorKind.Feature }
+    ensures offset { error_offset result ≡ offset }
+{
+    let why = Why::new(by).name(name).needs(feature);
+    Error::new(ErrorKind::Feature, offset, why)
+}
 
 /// Refuses what needs a feature that is missing, if it is there, by the feature's name and by what it is.
-fn require<D: fmt::Display>(
+fn require(
     features: &WasmFeatures,
     feature: WasmFeatures,
     there: bool,
-    name: &str,
-    by: D,
+    feature_name: &'static str,
+    by: &'static str,
+    name: &'static str,
     offset: u64,
-) -> Result<(), Error>
-where
-    D: Drop,
+) -> Result<(), Refusal<'static>>
     ensures ok { OnOk result (IsFree (needs features.now feature.0 there)) }
     ensures err { IfErr result (CausedBy (needs features.now feature.0 there) offset) }
 {
     if there && !features.contains(feature) {
-        return Err(Error::new(
-            ErrorKind::Feature,
-            offset,
-            format_args!("{by} needs the feature `{name}`, which the listing does not name"),
-        ));
+        return Err(missing_feature(by, name, feature_name, offset));
     }
     Ok(())
 }
@@ -57,19 +67,24 @@ fn is_exn_name(name: AbstractHeap) -> bool
     }
 }
 
-fn check_gc(features: &WasmFeatures, there: bool, by: &str, offset: u64) -> Result<(), Error>
+fn check_gc(
+    features: &WasmFeatures,
+    there: bool,
+    by: &'static str,
+    offset: u64,
+) -> Result<(), Refusal<'static>>
     ensures ok { OnOk result (IsFree (needs features.now gc there)) }
     ensures err { IfErr result (CausedBy (needs features.now gc there) offset) }
 {
-    require(features, WasmFeatures::GC, there, "gc", by, offset)
+    require(features, WasmFeatures::GC, there, "gc", by, "", offset)
 }
 
 fn check_references(
     features: &WasmFeatures,
     there: bool,
-    by: &str,
+    by: &'static str,
     offset: u64,
-) -> Result<(), Error>
+) -> Result<(), Refusal<'static>>
     ensures ok { OnOk result (IsFree (needs features.now function_references there)) }
     ensures err { IfErr result (CausedBy (needs features.now function_references there) offset) }
 {
@@ -79,11 +94,17 @@ fn check_references(
         there,
         "function-references",
         by,
+        "",
         offset,
     )
 }
 
-fn check_shared(features: &WasmFeatures, there: bool, by: &str, offset: u64) -> Result<(), Error>
+fn check_shared(
+    features: &WasmFeatures,
+    there: bool,
+    by: &'static str,
+    offset: u64,
+) -> Result<(), Refusal<'static>>
     ensures ok { OnOk result (IsFree (needs features.now shared_everything there)) }
     ensures err { IfErr result (CausedBy (needs features.now shared_everything there) offset) }
 {
@@ -93,6 +114,7 @@ fn check_shared(features: &WasmFeatures, there: bool, by: &str, offset: u64) -> 
         there,
         "shared-everything-threads",
         by,
+        "",
         offset,
     )
 }
@@ -103,28 +125,29 @@ fn check_heap(
     shared: bool,
     heap: HeapType,
     offset: u64,
-) -> Result<(), Error>
+) -> Result<(), Refusal<'static>>
     ensures ok { OnOk result (IsFree (heap_needs features.now shared heap)) }
     ensures err { IfErr result (CausedBy (heap_needs features.now shared heap) offset) }
 {
     match heap {
         HeapType::Abstract(name) => {
-            let by = format_args!("the heap type `{name}`");
+            let by = "the heap type `%n`";
             require(
                 features,
                 WasmFeatures::GC,
                 is_gc_name(name),
                 "gc",
                 by,
+                name.word(),
                 offset,
             )?;
-            let by = format_args!("the heap type `{name}`");
             require(
                 features,
                 WasmFeatures::EXCEPTIONS,
                 is_exn_name(name),
                 "exceptions",
                 by,
+                name.word(),
                 offset,
             )?;
             check_shared(features, shared, "a shared reference", offset)
@@ -136,7 +159,11 @@ fn check_heap(
 }
 
 /// Whether a reference type may stand.
-pub fn check_ref_features(features: &WasmFeatures, ty: RefType, offset: u64) -> Result<(), Error>
+pub fn check_ref_features(
+    features: &WasmFeatures,
+    ty: RefType,
+    offset: u64,
+) -> Result<(), Refusal<'static>>
     ensures ok { OnOk result (IsFree (ref_needs features.now ty)) }
     ensures err { IfErr result (CausedBy (ref_needs features.now ty) offset) }
 {
@@ -150,19 +177,35 @@ pub fn check_ref_features(features: &WasmFeatures, ty: RefType, offset: u64) -> 
 }
 
 /// Whether a value type may stand.
-pub fn check_val_features(features: &WasmFeatures, ty: ValType, offset: u64) -> Result<(), Error>
+pub fn check_val_features(
+    features: &WasmFeatures,
+    ty: ValType,
+    offset: u64,
+) -> Result<(), Refusal<'static>>
     ensures ok { OnOk result (IsFree (val_needs features.now ty)) }
     ensures err { IfErr result (CausedBy (val_needs features.now ty) offset) }
 {
     match ty {
-        ValType::V128 => require(features, WasmFeatures::SIMD, true, "simd", "`v128`", offset),
+        ValType::V128 => require(
+            features,
+            WasmFeatures::SIMD,
+            true,
+            "simd",
+            "`v128`",
+            "",
+            offset,
+        ),
         ValType::Ref(r) => check_ref_features(features, r, offset),
         _ => Ok(()),
     }
 }
 
 #[tactic(auto, using(crate::proofs::Closing::free_next))]
-fn check_vals(features: &WasmFeatures, types: &[ValType], offset: u64) -> Result<(), Error>
+fn check_vals(
+    features: &WasmFeatures,
+    types: &[ValType],
+    offset: u64,
+) -> Result<(), Refusal<'static>>
     ensures ok { OnOk result (IsFree (all_checks (val_needs features.now) types.now)) }
     ensures err { IfErr result (CausedBy (all_checks (val_needs features.now) types.now) offset) }
 {
@@ -172,7 +215,11 @@ fn check_vals(features: &WasmFeatures, types: &[ValType], offset: u64) -> Result
     Ok(())
 }
 
-fn check_field(features: &WasmFeatures, field: FieldType, offset: u64) -> Result<(), Error>
+fn check_field(
+    features: &WasmFeatures,
+    field: FieldType,
+    offset: u64,
+) -> Result<(), Refusal<'static>>
     ensures ok { OnOk result (IsFree (field_needs features.now field)) }
     ensures err { IfErr result (CausedBy (field_needs features.now field) offset) }
 {
@@ -183,7 +230,11 @@ fn check_field(features: &WasmFeatures, field: FieldType, offset: u64) -> Result
 }
 
 #[tactic(auto, using(crate::proofs::Closing::free_next))]
-fn check_fields(features: &WasmFeatures, fields: &[FieldType], offset: u64) -> Result<(), Error>
+fn check_fields(
+    features: &WasmFeatures,
+    fields: &[FieldType],
+    offset: u64,
+) -> Result<(), Refusal<'static>>
     ensures ok { OnOk result (IsFree (all_checks (field_needs features.now) fields.now)) }
     ensures err { IfErr result (CausedBy (all_checks (field_needs features.now) fields.now) offset) }
 {
@@ -194,7 +245,7 @@ fn check_fields(features: &WasmFeatures, fields: &[FieldType], offset: u64) -> R
 }
 
 #[tactic(auto, using(crate::proofs::Closing::caused_left, crate::proofs::Closing::caused_right, crate::proofs::Causes::free_both))]
-fn check_func(features: &WasmFeatures, func: &FuncType, offset: u64) -> Result<(), Error>
+fn check_func(features: &WasmFeatures, func: &FuncType, offset: u64) -> Result<(), Refusal<'static>>
     ensures ok { OnOk result (IsFree (form_needs features.now (func_form func.now.params.items func.now.results.items))) }
     ensures err { IfErr result (CausedBy (form_needs features.now (func_form func.now.params.items func.now.results.items)) offset) }
 {
@@ -203,7 +254,11 @@ fn check_func(features: &WasmFeatures, func: &FuncType, offset: u64) -> Result<(
 }
 
 #[tactic(auto, using(crate::proofs::Closing::caused_left, crate::proofs::Closing::caused_right, crate::proofs::Causes::free_both))]
-fn check_form(features: &WasmFeatures, form: &CompositeInnerType, offset: u64) -> Result<(), Error>
+fn check_form(
+    features: &WasmFeatures,
+    form: &CompositeInnerType,
+    offset: u64,
+) -> Result<(), Refusal<'static>>
     ensures ok { OnOk result (IsFree (form_needs features.now (composite_form form.now))) }
     ensures err { IfErr result (CausedBy (form_needs features.now (composite_form form.now)) offset) }
 {
@@ -221,7 +276,7 @@ fn check_form(features: &WasmFeatures, form: &CompositeInnerType, offset: u64) -
 }
 
 #[tactic(auto, using(crate::proofs::Closing::caused_left, crate::proofs::Closing::caused_right, crate::proofs::Causes::free_both))]
-fn check_sub(features: &WasmFeatures, ty: &SubType, offset: u64) -> Result<(), Error>
+fn check_sub(features: &WasmFeatures, ty: &SubType, offset: u64) -> Result<(), Refusal<'static>>
     ensures ok { OnOk result (IsFree (sub_needs features.now (sub_form ty.now))) }
     ensures err { IfErr result (CausedBy (sub_needs features.now (sub_form ty.now)) offset) }
 {
@@ -232,7 +287,11 @@ fn check_sub(features: &WasmFeatures, ty: &SubType, offset: u64) -> Result<(), E
 }
 
 #[tactic(auto, using(crate::proofs::Closing::free_mapped))]
-fn check_subs(features: &WasmFeatures, types: &[SubType], offset: u64) -> Result<(), Error>
+fn check_subs(
+    features: &WasmFeatures,
+    types: &[SubType],
+    offset: u64,
+) -> Result<(), Refusal<'static>>
     ensures ok { OnOk result (IsFree (all_checks (sub_needs features.now) (map sub_form types.now))) }
     ensures err { IfErr result (CausedBy (all_checks (sub_needs features.now) (map sub_form types.now)) offset) }
 {
@@ -248,7 +307,7 @@ pub fn check_group_features(
     features: &WasmFeatures,
     group: &RecGroup,
     offset: u64,
-) -> Result<(), Error>
+) -> Result<(), Refusal<'static>>
     ensures ok { OnOk result (IsFree (group_needs features.now (group_form group.now))) }
     ensures err { IfErr result (CausedBy (group_needs features.now (group_form group.now)) offset) }
 {

@@ -5,11 +5,17 @@ ghost use Rattle.wcv_core.specs.CoreFeatures.{form_left, sub_left, group_left};
 ghost use Rattle.wcv_core.specs.CoreForm.{composite_form, sub_form, group_form};
 
 use crate::core_types::{CompositeInnerType, RecGroup, SubType};
-use crate::error::{Error, ErrorKind};
+use crate::error::{Error, ErrorKind, Refusal, Why};
 use crate::limits::{MAX_LIST, MAX_PARAMS};
 
 /// Whether a list is not longer than a limit. What has it, and what its entries are, are for the message.
-fn check_count(count: usize, limit: usize, ty: &str, word: &str, offset: u64) -> Result<(), Error>
+fn check_count(
+    count: usize,
+    limit: usize,
+    ty: &'static str,
+    word: &'static str,
+    offset: u64,
+) -> Result<(), Refusal<'static>>
     ensures ok { OnOk result (IsFree (too_many limit count)) }
     ensures err { IfErr result (CausedBy (too_many limit count) offset) }
 {
@@ -17,14 +23,17 @@ fn check_count(count: usize, limit: usize, ty: &str, word: &str, offset: u64) ->
         return Err(Error::new(
             ErrorKind::Limit,
             offset,
-            format_args!("{ty} has {count} {word}, at most {limit} are allowed"),
+            Why::new("%n has %1 %w, at most %2 are allowed")
+                .name(ty)
+                .word(word)
+                .numbers([count as u64, limit as u64, 0]),
         ));
     }
     Ok(())
 }
 
 #[tactic(auto, using(crate::proofs::Closing::caused_left, crate::proofs::Closing::caused_right, crate::proofs::Causes::free_both))]
-fn check_form(form: &CompositeInnerType, offset: u64) -> Result<(), Error>
+fn check_form(form: &CompositeInnerType, offset: u64) -> Result<(), Refusal<'static>>
     ensures ok { OnOk result (IsFree (form_left (composite_form form.now))) }
     ensures err { IfErr result (CausedBy (form_left (composite_form form.now)) offset) }
 {
@@ -42,7 +51,7 @@ fn check_form(form: &CompositeInnerType, offset: u64) -> Result<(), Error>
 }
 
 #[tactic(auto, using(crate::proofs::Closing::free_mapped))]
-fn check_subs(types: &[SubType], offset: u64) -> Result<(), Error>
+fn check_subs(types: &[SubType], offset: u64) -> Result<(), Refusal<'static>>
     ensures ok { OnOk result (IsFree (all_checks sub_left (map sub_form types.now))) }
     ensures err { IfErr result (CausedBy (all_checks sub_left (map sub_form types.now)) offset) }
 {
@@ -54,7 +63,7 @@ fn check_subs(types: &[SubType], offset: u64) -> Result<(), Error>
 
 /// Whether the lists of a group keep their limits.
 #[tactic(auto, using(crate::proofs::Closing::caused_left, crate::proofs::Closing::caused_right, crate::proofs::Causes::free_both))]
-pub fn check_group_limits(group: &RecGroup, offset: u64) -> Result<(), Error>
+pub fn check_group_limits(group: &RecGroup, offset: u64) -> Result<(), Refusal<'static>>
     ensures ok { OnOk result (IsFree (group_left (group_form group.now))) }
     ensures err { IfErr result (CausedBy (group_left (group_form group.now)) offset) }
 {

@@ -13,7 +13,7 @@ ghost use Rattle.wcv_core.specs.CoreTable.{with_group, limit_checks, AreDistinct
 use crate::core_codes::group_code;
 use crate::core_rows::Rows;
 use crate::core_types::{CoreTypeId, RecGroup, SubType, ValType};
-use crate::error::{Error, ErrorKind};
+use crate::error::{Error, ErrorKind, Refusal, Why};
 use crate::limits::MAX_ENTRIES;
 use crate::memory::OutOfMemory;
 use std::alloc::Global;
@@ -95,7 +95,7 @@ impl CoreTypes {
 
     /// Whether so many types more keep the limit.
     #[tactic(auto, using(crate::proofs::Rowing::not_below))]
-    fn check_room(&self, count: usize, offset: u64) -> Result<(), Error>
+    fn check_room(&self, count: usize, offset: u64) -> Result<(), Refusal<'static>>
         ensures ok { OnOk result (IsFree (too_many max_entries (total self.now + count))) }
         ensures err { IfErr result (CausedBy (too_many max_entries (total self.now + count)) offset) }
     {
@@ -104,8 +104,8 @@ impl CoreTypes {
             return Err(Error::new(
                 ErrorKind::Limit,
                 offset,
-                format_args!(
-                    "with this group there would be more than {MAX_ENTRIES} distinct core types"
+                Why::new("with this group there would be more than %1 distinct core types").numbers(
+                    [MAX_ENTRIES as u64, 0, 0],
                 ),
             ));
         }
@@ -151,7 +151,7 @@ impl CoreTypes {
     }
 
     /// The id of the group's first type, as `intern_closed`, with the limit on how many types there are.
-    pub fn intern(&mut self, group: RecGroup, offset: u64) -> Result<CoreTypeId, Error>
+    pub fn intern(&mut self, group: RecGroup, offset: u64) -> Result<CoreTypeId, Refusal<'static>>
         requires { IsClosed (total self.old) (group_form group) }
         ensures id { IfOk result (λ id. id_of self.new (group_form group) ≡ Some id.index) }
         ensures groups { OnOk result (self.new ≡ with_group self.old (group_form group)) }
@@ -161,14 +161,14 @@ impl CoreTypes {
     {
         let code = match group_code(self.alloc, &group) {
             Ok(code) => code,
-            Err(_) => return Err(Error::from(OutOfMemory)),
+            Err(_) => return Err(Refusal::from(OutOfMemory)),
         };
         match self.find(&code) {
             Some(index) => Ok(CoreTypeId { index }),
             None => match self.check_room(group.types.len(), offset) {
                 Ok(()) => match self.add(code, group) {
                     Ok(id) => Ok(id),
-                    Err(_) => Err(Error::from(OutOfMemory)),
+                    Err(_) => Err(Refusal::from(OutOfMemory)),
                 },
                 Err(err) => Err(err),
             },
@@ -176,7 +176,12 @@ impl CoreTypes {
     }
 
     /// The id of the first type of a group that is there, if its types keep the rules.
-    fn check_old(&self, first: u64, group: &RecGroup, offset: u64) -> Result<CoreTypeId, Error>
+    fn check_old(
+        &self,
+        first: u64,
+        group: &RecGroup,
+        offset: u64,
+    ) -> Result<CoreTypeId, Refusal<'static>>
         requires { id_of self.now (group_form group.now) ≡ Some first }
         ensures id { IfOk result (λ id. id.index ≡ first) }
         ensures room { OnOk result (first + length (group_form group.now) ≤ total self.now) }
@@ -198,7 +203,7 @@ impl CoreTypes {
         code: Vec<u64>,
         group: RecGroup,
         offset: u64,
-    ) -> Result<CoreTypeId, Error>
+    ) -> Result<CoreTypeId, Refusal<'static>>
         requires closed { IsClosed (total self.old) (group_form group) }
         requires code { code.items ≡ code_of (group_form group) }
         requires absent { id_of self.old (group_form group) ≡ None }
@@ -217,7 +222,7 @@ impl CoreTypes {
         let first = self.rows.len() as u64;
         match self.rows.push(group) {
             Ok(()) => {}
-            Err(_) => return Err(Error::from(OutOfMemory)),
+            Err(_) => return Err(Refusal::from(OutOfMemory)),
         }
         match self.rows.check_types(first, count as u64, offset) {
             Ok(()) => {}
@@ -231,14 +236,18 @@ impl CoreTypes {
             Err(refused) => {
                 drop(refused);
                 self.rows.pop();
-                Err(Error::from(OutOfMemory))
+                Err(Refusal::from(OutOfMemory))
             }
         }
     }
 
     /// The id of the first type of a group whose types have to keep the rules, also where the group is there
     /// already. A group that is not there is appended.
-    pub fn intern_checked(&mut self, group: RecGroup, offset: u64) -> Result<CoreTypeId, Error>
+    pub fn intern_checked(
+        &mut self,
+        group: RecGroup,
+        offset: u64,
+    ) -> Result<CoreTypeId, Refusal<'static>>
         requires { IsClosed (total self.old) (group_form group) }
         ensures id { IfOk result (λ id. id.index ≡ first_id self.old (group_form group)) }
         ensures groups { OnOk result (self.new ≡ with_group self.old (group_form group)) }
@@ -249,7 +258,7 @@ impl CoreTypes {
     {
         let code = match group_code(self.alloc, &group) {
             Ok(code) => code,
-            Err(_) => return Err(Error::from(OutOfMemory)),
+            Err(_) => return Err(Refusal::from(OutOfMemory)),
         };
         match self.find(&code) {
             Some(first) => self.check_old(first, &group, offset),

@@ -29,7 +29,7 @@ pub enum AbstractHeap {
 
 impl AbstractHeap {
     /// The word that names the heap.
-    fn word(&self) -> &'static str
+    pub fn word(&self) -> &'static str
         ensures { result.now ≡ heap_word self.now }
     {
         match self {

@@ -29,7 +29,9 @@ mod text;
 
 pub use append_only::{IndexMapAppendOnly, IntoIter, Iter};
 pub use canonical::canonicalize_and_intern_rec_group;
-pub use core_features::{check_group_features, check_ref_features, check_val_features};
+pub use core_features::{
+    check_group_features, check_ref_features, check_val_features, missing_feature,
+};
 pub use core_laws::{
     an_interned_group_is_found, equal_codes_are_of_equal_groups, equal_groups_have_one_id,
     groups_with_a_common_id_are_equal, interning_again_changes_nothing,
@@ -43,7 +45,7 @@ pub use core_types::{
     GlobalType, HeapType, MemoryType, RecGroup, RefType, StorageType, StructType, SubType,
     SuperType, TableType, ValType,
 };
-pub use error::{Error, ErrorKind};
+pub use error::{Error, ErrorKind, Refusal, Why};
 pub use excerpt::Excerpt;
 pub use extern_kind::ExternKind;
 pub use features::WasmFeatures;

@@ -1,6 +1,6 @@
 // What a group of core types is added to.
 use crate::core_types::CoreTypeId;
-use crate::error::Error;
+use crate::error::Refusal;
 use crate::features::WasmFeatures;
 use crate::memory::OutOfMemory;
 
@@ -38,7 +38,7 @@ pub trait InternRecGroup {
         ensures stays { OnErr result (entries self.new ≡ entries self.old) };
 
     /// The type at an index.
-    fn type_id_at(&self, idx: u32, offset: u64) -> Result<CoreTypeId, Error>
+    fn type_id_at(&self, idx: u32, offset: u64) -> Result<CoreTypeId, Refusal<'static>>
         ensures ok { IfOk result (λ id. slice_get (entries self.now) idx ≡ Some (sub_entry id.index)) }
         ensures err { IfErr result (CausedBy (entry_checks (slice_get (entries self.now) idx)) offset) };
 

@@ -19,8 +19,8 @@ returns-in-Err-close_subs-clause-err g c =
     let b : CausedBy (all_checks (index_checks c.args.known es c.len.result) w) c.args.offset c.in-Err-close_subs.err = search rules in
     index_caused fs c.args.known es w c.len.result c.args.offset c.in-Err-close_subs.err l b
 
-pub returns-in-Ok-check_order-clause-free : goal.returns-in-Ok-check_order-clause-free
-returns-in-Ok-check_order-clause-free g c =
+pub returns-clause-free : goal.returns-clause-free
+returns-clause-free g c =
     let es : List Core_entry = g.G.InternRecGroup.entries c.args.group.now in
     let fs : WasmFeatures = g.G.InternRecGroup.allowed c.args.group.now in
     let w : Group = group_form c.args.rec in

@@ -1,16 +1,9 @@
 use Rattle.std.proofs.Common.{arith, rules, ◌≡◌, length, None, inl}
 use Rattle.wcv_core.specs.CoreForm.{Group, sub_form, group_form}
 use Rattle.wcv_core.specs.CoreGroups.{id_of}
-use Rattle.wcv_core.proofs.Joining.{limit_caused, limit_free}
+use Rattle.wcv_core.proofs.Joining.{limit_free}
 use Rattle.wcv_core.proofs.Rowing.{length-map}
 use Rattle.wcv_core.proofs.core_table.CoreTypes.intern.Goals as goal
-
-pub returns-in-Err-check_room-clause-cause : goal.returns-in-Err-check_room-clause-cause
-returns-in-Err-check_room-clause-cause c =
-    let g : Group = group_form c.args.group in
-    let m : length g ≡ length c.args.group.types.items = length-map sub_form c.args.group.types.items in
-    let a : id_of c.args.self.now g ≡ None = search rules in
-    limit_caused c.args.self.now g c.len.result c.args.offset c.in-Err-check_room.err a (omega (arith, c.len.ensures)) c.in-Err-check_room.ensures.err
 
 pub returns-in-Ok-add-clause-free : goal.returns-in-Ok-add-clause-free
 returns-in-Ok-add-clause-free c =
@@ -21,6 +14,3 @@ returns-in-Ok-add-clause-free c =
 
 pub returns-in-Err-clause-cause : goal.returns-in-Err-clause-cause
 returns-in-Err-clause-cause c = inl (search rules)
-
-pub returns-in-Err-add-clause-cause : goal.returns-in-Err-add-clause-cause
-returns-in-Err-add-clause-cause c = inl (search rules)
