@@ -15,7 +15,7 @@ use crate::name_slip::NameSlip;
 use bitflags::Flags;
 use std::alloc::Global;
 use std::marker::Model;
-use wcv_core::{Error, ErrorKind, Excerpt, OutOfMemory, Text, WasmFeatures};
+use wcv_core::{Error, ErrorKind, Excerpt, OutOfMemory, Text, WasmFeatures, missing_feature};
 
 /// A name that has a form. Contracts see it as its text.
 #[derive(Drop)]
@@ -48,7 +48,7 @@ pub fn checked_kind<'a>(
         None => {
             let excerpt = Excerpt(name);
             let slip = NameSlip(name);
-            Err(Error::new(
+            Err(Error::told(
                 ErrorKind::Name,
                 offset,
                 format_args!("`{excerpt}` is not a name of an import or an export: {slip}"),
@@ -56,14 +56,9 @@ pub fn checked_kind<'a>(
         }
         Some(kind) => {
             if kind.is_accessor() && !features.contains(WasmFeatures::CM_ACCESSORS) {
-                let excerpt = Excerpt(name);
-                return Err(Error::new(
-                    ErrorKind::Feature,
-                    offset,
-                    format_args!(
-                        "the name `{excerpt}` needs the feature `cm-accessors`, which the listing does not name"
-                    ),
-                ));
+                let by = "the name `%n`";
+                let refusal = missing_feature(by, name, "cm-accessors", offset);
+                return Err(Error::from(refusal));
             }
             Ok(kind)
         }

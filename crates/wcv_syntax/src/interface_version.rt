@@ -24,7 +24,7 @@ fn parse_version(alloc: Global, text: &str, offset: u64) -> Result<Version, Erro
                 return Err(Error::from(OutOfMemory));
             }
             let excerpt = Excerpt(text);
-            Err(Error::new(
+            Err(Error::told(
                 ErrorKind::Name,
                 offset,
                 format_args!("`{excerpt}` is not a version as 1.0.0 is: {fault}"),
@@ -50,7 +50,7 @@ impl InterfaceName<'_> {
             None => {
                 if suffix.is_some() {
                     let excerpt = Excerpt(self.text);
-                    return Err(Error::new(
+                    return Err(Error::told(
                         ErrorKind::Name,
                         offset,
                         format_args!(
