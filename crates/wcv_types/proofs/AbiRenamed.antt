@@ -2,7 +2,7 @@
 use Rattle.std.proofs.Common.{◌≡◌, ℕ, suc, max, ◌+◌, refl, ap, ◌∙◌, ◌||◌}
 use Rattle.wcv_types.specs.Abi.{align_up, former_size, former_align, former_has, count, abi_align, greatest_align, abi_size, end_of, greatest_size, Mark, contains, any_contains}
 use Rattle.wcv_types.specs.Rename.{rename, rename_parts}
-use Rattle.wcv_types.specs.Tree.{nothing, primitive, resource, defined, func, instance, component, type_entity, core_module, core_instance, core_type, core_item, Tree, node, Parts, none, part}
+use Rattle.wcv_types.specs.Tree.{nothing, primitive, defined, Tree, node, Parts, none, part}
 
 module _ {R S I J : Type 0} (f : R → S) (g : I → J) where
   count-rename : (ps : Parts R I) → count (rename_parts f g ps) ≡ count ps
@@ -17,15 +17,7 @@ module _ {R S I J : Type 0} (f : R → S) (g : I → J) where
         let n : count (rename_parts f g ps) ≡ count ps = count-rename ps in
         λ j. former_align p k (a j) (n j)
     abi_align-rename p (node nothing ps) = refl
-    abi_align-rename p (node (resource r s) ps) = refl
-    abi_align-rename p (node (func i b) ps) = refl
-    abi_align-rename p (node (instance i own) ps) = refl
-    abi_align-rename p (node (component i ins outs) ps) = refl
-    abi_align-rename p (node type_entity ps) = refl
-    abi_align-rename p (node (core_module i n) ps) = refl
-    abi_align-rename p (node (core_instance i n) ps) = refl
-    abi_align-rename p (node (core_type k) ps) = refl
-    abi_align-rename p (node (core_item x) ps) = refl
+    abi_align-rename p (node h ps) = refl
 
     greatest_align-rename : (p : ℕ) (ps : Parts R I) → greatest_align p (rename_parts f g ps) ≡ greatest_align p ps
     greatest_align-rename p none = refl
@@ -44,15 +36,7 @@ module _ {R S I J : Type 0} (f : R → S) (g : I → J) where
         let n : count (rename_parts f g ps) ≡ count ps = count-rename ps in
         λ j. former_size p k (e j) (a j) (s j) (n j)
     abi_size-rename p (node nothing ps) = refl
-    abi_size-rename p (node (resource r s) ps) = refl
-    abi_size-rename p (node (func i b) ps) = refl
-    abi_size-rename p (node (instance i own) ps) = refl
-    abi_size-rename p (node (component i ins outs) ps) = refl
-    abi_size-rename p (node type_entity ps) = refl
-    abi_size-rename p (node (core_module i n) ps) = refl
-    abi_size-rename p (node (core_instance i n) ps) = refl
-    abi_size-rename p (node (core_type k) ps) = refl
-    abi_size-rename p (node (core_item x) ps) = refl
+    abi_size-rename p (node h ps) = refl
 
     end_of-rename : (p at : ℕ) (ps : Parts R I) → end_of p at (rename_parts f g ps) ≡ end_of p at ps
     end_of-rename p at none = refl
@@ -71,18 +55,8 @@ module _ {R S I J : Type 0} (f : R → S) (g : I → J) where
 
   mutual
     pub contains-rename : (m : Mark) (t : Tree R I) → contains m (rename f g t) ≡ contains m t
-    contains-rename m (node (primitive q) ps) = refl
     contains-rename m (node (defined i k) ps) = ap (former_has m k) (any_contains-rename m ps)
-    contains-rename m (node nothing ps) = refl
-    contains-rename m (node (resource r s) ps) = refl
-    contains-rename m (node (func i b) ps) = refl
-    contains-rename m (node (instance i own) ps) = refl
-    contains-rename m (node (component i ins outs) ps) = refl
-    contains-rename m (node type_entity ps) = refl
-    contains-rename m (node (core_module i n) ps) = refl
-    contains-rename m (node (core_instance i n) ps) = refl
-    contains-rename m (node (core_type k) ps) = refl
-    contains-rename m (node (core_item x) ps) = refl
+    contains-rename m (node h ps) = refl
 
     any_contains-rename : (m : Mark) (ps : Parts R I) → any_contains m (rename_parts f g ps) ≡ any_contains m ps
     any_contains-rename m none = refl

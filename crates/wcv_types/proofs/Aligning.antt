@@ -6,7 +6,7 @@ use Rattle.std.proofs.lemmas.Bool.{cases_lt}
 use Rattle.wcv_core.specs.declared.primitive.PrimitiveValType.{PrimitiveValType}
 use Rattle.wcv_core.specs.declared.primitive.PrimitiveValType.TheVariants as prim
 use Rattle.wcv_types.specs.Abi.{primitive_align, align_up, discriminant, flags_size, variant_size, former_size, former_align, abi_align, greatest_align, count, kept_size}
-use Rattle.wcv_types.specs.Tree.{Former, named, record_of, variant_of, list_of, map_of, tuple_of, option_of, result_of, own_of, borrow_of, future_of, stream_of, fixed_list_of, flags_of, enum_of, nothing, primitive, resource, defined, func, instance, component, type_entity, core_module, core_instance, core_type, core_item, Tree, node, Parts, none, part}
+use Rattle.wcv_types.specs.Tree.{Former, named, record_of, variant_of, list_of, map_of, tuple_of, option_of, result_of, own_of, borrow_of, future_of, stream_of, fixed_list_of, flags_of, enum_of, primitive, defined, Tree, node, Parts, none, part}
 
 -- ## Alignments
 
@@ -21,20 +21,8 @@ flags-positive : (n : ℕ) → 1 ≤ flags_size n
 flags-positive n = cond_positive (nat_le n 8) 1 _ (omega arith) (cond_positive (nat_le n 16) 2 4 (omega arith) (omega arith))
 
 primitive-positive : (p : ℕ) → 1 ≤ p → (q : PrimitiveValType) → 1 ≤ primitive_align p q
-primitive-positive p h prim.Bool = omega arith
-primitive-positive p h prim.S8 = omega arith
-primitive-positive p h prim.U8 = omega arith
-primitive-positive p h prim.S16 = omega arith
-primitive-positive p h prim.U16 = omega arith
-primitive-positive p h prim.S32 = omega arith
-primitive-positive p h prim.U32 = omega arith
-primitive-positive p h prim.S64 = omega arith
-primitive-positive p h prim.U64 = omega arith
-primitive-positive p h prim.F32 = omega arith
-primitive-positive p h prim.F64 = omega arith
-primitive-positive p h prim.Char = omega arith
 primitive-positive p h prim.String = h
-primitive-positive p h prim.ErrorContext = omega arith
+primitive-positive p h x = omega arith
 
 former-positive : (p : ℕ) → 1 ≤ p → (k : Former) (a n : ℕ) → 1 ≤ a → 1 ≤ former_align p k a n
 former-positive p h (named q) a n i = primitive-positive p h q
@@ -57,16 +45,7 @@ mutual
   pub align-positive : {R I : Type 0} (p : ℕ) → 1 ≤ p → (t : Tree R I) → 1 ≤ abi_align p t
   align-positive p h (node (primitive q) ps) = primitive-positive p h q
   align-positive p h (node (defined i k) ps) = former-positive p h k (greatest_align p ps) (count ps) (greatest-positive p h ps)
-  align-positive p h (node nothing ps) = omega arith
-  align-positive p h (node (resource r s) ps) = omega arith
-  align-positive p h (node (func i b) ps) = omega arith
-  align-positive p h (node (instance i own) ps) = omega arith
-  align-positive p h (node (component i ins outs) ps) = omega arith
-  align-positive p h (node type_entity ps) = omega arith
-  align-positive p h (node (core_module i m) ps) = omega arith
-  align-positive p h (node (core_instance i m) ps) = omega arith
-  align-positive p h (node (core_type i) ps) = omega arith
-  align-positive p h (node (core_item x) ps) = omega arith
+  align-positive p h (node x ps) = omega arith
 
   pub greatest-positive : {R I : Type 0} (p : ℕ) → 1 ≤ p → (ps : Parts R I) → 1 ≤ greatest_align p ps
   greatest-positive p h none = omega arith
@@ -132,12 +111,4 @@ former-kept p variant_of end a greatest n = variant-kept (discriminant n) a grea
 former-kept p option_of end a greatest n = variant-kept 1 a greatest
 former-kept p result_of end a greatest n = variant-kept 1 a greatest
 former-kept p (fixed_list_of k) end a greatest n = times-kept k greatest
-former-kept p (named q) end a greatest n = refl
-former-kept p (enum_of ls) end a greatest n = refl
-former-kept p (flags_of ls) end a greatest n = refl
-former-kept p list_of end a greatest n = refl
-former-kept p map_of end a greatest n = refl
-former-kept p own_of end a greatest n = refl
-former-kept p borrow_of end a greatest n = refl
-former-kept p future_of end a greatest n = refl
-former-kept p stream_of end a greatest n = refl
+former-kept p x end a greatest n = refl

@@ -3,7 +3,7 @@ use Rattle.std.proofs.Common.{◌≡◌, ℕ, List, [], ◌∷◌, map, Bool, tr
 use Rattle.std.specs.Prelude.{All}
 use Rattle.std.proofs.lemmas.List.Elements.{All-head, All-tail}
 use Rattle.wcv_core.specs.Names.{Name, same, member}
-use Rattle.wcv_types.specs.Tree.{Head, nothing, primitive, resource, defined, func, instance, component, type_entity, core_module, core_instance, core_type, core_item, Tree, node, Parts, none, part, firsts}
+use Rattle.wcv_types.specs.Tree.{Head, nothing, resource, instance, component, Tree, node, Parts, none, part, firsts}
 use Rattle.wcv_types.specs.Rename.{rename_head, rename, rename_parts, rename_paths, HeadNames, EachName, EachNameIn}
 use Rattle.wcv_types.specs.Resources.{owns, RefersTo, Free, FreeIn, spare, substitute_head, substitute, substitute_parts}
 use Rattle.wcv_types.proofs.Identity.{same_under}
@@ -37,29 +37,11 @@ module _ {I J : Type 0} (f back : Name → Name) (g : I → J) (Q : I → Type 0
       let b : member (f r) (firsts (rename_paths f outs)) ≡ member r (firsts outs) = firsts-renamed r e outs n.2 in
       λ j. a j || b j
   owns-renamed nothing r n e = refl
-  owns-renamed (primitive p) r n e = refl
-  owns-renamed (resource q s) r n e = refl
-  owns-renamed (defined i k) r n e = refl
-  owns-renamed (func i b) r n e = refl
-  owns-renamed type_entity r n e = refl
-  owns-renamed (core_module i k) r n e = refl
-  owns-renamed (core_instance i k) r n e = refl
-  owns-renamed (core_type k) r n e = refl
-  owns-renamed (core_item x) r n e = refl
+  owns-renamed x r n e = refl
 
   head-commutes : (u v : Name → Name) (h : Head Name I) → ((r : Name) → RefersTo r h → v (f r) ≡ f (u r)) → rename_head f g (substitute_head u h) ≡ substitute_head v (rename_head f g h)
   head-commutes u v (resource q s) p = ap (λ z. resource z (g s)) (sym (p q refl))
-  head-commutes u v nothing p = refl
-  head-commutes u v (primitive q) p = refl
-  head-commutes u v (defined i k) p = refl
-  head-commutes u v (func i b) p = refl
-  head-commutes u v (instance i own) p = refl
-  head-commutes u v (component i ins outs) p = refl
-  head-commutes u v type_entity p = refl
-  head-commutes u v (core_module i n) p = refl
-  head-commutes u v (core_instance i n) p = refl
-  head-commutes u v (core_type k) p = refl
-  head-commutes u v (core_item x) p = refl
+  head-commutes u v x p = refl
 
   spare-commutes : (u v : Name → Name) (h : Head Name I) (r : Name) → HeadNames R Q h → R r → (owns h r ≡ false → v (f r) ≡ f (u r)) → spare (rename_head f g h) v (f r) ≡ f (spare h u r)
   spare-commutes u v h r n e p = go (owns h r) refl

@@ -174,7 +174,7 @@ joined_if (Ok x) gs ks g h k = let w = joined gs g in (w.0, h ∙ w.1)
 joined_if (Err x) gs ks g h k = ([], k ∙ sym (append-nil gs))
 
 -- of what may have joined where memory ended
-pub grown_or_left : {S T : Type 0} (r : Result T Error) (add : S → ℕ → S) (failed : S → S) (s t : S) (gs ks : List Group) (g : Group) →
+pub grown_or_left : {M : Type 0} {S T : Type 0} (r : Result T (Error M)) (add : S → ℕ → S) (failed : S → S) (s t : S) (gs ks : List Group) (g : Group) →
     OnOk r (ks ≡ grown gs g) → IfErr r (IsLeft add failed s t gs ks g) → (hs : List Group) × (ks ≡ gs ++ hs)
 grown_or_left (Ok x) add failed s t gs ks g h k = let w = grown_by gs g in (w.0, h ∙ w.1)
 grown_or_left (Err x) add failed s t gs ks g h k = left k

@@ -67,8 +67,12 @@ module _ (a : Arena) (s : InstanceType) (m m' : ComponentCoreModuleTypeId) (qs l
   other_stands h st = All-head (Stands a) (p.Module m') [] (refilled_stand a (kind_slots s.kind) (kind_slots (kind.Instantiated m')) qs h st other_slots)
 
 -- with its own exports
-pub exports_again : (c : CoreInstanceTypeKind) (es fs : List (Text × EntityType)) (qs : List Part) → c ≡ kind.Exports es → fs ≡ es → core_export_slots fs ≡ refill (kind_slots c) qs
-exports_again c es fs qs is again = ap core_export_slots again ∙ sym (refill_items (core_export_slots es) qs (exports_items es)) ∙ ap (λ (k : CoreInstanceTypeKind). refill (kind_slots k) qs) (sym is)
+module _ (s : InstanceType) (es : List (Text × EntityType)) (is : s.kind ≡ kind.Exports es) where
+  pub exports_same : (t : InstanceType) → (t.info ≡ s.info) × (t.kind ≡ kind.Exports es) → t ≡ s
+  exports_same t w = λ j. record { info = w.0 j; kind = (w.1 ∙ sym is) j }
+
+  pub exports_stay : (qs : List Part) → kind_slots s.kind ≡ refill (kind_slots s.kind) qs
+  exports_stay qs = subst (λ (k : CoreInstanceTypeKind). kind_slots k ≡ refill (kind_slots k) qs) (sym is) (sym (refill_items (core_export_slots es) qs (exports_items es)))
 
 module _ (a : Arena) (i : ComponentCoreInstanceTypeId) (s : InstanceType) (qs : List Part) (found : slice_get a.nodes i.index ≡ Some (n.CoreInstance s)) (tree : tree_at a (p.CoreInstance i) ≡ unfolded a i.index (n.CoreInstance s)) where
   pub core_instance_sorts : Refits a (p.CoreInstance i) qs → SameSorts (parts_in (kind_slots s.kind)) qs

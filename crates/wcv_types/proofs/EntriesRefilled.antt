@@ -20,6 +20,13 @@ Refilled es qs k made left = (role : Extern_name → Role) → Refilling (entry_
 abbrev named : Text → Option Text → Option Text → Option Text → Extern_name
 named t i v x = record { name = t; implements = i; version_suffix = v; external_id = x }
 
+-- an entry with another part joins those that were made
+pub one_more : (e y : Entry) (made made' : List Entry) (left : List Part) → made' ≡ made ++ y ∷ [] → y.0 ≡ e.0 → y.1.implements ≡ e.1.implements → y.1.version_suffix ≡ e.1.version_suffix → y.1.external_id ≡ e.1.external_id →
+    entity_slot y.1.ty ≡ refill_slot (entity_slot e.1.ty) left → (role : Extern_name → Role) → entry_slots role made' ≡ entry_slots role made ++ (role (entry_name e), refill_slot (entity_slot e.1.ty) left) ∷ []
+one_more e y made made' left m n i v x slot role =
+    let last : (role (entry_name y), entity_slot y.1.ty) ≡ (role (entry_name e), refill_slot (entity_slot e.1.ty) left) = λ j. (role (named (n j) (i j) (v j) (x j)), slot j) in
+    ap (entry_slots role) m ∙ map-append (λ (z : Entry). (role (entry_name z), entity_slot z.1.ty)) made (y ∷ []) ∙ ap (λ (t : Role × Slot). entry_slots role made ++ t ∷ []) last
+
 module _ (es : List Entry) (qs : List Part) where
   slots_next : (role : Extern_name → Role) (k : ℕ) (e : Entry) → k < length es → e ≡ get_or es k e → entry_slots role (drop k es) ≡ (role (entry_name e), entity_slot e.1.ty) ∷ entry_slots role (drop (k + 1) es)
   slots_next role k e h r = ap (entry_slots role) (drop-cons es k e h ∙ ap (λ (x : Entry). x ∷ drop (suc k) es) (sym r)) ∙ rw add-one refl
@@ -32,17 +39,15 @@ module _ (es : List Entry) (qs : List Part) where
   pub next_fills : (role : Extern_name → Role) (k : ℕ) (e : Entry) (made : List Entry) (left : List Part) → k < length es → e ≡ get_or es k e → Refilled es qs k made left → FillsSlot (entity_slot e.1.ty) left
   next_fills role k e made left h r f = (subst (λ (ss : Slots). Fills ss left) (slots_next role k e h r) (f role).fills).0
 
-  pub next_made : (k : ℕ) (e y : Entry) (made made' : List Entry) (left left' : List Part) → k < length es → e ≡ get_or es k e → y.0 ≡ e.0 → y.1.implements ≡ e.1.implements → y.1.version_suffix ≡ e.1.version_suffix →
-      y.1.external_id ≡ e.1.external_id → entity_slot y.1.ty ≡ refill_slot (entity_slot e.1.ty) left → left' ≡ after_slot (entity_slot e.1.ty) left → made' ≡ made ++ y ∷ [] → Refilled es qs k made left → Refilled es qs (k + 1) made' left'
-  next_made k e y made made' left left' h r n i v x slot l m f role =
+  pub next_made : (k : ℕ) (e : Entry) (made made' : List Entry) (left left' : List Part) → k < length es → e ≡ get_or es k e →
+      ((role : Extern_name → Role) → entry_slots role made' ≡ entry_slots role made ++ (role (entry_name e), refill_slot (entity_slot e.1.ty) left) ∷ []) → left' ≡ after_slot (entity_slot e.1.ty) left →
+      Refilled es qs k made left → Refilled es qs (k + 1) made' left'
+  next_made k e made made' left left' h r m l f role =
       let s : Role × Slot = (role (entry_name e), entity_slot e.1.ty) in
       let rest : Slots = entry_slots role (drop (k + 1) es) in
       let all : Slots = entry_slots role es in
-      let step : Refilling all qs rest (entry_slots role made ++ (s.0, refill_slot s.1 left) ∷ []) left' =
-      went all qs s rest (entry_slots role made) left left' l (subst (λ (ss : Slots). Refilling all qs ss (entry_slots role made) left) (slots_next role k e h r) (f role)) in
-      let last : (s.0, refill_slot s.1 left) ≡ (role (entry_name y), entity_slot y.1.ty) = λ j. (role (named (sym n j) (sym i j) (sym v j) (sym x j)), sym slot j) in
-      subst (λ (ss : Slots). Refilling all qs rest ss left')
-      (ap (λ (t : Role × Slot). entry_slots role made ++ t ∷ []) last ∙ sym (map-append (λ (z : Entry). (role (entry_name z), entity_slot z.1.ty)) made (y ∷ [])) ∙ ap (entry_slots role) (sym m)) step
+      subst (λ (ss : Slots). Refilling all qs rest ss left') (sym (m role))
+      (went all qs s rest (entry_slots role made) left left' l (subst (λ (ss : Slots). Refilling all qs ss (entry_slots role made) left) (slots_next role k e h r) (f role)))
 
   pub all_made : (k : ℕ) (made : List Entry) (left : List Part) → length es ≤ k → Refilled es qs k made left → (role : Extern_name → Role) → (entry_slots role made ≡ refill (entry_slots role es) qs) × (left ≡ after (entry_slots role es) qs)
   all_made k made left h f role =

@@ -30,7 +30,7 @@ leads-entry : (r : Name) (es : List Entry) (j : ℕ) (q : List ℕ) (e : Entry) 
 leads-entry r es j [] e s w = (e, s, w)
 leads-entry r es j (k ∷ q) e s w = (e, s, w.0, w.1)
 
-leads-begins : (r : Name) (es : List Entry) (j : ℕ) (q : List ℕ) → PathLeadsTo (j ∷ q) r es → (e : Entry) × (slice_get es j ≡ Some e) × Reaches r q e.1
+pub leads-begins : (r : Name) (es : List Entry) (j : ℕ) (q : List ℕ) → PathLeadsTo (j ∷ q) r es → (e : Entry) × (slice_get es j ≡ Some e) × Reaches r q e.1
 leads-begins r es j [] w = (w.0, w.1, w.2)
 leads-begins r es j (k ∷ q) w = (w.0, w.1, (w.2, w.3))
 
@@ -86,7 +86,7 @@ to-refers r (core_instance i n) e = absurd e
 to-refers r (core_type k) e = absurd e
 to-refers r (core_item x) e = absurd e
 
-no_path : {x : List ℕ} → None ≡ Some x → ⊥
+pub no_path : {x : List ℕ} → None ≡ Some x → ⊥
 no_path w = cc
 
 type-reaches : (r : Name) (ps : Parts Name Name) (q : List ℕ) → path_at r (node type_entity ps) ≡ Some q → Reaches r q (node type_entity ps)
@@ -140,11 +140,11 @@ first_path-leads r es p h = begins-leads r es p (path_from-begins r 0 es p h)
 
 -- ## Where there is none
 
-no_first : (x y : Option (List ℕ)) (k : ℕ) → or_else (option_map (λ q. k ∷ q) x) y ≡ None → x ≡ None
+pub no_first : (x y : Option (List ℕ)) (k : ℕ) → or_else (option_map (λ q. k ∷ q) x) y ≡ None → x ≡ None
 no_first None y k h = refl
 no_first (Some q) y k h = cc
 
-no_later : (x y : Option (List ℕ)) (k : ℕ) → or_else (option_map (λ q. k ∷ q) x) y ≡ None → y ≡ None
+pub no_later : (x y : Option (List ℕ)) (k : ℕ) → or_else (option_map (λ q. k ∷ q) x) y ≡ None → y ≡ None
 no_later None y k h = h
 no_later (Some q) y k h = cc
 

@@ -8,7 +8,7 @@ use Rattle.wcv_types.specs.Facts.{is_plain, IsFactsOf}
 use Rattle.wcv_types.specs.Measure.{former_weight, weigh, deepen, sizes, first_size, depths, first_depth}
 use Rattle.wcv_types.specs.Named.{named_by_itself, is_named}
 use Rattle.wcv_types.specs.Sums.{HasAlign, HasParts, IsExtentOf, IsSumOf}
-use Rattle.wcv_types.specs.Tree.{Former, named, record_of, variant_of, list_of, map_of, tuple_of, option_of, result_of, own_of, borrow_of, future_of, stream_of, fixed_list_of, flags_of, enum_of, nothing, primitive, resource, defined, func, instance, component, type_entity, core_module, core_instance, core_type, core_item, Role, Parts, node, sort, is_value}
+use Rattle.wcv_types.specs.Tree.{Former, named, variant_of, own_of, borrow_of, flags_of, enum_of, func, Role, Parts, node, sort, is_value}
 use Rattle.wcv_types.specs.Unfold.{Type_tree, capped, former_of, value_parts, value_slots, handles, defined_slots, head_of, slot_parts}
 use Rattle.wcv_types.specs.declared.arena.Node.TheVariants as n
 use Rattle.wcv_types.specs.declared.facts.Facts.{Facts}
@@ -35,34 +35,12 @@ weigh-capped own_of f n = refl
 weigh-capped borrow_of f n = refl
 weigh-capped (flags_of ls) f n = refl
 weigh-capped (enum_of ls) f n = refl
-weigh-capped record_of f n = omega arith
-weigh-capped variant_of f n = omega arith
-weigh-capped tuple_of f n = omega arith
-weigh-capped list_of f n = omega arith
-weigh-capped map_of f n = omega arith
-weigh-capped option_of f n = omega arith
-weigh-capped result_of f n = omega arith
-weigh-capped future_of f n = omega arith
-weigh-capped stream_of f n = omega arith
-weigh-capped (fixed_list_of k) f n = omega arith
+weigh-capped x f n = omega arith
 
 -- a value type does not state its size
 deepen-former : (k : Former) (f n : ℕ) → weigh (former_weight k) f n ≡ deepen (former_weight k) f n
 deepen-former (named q) f n = refl
-deepen-former own_of f n = refl
-deepen-former borrow_of f n = refl
-deepen-former (flags_of ls) f n = refl
-deepen-former (enum_of ls) f n = refl
-deepen-former record_of f n = refl
-deepen-former variant_of f n = refl
-deepen-former tuple_of f n = refl
-deepen-former list_of f n = refl
-deepen-former map_of f n = refl
-deepen-former option_of f n = refl
-deepen-former result_of f n = refl
-deepen-former future_of f n = refl
-deepen-former stream_of f n = refl
-deepen-former (fixed_list_of m) f n = refl
+deepen-former x f n = refl
 
 -- ## How many parts
 
@@ -73,54 +51,16 @@ count-slots ts (p ∷ ps) = ap suc (count-slots ts ps)
 pub slots_of_values : (s : ComponentDefinedType) → handles s ≡ false → defined_slots s ≡ value_slots (value_parts s)
 slots_of_values (d.Own r) h = absurd (false≢true (sym h))
 slots_of_values (d.Borrow r) h = absurd (false≢true (sym h))
-slots_of_values (d.Primitive q) h = refl
-slots_of_values (d.Record fs) h = refl
-slots_of_values (d.Variant cs) h = refl
-slots_of_values (d.List t) h = refl
-slots_of_values (d.Map k t) h = refl
-slots_of_values (d.FixedLengthList t m) h = refl
-slots_of_values (d.Tuple ts) h = refl
-slots_of_values (d.Flags ns) h = refl
-slots_of_values (d.Enum ns) h = refl
-slots_of_values (d.Option t) h = refl
-slots_of_values (d.Result o e) h = refl
-slots_of_values (d.Future o) h = refl
-slots_of_values (d.Stream o) h = refl
+slots_of_values x h = refl
 
 -- the number of parts counts for variants alone
 size-counted : (p : ℕ) (ts : List Type_tree) (s : ComponentDefinedType) (e a g : ℕ) → former_size p (former_of s) e a g (length (value_parts s)) ≡ former_size p (former_of s) e a g (count (slot_parts ts (defined_slots s)))
 size-counted p ts (d.Variant cs) e a g = ap (λ (n : ℕ). former_size p variant_of e a g n) (sym (count-slots ts (value_parts (d.Variant cs))))
-size-counted p ts (d.Primitive q) e a g = refl
-size-counted p ts (d.Record fs) e a g = refl
-size-counted p ts (d.List t) e a g = refl
-size-counted p ts (d.Map k t) e a g = refl
-size-counted p ts (d.FixedLengthList t m) e a g = refl
-size-counted p ts (d.Tuple us) e a g = refl
-size-counted p ts (d.Flags ns) e a g = refl
-size-counted p ts (d.Enum ns) e a g = refl
-size-counted p ts (d.Option t) e a g = refl
-size-counted p ts (d.Result o x) e a g = refl
-size-counted p ts (d.Own r) e a g = refl
-size-counted p ts (d.Borrow r) e a g = refl
-size-counted p ts (d.Future o) e a g = refl
-size-counted p ts (d.Stream o) e a g = refl
+size-counted p ts x e a g = refl
 
 align-counted : (p : ℕ) (ts : List Type_tree) (s : ComponentDefinedType) (a : ℕ) → former_align p (former_of s) a (length (value_parts s)) ≡ former_align p (former_of s) a (count (slot_parts ts (defined_slots s)))
 align-counted p ts (d.Variant cs) a = ap (λ (n : ℕ). former_align p variant_of a n) (sym (count-slots ts (value_parts (d.Variant cs))))
-align-counted p ts (d.Primitive q) a = refl
-align-counted p ts (d.Record fs) a = refl
-align-counted p ts (d.List t) a = refl
-align-counted p ts (d.Map k t) a = refl
-align-counted p ts (d.FixedLengthList t m) a = refl
-align-counted p ts (d.Tuple us) a = refl
-align-counted p ts (d.Flags ns) a = refl
-align-counted p ts (d.Enum ns) a = refl
-align-counted p ts (d.Option t) a = refl
-align-counted p ts (d.Result o x) a = refl
-align-counted p ts (d.Own r) a = refl
-align-counted p ts (d.Borrow r) a = refl
-align-counted p ts (d.Future o) a = refl
-align-counted p ts (d.Stream o) a = refl
+align-counted p ts x a = refl
 
 -- ## All that is known
 
@@ -166,15 +106,5 @@ module _ (s : ComponentDefinedType) (x : Sum) (ts : List Type_tree) (k : ℕ) (h
 -- ## Value types
 
 pub plain_value : (t : Type_tree) → sort t ≡ is_value → is_plain t ≡ is_named [] t
-plain_value (node nothing ps) e = refl
-plain_value (node (primitive q) ps) e = refl
-plain_value (node (resource r s) ps) e = refl
-plain_value (node (defined i k) ps) e = refl
 plain_value (node (func i b) ps) e = cc
-plain_value (node (instance i own) ps) e = refl
-plain_value (node (component i ins outs) ps) e = refl
-plain_value (node type_entity ps) e = refl
-plain_value (node (core_module i m) ps) e = refl
-plain_value (node (core_instance i m) ps) e = refl
-plain_value (node (core_type i) ps) e = refl
-plain_value (node (core_item x) ps) e = refl
+plain_value (node h ps) e = refl

@@ -1,7 +1,7 @@
 -- What is free in a renamed tree, where the renaming has a way back.
 use Rattle.std.proofs.Common.{◌≡◌, refl, ap, sym, ◌∙◌, inl, inr, false}
 use Rattle.wcv_core.specs.Names.{Name}
-use Rattle.wcv_types.specs.Tree.{Head, nothing, primitive, resource, defined, func, instance, component, type_entity, core_module, core_instance, core_type, core_item, Tree, node, Parts, none, part}
+use Rattle.wcv_types.specs.Tree.{Head, resource, Tree, node, Parts, none, part}
 use Rattle.wcv_types.specs.Rename.{rename_head, rename, rename_parts, EachName, EachNameIn}
 use Rattle.wcv_types.specs.Resources.{owns, RefersTo, Free, FreeIn}
 use Rattle.wcv_types.proofs.Occurring.{free_in-occurs}
@@ -11,31 +11,11 @@ use Rattle.wcv_types.proofs.Commute.{owns-renamed}
 module _ {I J : Type 0} (f back : Name → Name) (g : I → J) (Q : I → Type 0) where
   refers-renamed : (r : Name) (h : Head Name I) → RefersTo r h → RefersTo (f r) (rename_head f g h)
   refers-renamed r (resource q s) e = ap f e
-  refers-renamed r nothing e = absurd e
-  refers-renamed r (primitive p) e = absurd e
-  refers-renamed r (defined i k) e = absurd e
-  refers-renamed r (func i b) e = absurd e
-  refers-renamed r (instance i own) e = absurd e
-  refers-renamed r (component i ins outs) e = absurd e
-  refers-renamed r type_entity e = absurd e
-  refers-renamed r (core_module i n) e = absurd e
-  refers-renamed r (core_instance i n) e = absurd e
-  refers-renamed r (core_type k) e = absurd e
-  refers-renamed r (core_item x) e = absurd e
+  refers-renamed r x e = absurd e
 
   refers-renamed_back : (q : Name) (h : Head Name I) → RefersTo q (rename_head f g h) → Comes f (λ r. RefersTo r h) q
   refers-renamed_back q (resource r s) e = (r, refl, sym e)
-  refers-renamed_back q nothing e = absurd e
-  refers-renamed_back q (primitive p) e = absurd e
-  refers-renamed_back q (defined i k) e = absurd e
-  refers-renamed_back q (func i b) e = absurd e
-  refers-renamed_back q (instance i own) e = absurd e
-  refers-renamed_back q (component i ins outs) e = absurd e
-  refers-renamed_back q type_entity e = absurd e
-  refers-renamed_back q (core_module i n) e = absurd e
-  refers-renamed_back q (core_instance i n) e = absurd e
-  refers-renamed_back q (core_type k) e = absurd e
-  refers-renamed_back q (core_item x) e = absurd e
+  refers-renamed_back q x e = absurd e
 
   mutual
     pub free-renamed : (r : Name) (t : Tree Name I) → EachName (λ q. back (f q) ≡ q) Q t → Free r t → Free (f r) (rename f g t)

@@ -59,14 +59,4 @@ module _ (f back : Name → Name) (g g_back : Name → Name) where
 
 pub identity-same : (f g : Name → Name) (h : Head Name Name) → identity_at (rename_head f g h) ≡ option_map (rename_identity f g) (identity_at h)
 identity-same f g nothing = refl
-identity-same f g (primitive p) = refl
-identity-same f g (resource r s) = refl
-identity-same f g (defined i x) = refl
-identity-same f g (func i b) = refl
-identity-same f g (instance i own) = refl
-identity-same f g (component i ins outs) = refl
-identity-same f g type_entity = refl
-identity-same f g (core_module i n) = refl
-identity-same f g (core_instance i n) = refl
-identity-same f g (core_type i) = refl
-identity-same f g (core_item x) = refl
+identity-same f g x = refl

@@ -13,7 +13,7 @@ use Rattle.wcv_types.specs.Facts.{is_plain}
 use Rattle.wcv_types.specs.Identity.{Identity}
 use Rattle.wcv_types.specs.Named.{is_named, are_named, passes}
 use Rattle.wcv_types.specs.Standing.{Stands}
-use Rattle.wcv_types.specs.Tree.{Text, Role, here, label, nothing, primitive, resource, defined, func, instance, component, type_entity, core_module, core_instance, core_type, core_item, node, sort, is_func}
+use Rattle.wcv_types.specs.Tree.{Text, Role, here, label, func, node, sort, is_func}
 use Rattle.wcv_types.specs.Unfold.{Type_tree, Slot, leaf, at, both, core, Slots, value_slot, option_slot, field_slots, value_parts, value_slots, handles, defined_slots, slot_refs, parts_in, slot_tree, slot_parts, tree_at, trees}
 use Rattle.wcv_types.specs.declared.ids.AliasableResourceId.{AliasableResourceId}
 use Rattle.wcv_types.specs.declared.ids.ComponentFuncTypeId.{ComponentFuncTypeId}
@@ -57,17 +57,7 @@ value_plain a (Some (v.Ty i)) s = plain_value (slot_tree (trees a.nodes) (at (p.
 
 plain_passes : (t : Type_tree) → sort t ≡ is_func → is_plain t ≡ passes [] t
 plain_passes (node (func i b) ps) e = refl
-plain_passes (node nothing ps) e = cc
-plain_passes (node (primitive q) ps) e = cc
-plain_passes (node (resource r s) ps) e = cc
-plain_passes (node (defined i k) ps) e = cc
-plain_passes (node (instance i own) ps) e = cc
-plain_passes (node (component i ins outs) ps) e = cc
-plain_passes (node type_entity ps) e = cc
-plain_passes (node (core_module i m) ps) e = cc
-plain_passes (node (core_instance i m) ps) e = cc
-plain_passes (node (core_type i) ps) e = cc
-plain_passes (node (core_item x) ps) e = cc
+plain_passes (node h ps) e = cc
 
 -- a function is plain where it passes
 pub func_plain : (a : Arena) (i : ComponentFuncTypeId) → Stands a (p.Func i) → is_plain (tree_at a (p.Func i)) ≡ passes [] (tree_at a (p.Func i))
@@ -167,19 +157,7 @@ all_slots s k v h = ap (take k) (slots_of_values s v) ∙ all_values s k h ∙ s
 pub handle_slot : (s : ComponentDefinedType) → handles s ≡ true → (r : AliasableResourceId) × (defined_slots s ≡ (here, at (p.Resource r)) ∷ [])
 handle_slot (d.Own r) h = (r, refl)
 handle_slot (d.Borrow r) h = (r, refl)
-handle_slot (d.Primitive q) h = absurd (false≢true h)
-handle_slot (d.Record fs) h = absurd (false≢true h)
-handle_slot (d.Variant cs) h = absurd (false≢true h)
-handle_slot (d.List t) h = absurd (false≢true h)
-handle_slot (d.Map k t) h = absurd (false≢true h)
-handle_slot (d.FixedLengthList t m) h = absurd (false≢true h)
-handle_slot (d.Tuple ts) h = absurd (false≢true h)
-handle_slot (d.Flags ns) h = absurd (false≢true h)
-handle_slot (d.Enum ns) h = absurd (false≢true h)
-handle_slot (d.Option t) h = absurd (false≢true h)
-handle_slot (d.Result o e) h = absurd (false≢true h)
-handle_slot (d.Future o) h = absurd (false≢true h)
-handle_slot (d.Stream o) h = absurd (false≢true h)
+handle_slot x h = absurd (false≢true h)
 
 -- ## Parameters
 

@@ -1,6 +1,6 @@
--- Following the first path to a resource.
-use Rattle.std.proofs.Common.{◌≡◌, ℕ, zero, suc, ◌+◌, List, [], ◌∷◌, ◌++◌, take, drop, refl, sym, ◌∙◌, ap, subst, add-one, append-nil, append_assoc, Bool, true, false, ◌||◌, cond, eqb, Some, None}
-use Rattle.std.specs.Prelude.{Option, Result, IfOk, slice_get}
+-- Where a first path leads, by the forms of the arena, and the paths of a set in order.
+use Rattle.std.proofs.Common.{◌≡◌, ℕ, zero, suc, ◌+◌, List, [], ◌∷◌, ◌++◌, take, refl, sym, ◌∙◌, ap, subst, add-one, append-nil, append_assoc, Bool, true, false, ◌||◌, cond, eqb, Some, None}
+use Rattle.std.specs.Prelude.{Option, slice_get}
 use Rattle.std.specs.List.{IsDistinct, AllByRecursion}
 use Rattle.std.specs.Map.{lookup}
 use Rattle.std.specs.Option.{option_map}
@@ -8,7 +8,7 @@ use Rattle.std.proofs.lemmas.Bool.{false≢true, eqb-true}
 use Rattle.wcv_core.specs.Names.{Name, number, member}
 use Rattle.wcv_types.specs.Arena.{Arena}
 use Rattle.wcv_types.specs.Entities.{any_part, entity_tree, entry_trees, EntityStands}
-use Rattle.wcv_types.specs.ExplicitPaths.{is_type_of, with_path, explicit_paths, GoesOn}
+use Rattle.wcv_types.specs.ExplicitPaths.{is_type_of, ends_at, with_path, explicit_paths}
 use Rattle.wcv_types.specs.FirstPath.{or_else, path_at, path_in, path_from, first_path}
 use Rattle.wcv_types.specs.Resources.{refers, mentions, mentions_in}
 use Rattle.wcv_types.specs.Sets.{same_resource, has_resource}
@@ -31,13 +31,6 @@ use Rattle.wcv_types.proofs.Lists.{some-inj, take-next}
 use Rattle.wcv_types.proofs.Unfolding.{sort_stands}
 
 -- ## Where there is no path
-
-abbrev pub ends_here : Bool → Option (List ℕ)
-ends_here b = cond b (Some []) None
-
--- nothing goes on
-pub stays : (old : List ℕ) (o : Option (List ℕ)) → o ≡ None → GoesOn false old old o
-stays old o e = (e, refl)
 
 no_reference : (r : Name) (h : Head Name Name) → (sort_at h ≡ is_resource → ⊥) → refers r h ≡ false
 no_reference r (resource q s) x = absurd (x refl)
@@ -96,7 +89,7 @@ owned_or false o e = e
 
 mutual
   pub closed_path : (r : Name) (t : Type_tree) → mentions t ≡ false → path_at r t ≡ None
-  closed_path r (node type_entity ps) e = ap ends_here (second_mentioned r ps e)
+  closed_path r (node type_entity ps) e = ap ends_at (second_mentioned r ps e)
   closed_path r (node (instance i own) ps) e = owned_or (member r own) (path_in r 0 ps) (closed_paths r 0 ps e)
   closed_path r (node nothing ps) e = refl
   closed_path r (node (primitive q) ps) e = refl
@@ -128,13 +121,8 @@ refers_where a (any.Func i) r s = no_reference (number r.index) (head (tree_at a
 refers_where a (any.Instance i) r s = no_reference (number r.index) (head (tree_at a (p.Instance i))) (λ e. let w : is_instance ≡ is_resource = sym (sort_stands a (p.Instance i) s) ∙ e in cc)
 refers_where a (any.Component i) r s = no_reference (number r.index) (head (tree_at a (p.Component i))) (λ e. let w : is_component ≡ is_resource = sym (sort_stands a (p.Component i) s) ∙ e in cc)
 
-pub type_leads : (a : Arena) (c q : ComponentAnyTypeId) (r : ResourceId) (b : Bool) (old : List ℕ) → Stands a (any_part q) → b ≡ is_type_of r q →
-    GoesOn b old old (path_at (number r.index) (entity_tree (trees a.nodes) (entity.Ty c q)))
-type_leads a c q r b old s e = go b (ap ends_here (refers_where a q r s ∙ sym e))
-  where
-    go : (b : Bool) → path_at (number r.index) (entity_tree (trees a.nodes) (entity.Ty c q)) ≡ ends_here b → GoesOn b old old (path_at (number r.index) (entity_tree (trees a.nodes) (entity.Ty c q)))
-    go true w = ([], w, sym (append-nil old))
-    go false w = (w, refl)
+pub type_leads : (a : Arena) (c q : ComponentAnyTypeId) (r : ResourceId) → Stands a (any_part q) → ends_at (is_type_of r q) ≡ path_at (number r.index) (entity_tree (trees a.nodes) (entity.Ty c q))
+type_leads a c q r s = ap ends_at (sym (refers_where a q r s))
 
 -- what is no type and no instance leads nowhere
 pub others_lead : (a : Arena) (x : ComponentEntityType) (r : Name) → EntityStands a x → ((c q : ComponentAnyTypeId) → x ≡ entity.Ty c q → ⊥) → ((i : ComponentInstanceTypeId) → x ≡ entity.Instance i → ⊥) →
@@ -157,30 +145,13 @@ exports_lead : (r : Name) (k : ℕ) (ts : List Type_tree) (es : List (Text × Co
 exports_lead r k ts [] = refl
 exports_lead r k ts (e ∷ es) = ap (λ (o : Option (List ℕ)). or_else (option_map (λ (q : List ℕ). k ∷ q) (path_at r (entity_tree ts e.1.ty))) o) (exports_lead r (suc k) ts es)
 
-module _ (a : Arena) (i : ComponentInstanceTypeId) (s : ComponentInstanceType) (r : ResourceId) (u : tree_at a (p.Instance i) ≡ unfolded a i.index (n.Instance s)) where
-  within : path_at (number r.index) (tree_at a (p.Instance i)) ≡ cond (has_resource s.defined_resources r) None (first_path (number r.index) (entry_trees (trees a.nodes) s.exports))
-  within =
-      ap (path_at (number r.index)) u ∙
-      ap (λ (b : Bool). cond b None (path_in (number r.index) 0 (slot_parts (trees a.nodes) (entry_slots export s.exports)))) (sym (has-member s.defined_resources r)) ∙
-      ap (λ (o : Option (List ℕ)). cond (has_resource s.defined_resources r) None o) (exports_lead (number r.index) 0 (trees a.nodes) s.exports)
-
-  pub owner_leads : has_resource s.defined_resources r ≡ true → path_at (number r.index) (tree_at a (p.Instance i)) ≡ None
-  owner_leads e = within ∙ ap (λ (b : Bool). cond b None (first_path (number r.index) (entry_trees (trees a.nodes) s.exports))) e
-
-  instance_leads : has_resource s.defined_resources r ≡ false → path_at (number r.index) (tree_at a (p.Instance i)) ≡ first_path (number r.index) (entry_trees (trees a.nodes) s.exports)
-  instance_leads e = within ∙ ap (λ (b : Bool). cond b None (first_path (number r.index) (entry_trees (trees a.nodes) s.exports))) e
-
-  -- the first path among its exports is the first path within it
-  pub through_instance : {X : Type 0} → has_resource s.defined_resources r ≡ false → (es : List (Text × ComponentItem)) → es ≡ s.exports → (old new : List ℕ) (o : Result Bool X) →
-      IfOk o (λ b. GoesOn b old new (first_path (number r.index) (entry_trees (trees a.nodes) es))) → IfOk o (λ b. GoesOn b old new (path_at (number r.index) (tree_at a (p.Instance i))))
-  through_instance e es same old new o g =
-      subst (λ (q : Option (List ℕ)). IfOk o (λ b. GoesOn b old new q)) (ap (λ (ds : List (Text × ComponentItem)). first_path (number r.index) (entry_trees (trees a.nodes) ds)) same ∙ sym (instance_leads e)) g
-
--- ## Lists of entries
-
--- no path begins before the k-th entry
-abbrev pub NoneBefore : Name → List Type_tree → List (Text × ComponentItem) → ℕ → Type 0
-NoneBefore r ts es k = first_path r (entry_trees ts es) ≡ path_from r k (entry_trees ts (drop k es))
+-- the first path within an instance is that among its exports, unless it owns the resource
+pub instance_leads : (a : Arena) (i : ComponentInstanceTypeId) (s : ComponentInstanceType) (r : ResourceId) → tree_at a (p.Instance i) ≡ unfolded a i.index (n.Instance s) →
+    path_at (number r.index) (tree_at a (p.Instance i)) ≡ cond (has_resource s.defined_resources r) None (first_path (number r.index) (entry_trees (trees a.nodes) s.exports))
+instance_leads a i s r u =
+    ap (path_at (number r.index)) u ∙
+    ap (λ (b : Bool). cond b None (path_in (number r.index) 0 (slot_parts (trees a.nodes) (entry_slots export s.exports)))) (sym (has-member s.defined_resources r)) ∙
+    ap (λ (o : Option (List ℕ)). cond (has_resource s.defined_resources r) None o) (exports_lead (number r.index) 0 (trees a.nodes) s.exports)
 
 -- ## Sets
 

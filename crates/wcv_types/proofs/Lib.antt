@@ -14,6 +14,7 @@ pub mod Seen
 pub mod SameText
 pub mod Named
 pub mod FirstPath
+pub mod PathOrder
 pub mod IsFree
 pub mod Examples
 pub mod CoreGrown
@@ -46,6 +47,7 @@ pub mod Gaining
 pub mod Gathered
 pub mod FreeBelow
 pub mod Leading
+pub mod Finding
 pub mod NamedBySet
 pub mod NamedContents
 pub mod SameTypes

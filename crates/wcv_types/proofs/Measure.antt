@@ -1,8 +1,8 @@
--- Size, depth and height are the same for trees of one shape, as renaming and replacing of resources leave it.
-use Rattle.std.proofs.Common.{◌≡◌, suc, max, ◌+◌, refl, ap}
+-- Size and depth are the same for trees of one shape, as renaming and replacing of resources leave it.
+use Rattle.std.proofs.Common.{◌≡◌, max, ◌+◌, refl}
 use Rattle.wcv_core.specs.Names.{Name}
-use Rattle.wcv_types.specs.Tree.{Head, nothing, primitive, resource, defined, func, instance, component, type_entity, core_module, core_instance, core_type, core_item, Tree, node, Parts, none, part}
-use Rattle.wcv_types.specs.Measure.{weight, weigh, deepen, size, sizes, first_size, depth, depths, first_depth, height, heights}
+use Rattle.wcv_types.specs.Tree.{Head, nothing, resource, Tree, node, Parts, none, part}
+use Rattle.wcv_types.specs.Measure.{weight, weigh, deepen, size, sizes, first_size, depth, depths, first_depth}
 use Rattle.wcv_types.specs.Rename.{rename_head, rename, rename_parts}
 use Rattle.wcv_types.specs.Resources.{spare, substitute_head, substitute, substitute_parts}
 
@@ -64,35 +64,12 @@ module _ {R S I J : Type 0} where
     first_depth-same none (part k' t' ps') e = absurd e
     first_depth-same (part k t ps) none e = absurd e
 
-  mutual
-    pub height-same : (t : Tree R I) (t' : Tree S J) → OfOneShape t t' → height t ≡ height t'
-    height-same (node h ps) (node h' ps') e = ap suc (heights-same ps ps' e.1)
-
-    pub heights-same : (ps : Parts R I) (ps' : Parts S J) → PartsOfOneShape ps ps' → heights ps ≡ heights ps'
-    heights-same none none e = refl
-    heights-same (part k t ps) (part k' t' ps') e =
-        let a : height t ≡ height t' = height-same t t' e.0 in
-        let b : heights ps ≡ heights ps' = heights-same ps ps' e.1 in
-        λ j. max (a j) (b j)
-    heights-same none (part k' t' ps') e = absurd e
-    heights-same (part k t ps) none e = absurd e
-
 -- ## Renaming and replacing
 
 module _ {R S I J : Type 0} (f : R → S) (g : I → J) where
   weight-rename : (h : Head R I) → weight (rename_head f g h) ≡ weight h
   weight-rename nothing = refl
-  weight-rename (primitive p) = refl
-  weight-rename (resource q s) = refl
-  weight-rename (defined i k) = refl
-  weight-rename (func i b) = refl
-  weight-rename (instance i own) = refl
-  weight-rename (component i ins outs) = refl
-  weight-rename type_entity = refl
-  weight-rename (core_module i n) = refl
-  weight-rename (core_instance i n) = refl
-  weight-rename (core_type k) = refl
-  weight-rename (core_item x) = refl
+  weight-rename x = refl
 
   mutual
     pub shape-rename : (t : Tree R I) → OfOneShape (rename f g t) t
@@ -108,23 +85,10 @@ module _ {R S I J : Type 0} (f : R → S) (g : I → J) where
   pub depth-rename : (t : Tree R I) → depth (rename f g t) ≡ depth t
   depth-rename t = depth-same (rename f g t) t (shape-rename t)
 
-  pub height-rename : (t : Tree R I) → height (rename f g t) ≡ height t
-  height-rename t = height-same (rename f g t) t (shape-rename t)
-
 module _ {I : Type 0} where
   weight-substitute : (u : Name → Name) (h : Head Name I) → weight (substitute_head u h) ≡ weight h
   weight-substitute u (resource q s) = refl
-  weight-substitute u nothing = refl
-  weight-substitute u (primitive p) = refl
-  weight-substitute u (defined i k) = refl
-  weight-substitute u (func i b) = refl
-  weight-substitute u (instance i own) = refl
-  weight-substitute u (component i ins outs) = refl
-  weight-substitute u type_entity = refl
-  weight-substitute u (core_module i n) = refl
-  weight-substitute u (core_instance i n) = refl
-  weight-substitute u (core_type k) = refl
-  weight-substitute u (core_item x) = refl
+  weight-substitute u x = refl
 
   mutual
     pub shape-substitute : (u : Name → Name) (t : Tree Name I) → OfOneShape (substitute u t) t
@@ -139,6 +103,3 @@ module _ {I : Type 0} where
 
   pub depth-substitute : (u : Name → Name) (t : Tree Name I) → depth (substitute u t) ≡ depth t
   depth-substitute u t = depth-same (substitute u t) t (shape-substitute u t)
-
-  pub height-substitute : (u : Name → Name) (t : Tree Name I) → height (substitute u t) ≡ height t
-  height-substitute u t = height-same (substitute u t) t (shape-substitute u t)

@@ -3,7 +3,7 @@ use Rattle.std.proofs.Common.{◌≡◌, List, map, refl, ap, ◌∙◌, ◌&&�
 use Rattle.std.specs.Prelude.{Option}
 use Rattle.std.specs.Option.{option_map}
 use Rattle.wcv_core.specs.Names.{Name}
-use Rattle.wcv_types.specs.Tree.{nothing, primitive, resource, defined, func, instance, component, type_entity, core_module, core_instance, core_type, core_item, Tree, node, Parts, none, part}
+use Rattle.wcv_types.specs.Tree.{nothing, resource, defined, func, instance, type_entity, Tree, node, Parts, none, part}
 use Rattle.wcv_types.specs.Identity.{Identity, of_node, of_reference, identity_at, same_identity, rename_identity}
 use Rattle.wcv_types.specs.Rename.{rename, rename_parts, EachName, EachNameIn}
 use Rattle.wcv_types.specs.Named.{is_in, named_by_itself, is_named, are_named, with_identity, with_created, passes, all_pass, created_passes}
@@ -35,15 +35,7 @@ module _ (f back : Name → Name) (g g_back : Name → Name) where
         let b : are_named (map to ids) (rename_parts f g ps) ≡ are_named ids ps = are_named-same ids ps k e.1 in
         λ j. named_by_itself x (a j) (b j)
     is_named-same ids (node nothing ps) k e = refl
-    is_named-same ids (node (primitive p) ps) k e = refl
-    is_named-same ids (node (func i b) ps) k e = refl
-    is_named-same ids (node (instance i own) ps) k e = refl
-    is_named-same ids (node (component i ins outs) ps) k e = refl
-    is_named-same ids (node type_entity ps) k e = refl
-    is_named-same ids (node (core_module i n) ps) k e = refl
-    is_named-same ids (node (core_instance i n) ps) k e = refl
-    is_named-same ids (node (core_type c) ps) k e = refl
-    is_named-same ids (node (core_item x) ps) k e = refl
+    is_named-same ids (node h ps) k e = refl
 
     pub are_named-same : (ids : List Identity) (ps : Parts Name Name) → Each (IdentityKept f back g g_back) ids → EachNameIn (λ r. back (f r) ≡ r) (λ i. g_back (g i) ≡ i) ps →
         are_named (map (rename_identity f g) ids) (rename_parts f g ps) ≡ are_named ids ps
@@ -64,35 +56,13 @@ module _ (f back : Name → Name) (g g_back : Name → Name) where
   with_identity-kept ids (Some i) k e = (e, k)
 
   pub with_created-same : (ids : List Identity) (t : Tree Name Name) → with_created (map (rename_identity f g) ids) (rename f g t) ≡ map (rename_identity f g) (with_created ids t)
-  with_created-same ids (node type_entity none) = refl
-  with_created-same ids (node (core_type k) ps) = refl
-  with_created-same ids (node (core_item x) ps) = refl
   with_created-same ids (node type_entity (part l (node h qs) ps)) = ap (λ (o : Option Identity). with_identity o (map to ids)) (identity-same f g h) ∙ with_identity-same ids (identity_at h)
-  with_created-same ids (node nothing ps) = refl
-  with_created-same ids (node (primitive p) ps) = refl
-  with_created-same ids (node (resource r s) ps) = refl
-  with_created-same ids (node (defined i x) ps) = refl
-  with_created-same ids (node (func i b) ps) = refl
-  with_created-same ids (node (core_module i n) ps) = refl
-  with_created-same ids (node (core_instance i n) ps) = refl
-  with_created-same ids (node (instance i own) ps) = refl
-  with_created-same ids (node (component i ins outs) ps) = refl
+  with_created-same ids x = refl
 
   pub with_created-kept : (ids : List Identity) (t : Tree Name Name) → Each (IdentityKept f back g g_back) ids → EachName (λ r. back (f r) ≡ r) (λ i. g_back (g i) ≡ i) t →
       Each (IdentityKept f back g g_back) (with_created ids t)
-  with_created-kept ids (node type_entity none) k e = k
-  with_created-kept ids (node (core_type c) ps) k e = k
-  with_created-kept ids (node (core_item x) ps) k e = k
   with_created-kept ids (node type_entity (part l (node h qs) ps)) k e = with_identity-kept ids (identity_at h) k (kept_identity f back g g_back h e.1.0.0)
-  with_created-kept ids (node nothing ps) k e = k
-  with_created-kept ids (node (primitive p) ps) k e = k
-  with_created-kept ids (node (resource r s) ps) k e = k
-  with_created-kept ids (node (defined i x) ps) k e = k
-  with_created-kept ids (node (func i b) ps) k e = k
-  with_created-kept ids (node (core_module i n) ps) k e = k
-  with_created-kept ids (node (core_instance i n) ps) k e = k
-  with_created-kept ids (node (instance i own) ps) k e = k
-  with_created-kept ids (node (component i ins outs) ps) k e = k
+  with_created-kept ids x k e = k
 
   -- ## Exports that pass
 
@@ -100,17 +70,10 @@ module _ (f back : Name → Name) (g g_back : Name → Name) where
     pub passes-same : (ids : List Identity) (t : Tree Name Name) → Each (IdentityKept f back g g_back) ids → EachName (λ r. back (f r) ≡ r) (λ i. g_back (g i) ≡ i) t →
         passes (map (rename_identity f g) ids) (rename f g t) ≡ passes ids t
     passes-same ids (node type_entity ps) k e = created_passes-same ids ps k e.1
-    passes-same ids (node (core_type c) ps) k e = refl
-    passes-same ids (node (core_item x) ps) k e = refl
     passes-same ids (node (func i b) ps) k e = are_named-same ids ps k e.1
-    passes-same ids (node (core_module i n) ps) k e = refl
-    passes-same ids (node (core_instance i n) ps) k e = refl
     passes-same ids (node (defined i x) ps) k e = are_named-same ids ps k e.1
     passes-same ids (node (instance i own) ps) k e = all_pass-same ids ps k e.1
-    passes-same ids (node nothing ps) k e = refl
-    passes-same ids (node (primitive p) ps) k e = refl
-    passes-same ids (node (resource r s) ps) k e = refl
-    passes-same ids (node (component i ins outs) ps) k e = refl
+    passes-same ids (node h ps) k e = refl
 
     pub all_pass-same : (ids : List Identity) (ps : Parts Name Name) → Each (IdentityKept f back g g_back) ids → EachNameIn (λ r. back (f r) ≡ r) (λ i. g_back (g i) ≡ i) ps →
         all_pass (map (rename_identity f g) ids) (rename_parts f g ps) ≡ all_pass ids ps

@@ -87,55 +87,25 @@ module _ (ids : List Identity) (ts : List Type_tree) where
   shape_named x s = is_named ids (node (defined x (former_of s)) (slot_parts ts (defined_slots s)))
 
   by_itself : (x : Name) (s : ComponentDefinedType) → names_itself s ≡ true → shape_named x s ≡ is_in ids (of_node x)
-  by_itself x (d.Own a) h = absurd (false≢true h)
-  by_itself x (d.Borrow a) h = absurd (false≢true h)
-  by_itself x (d.Primitive a) h = absurd (false≢true h)
   by_itself x (d.Record a) h = refl
   by_itself x (d.Variant a) h = refl
-  by_itself x (d.List a) h = absurd (false≢true h)
-  by_itself x (d.Map a b) h = absurd (false≢true h)
-  by_itself x (d.FixedLengthList a b) h = absurd (false≢true h)
-  by_itself x (d.Tuple a) h = absurd (false≢true h)
   by_itself x (d.Flags a) h = refl
   by_itself x (d.Enum a) h = refl
-  by_itself x (d.Option a) h = absurd (false≢true h)
-  by_itself x (d.Result a b) h = absurd (false≢true h)
-  by_itself x (d.Future a) h = absurd (false≢true h)
-  by_itself x (d.Stream a) h = absurd (false≢true h)
+  by_itself x y h = absurd (false≢true h)
 
   by_handle : (x : Name) (s : ComponentDefinedType) (r : AliasableResourceId) → handle_of s ≡ Some r → shape_named x s ≡ is_in ids (of_reference (number r.resource.index) (stamp r.stamp))
   by_handle x (d.Own a) q h = and_true (is_in ids (of_reference (number a.resource.index) (stamp a.stamp))) ∙ ap (λ (y : AliasableResourceId). is_in ids (of_reference (number y.resource.index) (stamp y.stamp))) (some_same a q h)
   by_handle x (d.Borrow a) q h = and_true (is_in ids (of_reference (number a.resource.index) (stamp a.stamp))) ∙ ap (λ (y : AliasableResourceId). is_in ids (of_reference (number y.resource.index) (stamp y.stamp))) (some_same a q h)
-  by_handle x (d.Primitive a) q h = absurd (cc)
-  by_handle x (d.Record a) q h = absurd (cc)
-  by_handle x (d.Variant a) q h = absurd (cc)
-  by_handle x (d.List a) q h = absurd (cc)
-  by_handle x (d.Map a b) q h = absurd (cc)
-  by_handle x (d.FixedLengthList a b) q h = absurd (cc)
-  by_handle x (d.Tuple a) q h = absurd (cc)
-  by_handle x (d.Flags a) q h = absurd (cc)
-  by_handle x (d.Enum a) q h = absurd (cc)
-  by_handle x (d.Option a) q h = absurd (cc)
-  by_handle x (d.Result a b) q h = absurd (cc)
-  by_handle x (d.Future a) q h = absurd (cc)
-  by_handle x (d.Stream a) q h = absurd (cc)
+  by_handle x y q h = absurd (cc)
 
   by_parts : (x : Name) (s : ComponentDefinedType) → names_itself s ≡ false → handle_of s ≡ None → shape_named x s ≡ are_named ids (slot_parts ts (value_slots (value_parts s)))
   by_parts x (d.Own a) h e = absurd (cc)
   by_parts x (d.Borrow a) h e = absurd (cc)
-  by_parts x (d.Primitive a) h e = refl
   by_parts x (d.Record a) h e = absurd (false≢true (sym h))
   by_parts x (d.Variant a) h e = absurd (false≢true (sym h))
-  by_parts x (d.List a) h e = refl
-  by_parts x (d.Map a b) h e = refl
-  by_parts x (d.FixedLengthList a b) h e = refl
-  by_parts x (d.Tuple a) h e = refl
   by_parts x (d.Flags a) h e = absurd (false≢true (sym h))
   by_parts x (d.Enum a) h e = absurd (false≢true (sym h))
-  by_parts x (d.Option a) h e = refl
-  by_parts x (d.Result a b) h e = refl
-  by_parts x (d.Future a) h e = refl
-  by_parts x (d.Stream a) h e = refl
+  by_parts x y h e = refl
 
 -- ## The value types that it is made of, one after another
 

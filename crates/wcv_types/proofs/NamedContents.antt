@@ -25,19 +25,7 @@ use Rattle.wcv_types.proofs.NamedBySet.{reference_in_set}
 pub made_of_values : (s : ComponentDefinedType) → handle_of s ≡ None → defined_slots s ≡ value_slots (value_parts s)
 made_of_values (d.Own a) h = cc
 made_of_values (d.Borrow a) h = cc
-made_of_values (d.Primitive a) h = refl
-made_of_values (d.Record a) h = refl
-made_of_values (d.Variant a) h = refl
-made_of_values (d.List a) h = refl
-made_of_values (d.Map a b) h = refl
-made_of_values (d.FixedLengthList a b) h = refl
-made_of_values (d.Tuple a) h = refl
-made_of_values (d.Flags a) h = refl
-made_of_values (d.Enum a) h = refl
-made_of_values (d.Option a) h = refl
-made_of_values (d.Result a b) h = refl
-made_of_values (d.Future a) h = refl
-made_of_values (d.Stream a) h = refl
+made_of_values x h = refl
 
 and_true : (b : Bool) → (b && true) ≡ b
 and_true true = refl
@@ -53,19 +41,7 @@ reference_in ids r = is_in ids (of_reference (number r.resource.index) (stamp r.
 handle_named : (ids : List Identity) (ts : List Type_tree) (s : ComponentDefinedType) (r : AliasableResourceId) → handle_of s ≡ Some r → reference_in ids r ≡ are_named ids (slot_parts ts (defined_slots s))
 handle_named ids ts (d.Own a) r h = ap (reference_in ids) (sym (same_reference a r h)) ∙ sym (and_true (reference_in ids a))
 handle_named ids ts (d.Borrow a) r h = ap (reference_in ids) (sym (same_reference a r h)) ∙ sym (and_true (reference_in ids a))
-handle_named ids ts (d.Primitive a) r h = absurd (cc)
-handle_named ids ts (d.Record a) r h = absurd (cc)
-handle_named ids ts (d.Variant a) r h = absurd (cc)
-handle_named ids ts (d.List a) r h = absurd (cc)
-handle_named ids ts (d.Map a b) r h = absurd (cc)
-handle_named ids ts (d.FixedLengthList a b) r h = absurd (cc)
-handle_named ids ts (d.Tuple a) r h = absurd (cc)
-handle_named ids ts (d.Flags a) r h = absurd (cc)
-handle_named ids ts (d.Enum a) r h = absurd (cc)
-handle_named ids ts (d.Option a) r h = absurd (cc)
-handle_named ids ts (d.Result a b) r h = absurd (cc)
-handle_named ids ts (d.Future a) r h = absurd (cc)
-handle_named ids ts (d.Stream a) r h = absurd (cc)
+handle_named ids ts x r h = absurd (cc)
 
 pub handle_in_set : (a : Arena) (ids : List ComponentAnyTypeId) (ts : List Type_tree) (s : ComponentDefinedType) (r : AliasableResourceId) → AllStand a ids → handle_of s ≡ Some r →
     has_type ids (any.Resource r) ≡ are_named (identities ids) (slot_parts ts (defined_slots s))

@@ -11,7 +11,7 @@ use Rattle.wcv_types.specs.Named.{is_in, named_by_itself, is_named, are_named, w
 use Rattle.wcv_types.specs.NamedBySet.{with_created_type}
 use Rattle.wcv_types.specs.Sets.{same_type, has_type, with_type, AllStand, identities}
 use Rattle.wcv_types.specs.Standing.{Stands, identity_of}
-use Rattle.wcv_types.specs.Tree.{Text, export, Head, nothing, primitive, resource, defined, func, instance, component, type_entity, core_module, core_instance, core_type, core_item, Tree, node, Parts, none, part, head, parts, sort, created, is_type, is_module, is_value, is_func, is_instance, is_component}
+use Rattle.wcv_types.specs.Tree.{Text, export, Head, nothing, primitive, resource, defined, func, instance, type_entity, Tree, node, Parts, none, part, head, parts, sort, created, is_type, is_module, is_value, is_func, is_instance, is_component}
 use Rattle.wcv_types.specs.Unfold.{Type_tree, entry_slots, head_of, slot_parts, trees, tree_at}
 use Rattle.wcv_types.specs.declared.arena.Node.TheVariants as n
 use Rattle.wcv_types.specs.declared.ids.ComponentAnyTypeId.{ComponentAnyTypeId}
@@ -35,18 +35,8 @@ with_identity_by xs ys None h = h
 with_identity_by xs ys (Some j) h = λ i. ap (λ (b : Bool). same_identity i j || b) (h i)
 
 with_created_by : (xs ys : List Identity) (t : Tree Name Name) → SameMembers xs ys → SameMembers (with_created xs t) (with_created ys t)
-with_created_by xs ys (node nothing ps) h = h
-with_created_by xs ys (node (primitive p) ps) h = h
-with_created_by xs ys (node (resource r s) ps) h = h
-with_created_by xs ys (node (defined i x) ps) h = h
-with_created_by xs ys (node (func i b) ps) h = h
-with_created_by xs ys (node (instance i own) ps) h = h
-with_created_by xs ys (node (component i ins outs) ps) h = h
 with_created_by xs ys (node type_entity ps) h = with_identity_by xs ys (identity_at (head (created (node type_entity ps)))) h
-with_created_by xs ys (node (core_module i n) ps) h = h
-with_created_by xs ys (node (core_instance i n) ps) h = h
-with_created_by xs ys (node (core_type c) ps) h = h
-with_created_by xs ys (node (core_item x) ps) h = h
+with_created_by xs ys (node x ps) h = h
 
 mutual
   is_named_by : (xs ys : List Identity) (t : Tree Name Name) → SameMembers xs ys → is_named xs t ≡ is_named ys t
@@ -58,13 +48,7 @@ mutual
       let b : are_named xs ps ≡ are_named ys ps = are_named_by xs ys ps h in
       λ j. named_by_itself x (a j) (b j)
   is_named_by xs ys (node (func i b) ps) h = refl
-  is_named_by xs ys (node (instance i own) ps) h = refl
-  is_named_by xs ys (node (component i ins outs) ps) h = refl
-  is_named_by xs ys (node type_entity ps) h = refl
-  is_named_by xs ys (node (core_module i n) ps) h = refl
-  is_named_by xs ys (node (core_instance i n) ps) h = refl
-  is_named_by xs ys (node (core_type c) ps) h = refl
-  is_named_by xs ys (node (core_item x) ps) h = refl
+  is_named_by xs ys (node x ps) h = refl
 
   are_named_by : (xs ys : List Identity) (ps : Parts Name Name) → SameMembers xs ys → are_named xs ps ≡ are_named ys ps
   are_named_by xs ys none h = refl
@@ -76,18 +60,11 @@ mutual
 -- by such lists the same exports pass
 mutual
   passes_by : (xs ys : List Identity) (t : Tree Name Name) → SameMembers xs ys → passes xs t ≡ passes ys t
-  passes_by xs ys (node nothing ps) h = refl
-  passes_by xs ys (node (primitive p) ps) h = refl
-  passes_by xs ys (node (resource r s) ps) h = refl
   passes_by xs ys (node (defined i x) ps) h = are_named_by xs ys ps h
   passes_by xs ys (node (func i b) ps) h = are_named_by xs ys ps h
   passes_by xs ys (node (instance i own) ps) h = all_pass_by xs ys ps h
-  passes_by xs ys (node (component i ins outs) ps) h = refl
   passes_by xs ys (node type_entity ps) h = created_passes_by xs ys ps h
-  passes_by xs ys (node (core_module i n) ps) h = refl
-  passes_by xs ys (node (core_instance i n) ps) h = refl
-  passes_by xs ys (node (core_type c) ps) h = refl
-  passes_by xs ys (node (core_item x) ps) h = refl
+  passes_by xs ys (node x ps) h = refl
 
   all_pass_by : (xs ys : List Identity) (ps : Parts Name Name) → SameMembers xs ys → all_pass xs ps ≡ all_pass ys ps
   all_pass_by xs ys none h = refl
@@ -122,30 +99,11 @@ same_identities (any.Resource q) (any.Resource r) e =
     let x : q.resource.index ≡ r.resource.index = eqb-true q.resource.index r.resource.index w.0 in
     let y : q.stamp ≡ r.stamp = eqb-true q.stamp r.stamp w.1 in
     λ j. of_reference (number (x j)) (stamp (y j))
-same_identities (any.Resource i) (any.Defined j) e = absurd (false≢true e)
-same_identities (any.Resource i) (any.Func j) e = absurd (false≢true e)
-same_identities (any.Resource i) (any.Instance j) e = absurd (false≢true e)
-same_identities (any.Resource i) (any.Component j) e = absurd (false≢true e)
-same_identities (any.Defined i) (any.Resource j) e = absurd (false≢true e)
 same_identities (any.Defined i) (any.Defined j) e = ap (λ (k : ℕ). of_node (number k)) (eqb-true i.index j.index e)
-same_identities (any.Defined i) (any.Func j) e = absurd (false≢true e)
-same_identities (any.Defined i) (any.Instance j) e = absurd (false≢true e)
-same_identities (any.Defined i) (any.Component j) e = absurd (false≢true e)
-same_identities (any.Func i) (any.Resource j) e = absurd (false≢true e)
-same_identities (any.Func i) (any.Defined j) e = absurd (false≢true e)
 same_identities (any.Func i) (any.Func j) e = ap (λ (k : ℕ). of_node (number k)) (eqb-true i.index j.index e)
-same_identities (any.Func i) (any.Instance j) e = absurd (false≢true e)
-same_identities (any.Func i) (any.Component j) e = absurd (false≢true e)
-same_identities (any.Instance i) (any.Resource j) e = absurd (false≢true e)
-same_identities (any.Instance i) (any.Defined j) e = absurd (false≢true e)
-same_identities (any.Instance i) (any.Func j) e = absurd (false≢true e)
 same_identities (any.Instance i) (any.Instance j) e = ap (λ (k : ℕ). of_node (number k)) (eqb-true i.index j.index e)
-same_identities (any.Instance i) (any.Component j) e = absurd (false≢true e)
-same_identities (any.Component i) (any.Resource j) e = absurd (false≢true e)
-same_identities (any.Component i) (any.Defined j) e = absurd (false≢true e)
-same_identities (any.Component i) (any.Func j) e = absurd (false≢true e)
-same_identities (any.Component i) (any.Instance j) e = absurd (false≢true e)
 same_identities (any.Component i) (any.Component j) e = ap (λ (k : ℕ). of_node (number k)) (eqb-true i.index j.index e)
+same_identities x y e = absurd (false≢true e)
 
 identity_in : (ids : List ComponentAnyTypeId) (c : ComponentAnyTypeId) (i : Identity) → has_type ids c ≡ true → same_identity i (identity_of (any_part c)) ≡ true → is_in (identities ids) i ≡ true
 identity_in [] c i h e = absurd (false≢true h)
@@ -195,18 +153,8 @@ module _ (a : Arena) where
   created_stands ids (entity.Component i) h s = h
 
   no_entity : (ids : List Identity) (t : Tree Name Name) → (sort t ≡ is_type → ⊥) → with_created ids t ≡ ids
-  no_entity ids (node nothing ps) h = refl
-  no_entity ids (node (primitive p) ps) h = refl
-  no_entity ids (node (resource r s) ps) h = refl
-  no_entity ids (node (defined i x) ps) h = refl
-  no_entity ids (node (func i b) ps) h = refl
-  no_entity ids (node (instance i own) ps) h = refl
-  no_entity ids (node (component i ins outs) ps) h = refl
   no_entity ids (node type_entity ps) h = absurd (h refl)
-  no_entity ids (node (core_module i n) ps) h = refl
-  no_entity ids (node (core_instance i n) ps) h = refl
-  no_entity ids (node (core_type c) ps) h = refl
-  no_entity ids (node (core_item x) ps) h = refl
+  no_entity ids (node x ps) h = refl
 
   same_list : (xs ys : List Identity) → ys ≡ xs → SameMembers xs ys
   same_list xs ys e i = ap (λ (zs : List Identity). is_in zs i) (sym e)
@@ -238,9 +186,6 @@ module _ (a : Arena) where
   module _ (set known : List ComponentAnyTypeId) (es : List (Text × ComponentItem)) (k : ℕ) (e : Text × ComponentItem) (within : k < length es) (is : e ≡ get_or es k e) (so : PassedTo set known es k) where
     split : exports_pass set es ≡ (passes (identities known) (entity_tree (trees a.nodes) e.1.ty) && all_pass (with_created (identities known) (entity_tree (trees a.nodes) e.1.ty)) (slot_parts (trees a.nodes) (entry_slots export (drop (suc k) es))))
     split = so.rest ∙ ap (exports_pass known) (drop-cons es k e within ∙ ap (λ (d : Text × ComponentItem). d ∷ drop (suc k) es) (sym is))
-
-    pub one_fails : passes (identities known) (entity_tree (trees a.nodes) e.1.ty) ≡ false → all_pass (identities set) (slot_parts (trees a.nodes) (entry_slots export es)) ≡ false
-    one_fails f = split ∙ ap (λ (b : Bool). b && all_pass (with_created (identities known) (entity_tree (trees a.nodes) e.1.ty)) (slot_parts (trees a.nodes) (entry_slots export (drop (suc k) es)))) f
 
     pub one_passed : (more : List ComponentAnyTypeId) → EntityStands a e.1.ty → passes (identities known) (entity_tree (trees a.nodes) e.1.ty) ≡ true → more ≡ with_created_type known e.1.ty → PassedTo set more es (k + 1)
     one_passed more s t m =

@@ -1,24 +1,14 @@
 -- What holds of the names that occur holds of a free resource.
 use Rattle.std.proofs.Common.{sym, subst, inl, inr}
 use Rattle.wcv_core.specs.Names.{Name}
-use Rattle.wcv_types.specs.Tree.{Head, nothing, primitive, resource, defined, func, instance, component, type_entity, core_module, core_instance, core_type, core_item, Tree, node, Parts, none, part}
+use Rattle.wcv_types.specs.Tree.{Head, resource, Tree, node, Parts, none, part}
 use Rattle.wcv_types.specs.Rename.{HeadNames, EachName, EachNameIn}
 use Rattle.wcv_types.specs.Resources.{RefersTo, Free, FreeIn}
 
 module _ {I : Type 0} (P : Name → Type 0) (Q : I → Type 0) where
   pub refers-occurs : (r : Name) (h : Head Name I) → RefersTo r h → HeadNames P Q h → P r
   refers-occurs r (resource q s) e n = subst P (sym e) n.0
-  refers-occurs r nothing e n = absurd e
-  refers-occurs r (primitive p) e n = absurd e
-  refers-occurs r (defined i k) e n = absurd e
-  refers-occurs r (func i b) e n = absurd e
-  refers-occurs r (instance i own) e n = absurd e
-  refers-occurs r (component i ins outs) e n = absurd e
-  refers-occurs r type_entity e n = absurd e
-  refers-occurs r (core_module i k) e n = absurd e
-  refers-occurs r (core_instance i k) e n = absurd e
-  refers-occurs r (core_type k) e n = absurd e
-  refers-occurs r (core_item x) e n = absurd e
+  refers-occurs r x e n = absurd e
 
   mutual
     pub free-occurs : (r : Name) (t : Tree Name I) → Free r t → EachName P Q t → P r

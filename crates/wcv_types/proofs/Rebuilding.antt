@@ -63,20 +63,7 @@ refill_both (x ∷ xs) ys qs = ap (λ (zs : Slots). (x.0, refill_slot x.1 qs) �
 
 pub defined_parts : (s : ComponentDefinedType) → parts_in (defined_slots s) ≡ handle_parts s ++ parts_in (value_slots (value_parts s))
 defined_parts (d.Own r) = refl
-defined_parts (d.Borrow r) = refl
-defined_parts (d.Primitive q) = refl
-defined_parts (d.Record fs) = refl
-defined_parts (d.Variant cs) = refl
-defined_parts (d.List t) = refl
-defined_parts (d.Map k t) = refl
-defined_parts (d.FixedLengthList t m) = refl
-defined_parts (d.Tuple ts) = refl
-defined_parts (d.Flags ns) = refl
-defined_parts (d.Enum ns) = refl
-defined_parts (d.Option t) = refl
-defined_parts (d.Result o e) = refl
-defined_parts (d.Future o) = refl
-defined_parts (d.Stream o) = refl
+defined_parts x = refl
 
 -- its parts behind others
 pub defined_parts_after : (ps qs rs : List Part) (s : ComponentDefinedType) → qs ≡ ps ++ handle_parts s → rs ≡ qs ++ parts_in (value_slots (value_parts s)) → rs ≡ ps ++ parts_in (defined_slots s)

@@ -2,7 +2,7 @@
 use Rattle.std.proofs.Common.{◌≡◌, Bool, true, false, refl, ap, sym, subst, ◌∙◌, inl, inr}
 use Rattle.std.proofs.lemmas.Bool.{false≢true}
 use Rattle.wcv_core.specs.Names.{Name}
-use Rattle.wcv_types.specs.Tree.{Head, nothing, primitive, resource, defined, func, instance, component, type_entity, core_module, core_instance, core_type, core_item, Tree, node, Parts, none, part}
+use Rattle.wcv_types.specs.Tree.{Head, resource, instance, Tree, node, Parts, none, part}
 use Rattle.wcv_types.specs.Resources.{owns, RefersTo, Free, FreeIn, spare, substitute_head, substitute, substitute_parts, Admits, AdmitsIn}
 
 -- q is what some name with that property becomes
@@ -113,17 +113,7 @@ module _ {I : Type 0} where
 
   refers-substitute : (u : Name → Name) (x : Head Name I) (q : Name) → RefersTo q (substitute_head u x) → Comes u (λ r. RefersTo r x) q
   refers-substitute u (resource r s) q e = (r, refl, sym e)
-  refers-substitute u nothing q e = absurd e
-  refers-substitute u (primitive p) q e = absurd e
-  refers-substitute u (defined i k) q e = absurd e
-  refers-substitute u (func i b) q e = absurd e
-  refers-substitute u (instance i own) q e = absurd e
-  refers-substitute u (component i ins outs) q e = absurd e
-  refers-substitute u type_entity q e = absurd e
-  refers-substitute u (core_module i n) q e = absurd e
-  refers-substitute u (core_instance i n) q e = absurd e
-  refers-substitute u (core_type k) q e = absurd e
-  refers-substitute u (core_item x) q e = absurd e
+  refers-substitute u x q e = absurd e
 
   spare-comes : (x : Head Name I) (u : Name → Name) (P : Name → Type 0) (q : Name) → owns x q ≡ false → Comes (spare x u) P q → Comes u (λ r. (owns x r ≡ false) × P r) q
   spare-comes x u P q o c = go (owns x c.0) refl

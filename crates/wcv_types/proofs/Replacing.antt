@@ -4,13 +4,11 @@ use Rattle.std.proofs.Math.Path.{fun_ext}
 use Rattle.std.specs.Prelude.{Option, Some, None}
 use Rattle.wcv_core.specs.Names.{Name, same}
 use Rattle.wcv_core.proofs.Names.{same-true}
-use Rattle.wcv_types.specs.Tree.{Head, nothing, primitive, resource, defined, func, instance, component, type_entity, core_module, core_instance, core_type, core_item, Tree, node, Parts, none, part, head}
+use Rattle.wcv_types.specs.Tree.{Head, resource, Tree, node, Parts, none, part, head}
 use Rattle.wcv_types.specs.Identity.{Identity, identity_at, same_known}
 use Rattle.wcv_types.specs.Rename.{rename_head, rename_parts, no_identity, without_identities}
 use Rattle.wcv_types.specs.Resources.{owns, spare, substitute_head, substitute, substitute_parts}
 use Rattle.wcv_types.specs.Replacing.{Replacement, given_at, given_or, or_same, new_resource, moved, moves, given_elsewhere, changed, changed_in, new_head, replaced, replaced_in, SparesOwn, SparesOwnIn, GivesSame, GivesSameIn}
-use Rattle.wcv_types.specs.Measure.{height}
-use Rattle.wcv_types.proofs.Measure.{height-rename, height-substitute}
 
 abbrev pub aside : {I : Type 0} → Parts Name I → Parts Name (Unit {0})
 aside ps = rename_parts (λ r. r) no_identity ps
@@ -20,25 +18,8 @@ aside_head h = rename_head (λ r. r) no_identity h
 
 head-new : (m : Replacement) (b : Bool) (h : Head Name Name) → aside_head (new_head m b h) ≡ aside_head (substitute_head (new_resource m) h)
 head-new m b (resource r s) = refl
-head-new m b nothing = refl
-head-new m b (primitive q) = refl
-head-new m b type_entity = refl
-head-new m true (defined i k) = refl
-head-new m true (func i k) = refl
-head-new m true (core_module i n) = refl
-head-new m true (core_instance i n) = refl
-head-new m true (core_type k) = refl
-head-new m true (core_item x) = refl
-head-new m true (instance i own) = refl
-head-new m true (component i ins outs) = refl
-head-new m false (defined i k) = refl
-head-new m false (func i k) = refl
-head-new m false (core_module i n) = refl
-head-new m false (core_instance i n) = refl
-head-new m false (core_type k) = refl
-head-new m false (core_item x) = refl
-head-new m false (instance i own) = refl
-head-new m false (component i ins outs) = refl
+head-new m true x = refl
+head-new m false x = refl
 
 pub none-given : (m : Replacement) → ((i : Identity) → m.nodes i ≡ None) → (h : Head Name Name) → given_at m h ≡ None
 none-given m n h = go (identity_at h)
@@ -74,11 +55,6 @@ module _ (m : Replacement) (n : (i : Identity) → m.nodes i ≡ None) where
         let e' : aside (replaced_in m ps) ≡ aside (substitute_parts (new_resource m) ps) = replaced_in-aside ps s.1 in
         λ j. part k (e j) (e' j)
 
-  -- heights stay
-  pub height-replaced : (t : Tree Name Name) → SparesOwn m t → height (replaced m t) ≡ height t
-  height-replaced t s =
-      sym (height-rename (λ r. r) no_identity (replaced m t)) ∙ ap height (replaced-aside t s) ∙ height-rename (λ r. r) no_identity (substitute (new_resource m) t) ∙ height-substitute (new_resource m) t
-
 -- ## What does not change stays
 
 or_left : (a b : Bool) → (a || b) ≡ false → a ≡ false
@@ -96,17 +72,7 @@ unmoved r (Some q) e = sym (same-true r q (not_false (same r q) e))
 
 head-stays : (m : Replacement) (h : Head Name Name) → moves m h ≡ false → new_head m false h ≡ h
 head-stays m (resource r s) e = ap (λ (q : Name). resource q s) (unmoved r (m.resources r) e)
-head-stays m nothing e = refl
-head-stays m (primitive q) e = refl
-head-stays m type_entity e = refl
-head-stays m (core_type k) e = refl
-head-stays m (core_item x) e = refl
-head-stays m (defined i k) e = refl
-head-stays m (func i k) e = refl
-head-stays m (core_module i n) e = refl
-head-stays m (core_instance i n) e = refl
-head-stays m (instance i own) e = refl
-head-stays m (component i ins outs) e = refl
+head-stays m x e = refl
 
 node-stays : (m : Replacement) (h : Head Name Name) (ps : Parts Name Name) → ((u : Tree Name Name) → given_at m h ≡ Some u → same_known (identity_at h) (identity_at (head u)) ≡ true → u ≡ node h ps) →
     (changed_in m ps ≡ false → replaced_in m ps ≡ ps) → changed m (node h ps) ≡ false → replaced m (node h ps) ≡ node h ps

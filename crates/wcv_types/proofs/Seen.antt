@@ -19,15 +19,7 @@ module _ {I : Type 0} where
       let e' : rename_paths (λ r. r) outs ≡ outs = paths-id outs in
       λ j. λ r. member r (firsts (e j)) || member r (firsts (e' j))
   owns-aside nothing = refl
-  owns-aside (primitive p) = refl
-  owns-aside (resource q s) = refl
-  owns-aside (defined i k) = refl
-  owns-aside (func i b) = refl
-  owns-aside type_entity = refl
-  owns-aside (core_module i n) = refl
-  owns-aside (core_instance i n) = refl
-  owns-aside (core_type k) = refl
-  owns-aside (core_item x) = refl
+  owns-aside x = refl
 
 module _ {I A : Type 0} where
   head-aside : (f : Name → Within A) (h : Head Name I) → seen_head f (aside_head h) ≡ seen_head f h

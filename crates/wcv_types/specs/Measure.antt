@@ -74,12 +74,3 @@ abbrev mutual
   pub first_depth : {R I : Type 0} → Parts R I → ℕ
   first_depth none = 0
   first_depth (part r t ps) = depth t
-
--- how many nodes stand above one another, the measure of recursions
-abbrev mutual
-  pub height : {R I : Type 0} → Tree R I → ℕ
-  height (node h ps) = suc (heights ps)
-
-  pub heights : {R I : Type 0} → Parts R I → ℕ
-  heights none = 0
-  heights (part r t ps) = max (height t) (heights ps)

@@ -1,5 +1,5 @@
--- Paths that lead to a resource in a list of entries.
-use Rattle.std.specs.Prelude.{ℕ, List, [], ◌∷◌, false, slice_get, Some, ◌≡◌}
+-- Paths that lead to a resource in a list of entries, and the first of them.
+use Rattle.std.specs.Prelude.{ℕ, ◌<◌, List, [], ◌∷◌, false, slice_get, Some, ◌≡◌, ◌⊎◌}
 use Rattle.wcv_core.specs.Names.{Name}
 use Rattle.wcv_types.specs.Tree.{Extern_name, Tree, is_instance, is_type, sort, head, exports, referenced}
 use Rattle.wcv_types.specs.Resources.{owns, RefersTo}
@@ -17,3 +17,15 @@ abbrev pub PathLeadsTo : List ℕ → Name → List (Extern_name × Tree Name Na
 PathLeadsTo [] r es = ⊥
 PathLeadsTo (k ∷ []) r es = (e : Extern_name × Tree Name Name) × (slice_get es k ≡ Some e) × IsTypeOf r e.1
 PathLeadsTo (k ∷ j ∷ p) r es = (e : Extern_name × Tree Name Name) × (slice_get es k ≡ Some e) × IsWayTo r e.1 × PathLeadsTo (j ∷ p) r (exports e.1)
+
+-- ## Their order
+
+-- the order of a depth-first walk, entries in order: at the first position where the paths differ, that of p is smaller, or p ends there
+abbrev pub ComesBefore : List ℕ → List ℕ → Type 0
+ComesBefore p [] = ⊥
+ComesBefore [] (j ∷ q) = Unit {0}
+ComesBefore (k ∷ p) (j ∷ q) = (k < j) ⊎ ((k ≡ j) × ComesBefore p q)
+
+-- the path leads to the resource, and none that leads there comes before it
+abbrev pub IsFirstPath : List ℕ → Name → List (Extern_name × Tree Name Name) → Type 0
+IsFirstPath p r es = PathLeadsTo p r es × ((q : List ℕ) → PathLeadsTo q r es → ComesBefore q p → ⊥)

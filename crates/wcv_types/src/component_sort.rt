@@ -23,6 +23,7 @@ use crate::item_map::ItemMap;
 use crate::parts::Parts;
 use crate::refill::Refill;
 use crate::sorts::{NodeSort, TypeSort};
+use std::alloc::Global;
 use wcv_core::OutOfMemory;
 
 /// What is known of imports and exports, added up.
@@ -62,6 +63,21 @@ impl ComponentType {
     }
 }
 
+/// Its imports and its exports with other parts.
+fn sides_again(
+    alloc: Global,
+    shape: &ComponentType,
+    parts: &Parts,
+) -> Result<(ItemMap, ItemMap), OutOfMemory>
+    requires { SameSorts (parts_of (n.Component shape.now)) parts.now }
+    ensures { IfOk result (λ m. entry_slots import m.0 ++ entry_slots export m.1 ≡ refill (slots_of (n.Component shape.now)) parts.now) }
+{
+    let mut left = Refill::new(parts);
+    let imports = entries_again(alloc, shape.imports.as_slice(), &mut left)?;
+    let exports = entries_again(alloc, shape.exports.as_slice(), &mut left)?;
+    Ok((imports, exports))
+}
+
 /// The component type of the same form with other parts.
 fn component_again(
     types: &TypeAlloc,
@@ -78,11 +94,9 @@ fn component_again(
     ensures defined { IfOk result (λ s. s.defined_resources ≡ shape.now.defined_resources) }
 {
     let alloc = types.allocator();
-    let mut left = Refill::new(parts);
-    let imports = entries_again(alloc, shape.imports.as_slice(), &mut left)?;
-    let exports = entries_again(alloc, shape.exports.as_slice(), &mut left)?;
     let imported = copy_paths(alloc, &shape.imported_resources)?;
     let defined = copy_paths(alloc, &shape.defined_resources)?;
+    let (imports, exports) = sides_again(alloc, shape, parts)?;
     Ok(ComponentType::over(types, imports, exports, imported, defined))
 }
 

@@ -13,8 +13,8 @@ ghost use Rattle.wcv_types.specs.declared.arena.Node.{Node};
 
 use crate::arena::TypeAlloc;
 use wcv_core::{
-    CompositeInnerType, CoreTypeId, CoreTypes, Error, FuncType, InternRecGroup, OutOfMemory,
-    RecGroup, SubType, canonicalize_and_intern_rec_group,
+    CompositeInnerType, CoreTypeId, CoreTypes, FuncType, InternRecGroup, OutOfMemory, RecGroup,
+    Refusal, SubType, canonicalize_and_intern_rec_group,
 };
 
 impl TypeAlloc {
@@ -40,7 +40,7 @@ impl TypeAlloc {
         group: &mut G,
         rec: RecGroup,
         offset: u64,
-    ) -> Result<(), Error>
+    ) -> Result<(), Refusal<'static>>
         requires known { All (IsKnown (total self.old.core)) (G.entries group.old) }
         requires room { length (G.entries group.old) + length (group_form rec) < 2 ^ 32 }
         ensures free { OnOk result (IsFree (group_checks (G.allowed group.old) self.old.core (G.entries group.old) (group_form rec))) }
@@ -71,7 +71,11 @@ impl TypeAlloc {
     }
 
     /// The id of the type, in a group of its own and in closed form, with the limit on how many types there are.
-    pub fn intern_sub_type(&mut self, ty: SubType, offset: u64) -> Result<CoreTypeId, Error>
+    pub fn intern_sub_type(
+        &mut self,
+        ty: SubType,
+        offset: u64,
+    ) -> Result<CoreTypeId, Refusal<'static>>
         requires { IsClosed (total self.old.core) (sole_group ty) }
         ensures id { IfOk result (λ id. id_of self.new.core (sole_group ty) ≡ Some id.index) }
         ensures groups { OnOk result (self.new ≡ with_core self.old (with_group self.old.core (sole_group ty))) }
@@ -87,7 +91,11 @@ impl TypeAlloc {
     }
 
     /// So of a function type, which is final, has no supertype, and is not shared.
-    pub fn intern_func_type(&mut self, ty: FuncType, offset: u64) -> Result<CoreTypeId, Error>
+    pub fn intern_func_type(
+        &mut self,
+        ty: FuncType,
+        offset: u64,
+    ) -> Result<CoreTypeId, Refusal<'static>>
         requires { IsClosed (total self.old.core) (func_group ty) }
         ensures id { IfOk result (λ id. id_of self.new.core (func_group ty) ≡ Some id.index) }
         ensures groups { OnOk result (self.new ≡ with_core self.old (with_group self.old.core (func_group ty))) }

@@ -10,6 +10,7 @@ ghost use Rattle.wcv_types.specs.declared.arena.Node.TheVariants as n;
 ghost use Rattle.wcv_types.specs.declared.ids.Part.TheVariants as p;
 
 use crate::arena::{Node, TypeAlloc};
+use crate::core_maps::ExportMap;
 use crate::core_shapes::{CoreInstanceTypeKind, InstanceType};
 use crate::entry_facts::node_facts;
 use crate::facts::Facts;
@@ -18,6 +19,7 @@ use crate::info::TypeInfo;
 use crate::parts::Parts;
 use crate::refill::Refill;
 use crate::sorts::{NodeSort, TypeSort};
+use std::alloc::Global;
 use wcv_core::OutOfMemory;
 
 /// The type of a core instance that was made of the module.
@@ -36,6 +38,19 @@ fn instance_of(types: &TypeAlloc, id: ComponentCoreModuleTypeId) -> InstanceType
         },
         kind: CoreInstanceTypeKind::Instantiated(id),
     }
+}
+
+/// The type of a core instance that exports the same.
+fn exporting_again(
+    alloc: Global,
+    info: TypeInfo,
+    exports: &ExportMap,
+) -> Result<InstanceType, OutOfMemory>
+    ensures { IfOk result (λ s. (s.info ≡ info) × (s.kind ≡ CoreInstanceTypeKind.Exports exports.now)) }
+{
+    let exports = exports.copy(alloc)?;
+    let kind = CoreInstanceTypeKind::Exports(exports);
+    Ok(InstanceType { info, kind })
 }
 
 /// The type of a core instance of the same form with other parts.
@@ -57,10 +72,9 @@ fn instance_again(
             let mut left = Refill::new(parts);
             Ok(instance_of(types, left.module(*module)))
         }
-        CoreInstanceTypeKind::Exports(exports) => Ok(InstanceType {
-            info: shape.info,
-            kind: CoreInstanceTypeKind::Exports(exports.copy(types.allocator())?),
-        }),
+        CoreInstanceTypeKind::Exports(exports) => {
+            exporting_again(types.allocator(), shape.info, exports)
+        }
     }
 }
 

@@ -1,8 +1,8 @@
 // Imports, exports and resources of a node, copied for a node with other parts.
-ghost use Rattle.std.specs.Prelude.{◌≡◌, IfOk, OnOk};
+ghost use Rattle.std.specs.Prelude.{◌≡◌, [], ◌∷◌, ◌++◌, IfOk, OnOk};
 ghost use Rattle.wcv_types.specs.Rebuild.{FillsSlot, Fills, after_slot, refill_slot, refill, after};
 ghost use Rattle.wcv_types.specs.Tree.{Role, Extern_name};
-ghost use Rattle.wcv_types.specs.Unfold.{entity_slot, entry_slots};
+ghost use Rattle.wcv_types.specs.Unfold.{entity_slot, entry_name, entry_slots};
 
 use crate::again::copy_text;
 use crate::component_type::Paths;
@@ -43,6 +43,22 @@ fn item_again(
     })
 }
 
+/// The entry with other parts joins those that were made.
+fn push_again(
+    alloc: Global,
+    entry: &(Text, ComponentItem),
+    parts: &mut Refill<'_>,
+    again: &mut ItemMap,
+) -> Result<(), OutOfMemory>
+    requires { FillsSlot (entity_slot entry.now.1.ty) parts.old }
+    ensures slots { OnOk result ((role : Extern_name → Role) → entry_slots role again.new ≡ entry_slots role again.old ++ (role (entry_name entry.now), refill_slot (entity_slot entry.now.1.ty) parts.old) ∷ []) }
+    ensures left { OnOk result (parts.new ≡ after_slot (entity_slot entry.now.1.ty) parts.old) }
+{
+    let name = copy_text(alloc, &entry.0)?;
+    let item = item_again(alloc, &entry.1, parts)?;
+    again.push((name, item))
+}
+
 /// The entries with other parts.
 #[tactic(auto, using(crate::proofs::EntriesRefilled::none_yet, crate::proofs::EntriesRefilled::all_made))]
 pub fn entries_again(
@@ -56,8 +72,7 @@ pub fn entries_again(
 {
     let mut again = ItemMap::new(alloc);
     for entry in entries {
-        let item = item_again(alloc, &entry.1, parts)?;
-        again.push((copy_text(alloc, &entry.0)?, item))?;
+        push_again(alloc, entry, parts, &mut again)?;
     }
     Ok(again)
 }

@@ -1,9 +1,9 @@
-// The first paths that lead to resources.
+// The first paths that lead to resources, found in one walk.
 ghost use Rattle.std.specs.Prelude.{◌≡◌, ◌++◌, None, All, IfOk, OnOk};
 ghost use Rattle.std.specs.Map.{lookup};
 ghost use Rattle.wcv_core.specs.Names.{number};
 ghost use Rattle.wcv_types.specs.Entities.{entity_tree, entry_trees, EntityStands, EntryStands};
-ghost use Rattle.wcv_types.specs.ExplicitPaths.{is_type_of, with_path, explicit_paths, GoesOn};
+ghost use Rattle.wcv_types.specs.ExplicitPaths.{is_type_of, ends_at, path_to, with_path, explicit_paths, Finds, AllFound};
 ghost use Rattle.wcv_types.specs.FirstPath.{first_path, path_at};
 ghost use Rattle.wcv_types.specs.Sets.{same_resource};
 ghost use Rattle.wcv_types.specs.Standing.{Stands};
@@ -12,103 +12,182 @@ ghost use Rattle.wcv_types.specs.declared.ids.Part.TheVariants as part;
 
 use crate::arena::TypeAlloc;
 use crate::component_type::Paths;
-use crate::ids::{ComponentAnyTypeId, ComponentInstanceTypeId, ResourceId};
+use crate::ids::{ComponentAnyTypeId, ComponentInstanceTypeId, Part, ResourceId};
 use crate::item_map::{ComponentItem, ItemMap};
+use crate::place_set::PlaceSet;
 use crate::resource_set::ResourceSet;
 use crate::shapes::ComponentEntityType;
+use crate::unowned::free_outside;
+use std::alloc::Global;
 use wcv_core::{OutOfMemory, Place, Text};
 
-/// Whether the type is that resource.
-fn is_type_of(id: ComponentAnyTypeId, resource: ResourceId) -> bool
-    ensures { result ≡ is_type_of resource id }
+/// The path joins those that were found, where its resource is of the set and has none yet.
+fn find_resource(
+    resource: ResourceId,
+    ids: &ResourceSet,
+    path: &[u64],
+    alloc: Global,
+    found: &mut Paths,
+) -> Result<(), OutOfMemory>
+    ensures { OnOk result (Finds ids.now path.now (λ r. ends_at (same_resource r resource)) found.old found.new) }
+{
+    if !ids.contains(&resource) {
+        return Ok(());
+    }
+    if found.get(&resource).is_some() {
+        return Ok(());
+    }
+    let place = Place::new(alloc, path)?;
+    found.insert(resource, place)
+}
+
+/// So does that to a type, where it is a resource.
+fn find_type(
+    id: ComponentAnyTypeId,
+    ids: &ResourceSet,
+    path: &[u64],
+    alloc: Global,
+    found: &mut Paths,
+) -> Result<(), OutOfMemory>
+    ensures { OnOk result (Finds ids.now path.now (λ r. ends_at (is_type_of r id)) found.old found.new) }
 {
     match id {
-        ComponentAnyTypeId::Resource(id) => resource.index == id.resource.index,
-        _ => false,
+        ComponentAnyTypeId::Resource(id) => find_resource(id.resource, ids, path, alloc, found),
+        _ => Ok(()),
     }
 }
 
-/// The first path to the resource through the exports of an instance that does not own it goes on behind the path.
-#[cycle(leading)]
-fn lead_through(
+/// The first paths within an instance join those that were found, unless the instance was seen. From then on it was.
+#[cycle(finding)]
+fn find_in_instance(
     types: &TypeAlloc,
     id: ComponentInstanceTypeId,
-    resource: ResourceId,
+    ids: &ResourceSet,
+    seen: &mut PlaceSet,
     path: &mut Vec<u64>,
-) -> Result<bool, OutOfMemory>
-    requires { Stands types.now (part.Instance id) }
-    ensures { IfOk result (λ found. GoesOn found path.old.items path.new.items (path_at (number resource.index) (tree_at types.now (part.Instance id)))) }
+    found: &mut Paths,
+) -> Result<(), OutOfMemory>
+    requires stands { Stands types.now (part.Instance id) }
+    requires seen { AllFound types.now ids.now seen.old found.old }
+    ensures found { OnOk result (Finds ids.now path.old.items (λ r. path_at (number r.index) (tree_at types.now (part.Instance id))) found.old found.new) }
+    ensures seen { OnOk result (AllFound types.now ids.now seen.new found.new) }
+    ensures path { OnOk result (path.new.items ≡ path.old.items) }
 {
     if !types.refers(id.index) {
-        return Ok(false);
+        return Ok(());
     }
-    let shape = types.get(id);
-    if shape.defined_resources.contains(&resource) {
-        return Ok(false);
+    if seen.contains(id.index) {
+        return Ok(());
     }
-    lead_among(types, shape.exports.as_slice(), resource, path)
+    find_in_exports(types, id, ids, seen, path, found)?;
+    seen.push(id.index)
 }
 
-/// So does that to an entry, or through it.
-#[cycle(leading)]
-fn lead_at(
+/// So do those through its exports. What it owns is not looked for there, so what is seen there is for there alone.
+#[cycle(finding)]
+fn find_in_exports(
+    types: &TypeAlloc,
+    id: ComponentInstanceTypeId,
+    ids: &ResourceSet,
+    seen: &mut PlaceSet,
+    path: &mut Vec<u64>,
+    found: &mut Paths,
+) -> Result<(), OutOfMemory>
+    requires stands { Stands types.now (part.Instance id) }
+    requires seen { AllFound types.now ids.now seen.old found.old }
+    ensures found { OnOk result (Finds ids.now path.old.items (λ r. path_at (number r.index) (tree_at types.now (part.Instance id))) found.old found.new) }
+    ensures seen { OnOk result (AllFound types.now ids.now seen.new found.new) }
+    ensures path { OnOk result (path.new.items ≡ path.old.items) }
+{
+    let shape = types.get(id);
+    if shape.defined_resources.len() == 0 {
+        return find_among(types, shape.exports.as_slice(), ids, seen, path, found);
+    }
+    let mut left = ResourceSet::new(types.allocator());
+    free_outside(types, Part::Instance(id), ids, &mut left)?;
+    let mut inside = PlaceSet::new(types.allocator());
+    find_among(
+        types,
+        shape.exports.as_slice(),
+        &left,
+        &mut inside,
+        path,
+        found,
+    )
+}
+
+/// So do those to an entry, or through it.
+#[cycle(finding)]
+fn find_at(
     types: &TypeAlloc,
     ty: ComponentEntityType,
-    resource: ResourceId,
+    ids: &ResourceSet,
+    seen: &mut PlaceSet,
     path: &mut Vec<u64>,
-) -> Result<bool, OutOfMemory>
-    requires { EntityStands types.now ty }
-    ensures { IfOk result (λ found. GoesOn found path.old.items path.new.items (path_at (number resource.index) (entity_tree (trees types.now.nodes) ty))) }
+    found: &mut Paths,
+) -> Result<(), OutOfMemory>
+    requires stands { EntityStands types.now ty }
+    requires seen { AllFound types.now ids.now seen.old found.old }
+    ensures found { OnOk result (Finds ids.now path.old.items (λ r. path_at (number r.index) (entity_tree (trees types.now.nodes) ty)) found.old found.new) }
+    ensures seen { OnOk result (AllFound types.now ids.now seen.new found.new) }
+    ensures path { OnOk result (path.new.items ≡ path.old.items) }
 {
     match ty {
-        ComponentEntityType::Ty { referenced, .. } => Ok(is_type_of(referenced, resource)),
-        ComponentEntityType::Instance(id) => lead_through(types, id, resource, path),
-        _ => Ok(false),
+        ComponentEntityType::Ty { referenced, .. } => {
+            find_type(referenced, ids, path.as_slice(), types.allocator(), found)
+        }
+        ComponentEntityType::Instance(id) => find_in_instance(types, id, ids, seen, path, found),
+        _ => Ok(()),
     }
 }
 
-/// So does that among entries.
-#[cycle(leading)]
-fn lead_among(
+/// So do those among entries.
+#[cycle(finding)]
+fn find_among(
     types: &TypeAlloc,
     entries: &[(Text, ComponentItem)],
-    resource: ResourceId,
+    ids: &ResourceSet,
+    seen: &mut PlaceSet,
     path: &mut Vec<u64>,
-) -> Result<bool, OutOfMemory>
-    requires { All (EntryStands types.now) entries.now }
-    ensures { IfOk result (λ found. GoesOn found path.old.items path.new.items (first_path (number resource.index) (entry_trees (trees types.now.nodes) entries.now))) }
+    found: &mut Paths,
+) -> Result<(), OutOfMemory>
+    requires stand { All (EntryStands types.now) entries.now }
+    requires seen { AllFound types.now ids.now seen.old found.old }
+    ensures found { OnOk result (Finds ids.now path.old.items (λ r. first_path (number r.index) (entry_trees (trees types.now.nodes) entries.now)) found.old found.new) }
+    ensures seen { OnOk result (AllFound types.now ids.now seen.new found.new) }
+    ensures path { OnOk result (path.new.items ≡ path.old.items) }
 {
     for k in 0..entries.len() {
         path.push(k as u64)?;
-        if lead_at(types, entries[k].1.ty, resource, path)? {
-            return Ok(true);
-        }
+        find_at(types, entries[k].1.ty, ids, seen, path, found)?;
         let _ = path.pop();
     }
-    Ok(false)
+    Ok(())
 }
 
-/// The first path to the resource joins the paths, where there is one.
+/// The path that was found to the resource joins the paths, where there is one.
 fn push_path(
-    types: &TypeAlloc,
-    exports: &ItemMap,
     resource: ResourceId,
+    found: &Paths,
+    alloc: Global,
     paths: &mut Paths,
 ) -> Result<(), OutOfMemory>
-    requires stand { All (EntryStands types.now) exports.now }
-    requires new { lookup (same_resource resource) paths.old ≡ None }
-    ensures { OnOk result (paths.new ≡ paths.old ++ with_path resource (first_path (number resource.index) (entry_trees (trees types.now.nodes) exports.now))) }
+    requires { lookup (same_resource resource) paths.old ≡ None }
+    ensures { OnOk result (paths.new ≡ paths.old ++ with_path resource (path_to resource found.now)) }
 {
-    let mut path = Vec::new(types.allocator());
-    if !lead_among(types, exports.as_slice(), resource, &mut path)? {
-        return Ok(());
+    match found.get(&resource) {
+        Some(path) => {
+            let place = Place::new(alloc, path.positions())?;
+            paths.insert(resource, place)
+        }
+        None => Ok(()),
     }
-    let place = Place::new(types.allocator(), &path)?;
-    paths.insert(resource, place)
 }
 
 impl TypeAlloc {
-    /// The first path to each resource of the set that has one, in the order of the set.
+    /// The first path to each resource of the set that has one, in the order of the set. It looks once at what an
+    /// instance exports, however many resources there are, and however many exports have its type; and once more for
+    /// each instance around it that owns resources.
     pub fn explicit_resource_paths(
         &self,
         exports: &ItemMap,
@@ -117,10 +196,21 @@ impl TypeAlloc {
         requires { All (EntryStands self.now) exports.now }
         ensures { IfOk result (λ paths. paths ≡ explicit_paths ids.now (entry_trees (trees self.now.nodes) exports.now)) }
     {
+        let mut seen = PlaceSet::new(self.allocator());
+        let mut path = Vec::new(self.allocator());
+        let mut found = Paths::new(self.allocator());
+        find_among(
+            self,
+            exports.as_slice(),
+            ids,
+            &mut seen,
+            &mut path,
+            &mut found,
+        )?;
         let mut paths = Paths::new(self.allocator());
         for k in 0..ids.len() {
             match ids.get_index(k) {
-                Some(id) => push_path(self, exports, *id, &mut paths)?,
+                Some(id) => push_path(*id, &found, self.allocator(), &mut paths)?,
                 None => unreachable!(),
             }
         }

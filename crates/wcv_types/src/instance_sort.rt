@@ -61,9 +61,9 @@ fn instance_again(
     ensures resources { IfOk result (λ s. s.defined_resources ≡ shape.now.defined_resources) }
 {
     let alloc = types.allocator();
+    let resources = shape.defined_resources.copy(alloc)?;
     let mut left = Refill::new(parts);
     let exports = entries_again(alloc, shape.exports.as_slice(), &mut left)?;
-    let resources = shape.defined_resources.copy(alloc)?;
     Ok(ComponentInstanceType::over(types, resources, exports))
 }
 

@@ -52,7 +52,7 @@ ghost use Rattle.wcv_types.specs.Arena.{Arena};
 ghost use Rattle.wcv_types.specs.Identity.{Identity, of_node};
 ghost use Rattle.wcv_types.specs.Measure.{size, depth};
 ghost use Rattle.wcv_types.specs.FirstPath.{first_path};
-ghost use Rattle.wcv_types.specs.Paths.{PathLeadsTo};
+ghost use Rattle.wcv_types.specs.Paths.{PathLeadsTo, IsFirstPath};
 ghost use Rattle.wcv_types.specs.Renewed.{renewed};
 ghost use Rattle.wcv_types.specs.Rename.{rename, without_identities, HasWayBack, UpToRenaming};
 ghost use Rattle.wcv_types.specs.Replacing.{Replacement, new_resource, changed, changed_in, replaced, SparesOwn, GivesSame};
@@ -182,6 +182,13 @@ pub fn the_first_path_leads_to_its_resource()
 /// Where there is no first path, no path leads to the resource.
 pub fn there_is_a_first_path()
     ensures { (r : Name) (entries : List (Extern_name × Tree Name Name)) → first_path r entries ≡ None → (p : List ℕ) → PathLeadsTo p r entries → ⊥ }
+{}
+
+/// The first path is the one that leads to the resource and comes before all others that lead there, depth first.
+#[tactic(auto, using(crate::proofs::PathOrder::one_comes_first))]
+pub fn the_first_path_comes_first()
+    ensures first { (r : Name) (entries : List (Extern_name × Tree Name Name)) (p : List ℕ) → first_path r entries ≡ Some p → IsFirstPath p r entries }
+    ensures only { (r : Name) (entries : List (Extern_name × Tree Name Name)) (p : List ℕ) → IsFirstPath p r entries → first_path r entries ≡ Some p }
 {}
 
 /// A resource is free in a type of the arena where it is that reference itself, or is free in a part and not owned by the type.
