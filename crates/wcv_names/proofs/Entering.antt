@@ -58,7 +58,7 @@ module _ (ts : List Type_tree) (items : List (Text × ComponentItem)) (ns : Reso
       → IsFree (too_large_with info t) → IsFree (extern_checks ns fs (entry_trees ts items) info n t)
   may_join inst f i e r l w c k = (ap (λ (b : Bool). is_bad_name b n) (sym i) ∙ r, (l, (rule_is f true e w, (conflict_same ∙ c, k))))
 
-  pub by_name : (inst : Bool) (e : Error) → inst ≡ is_instance_tree t → NameRefused inst fs n offset e → MemoryOrCausedBy (extern_checks ns fs (entry_trees ts items) info n t) offset e
+  pub by_name : {M : Type 0} (inst : Bool) (e : Error M) → inst ≡ is_instance_tree t → NameRefused inst fs n offset e → MemoryOrCausedBy (extern_checks ns fs (entry_trees ts items) info n t) offset e
   by_name inst e i h = go (subst (λ (b : Bool). NameRefused b fs n offset e) i h)
     where
       which : IsNameFault (is_instance_tree t) fs n e → Cause All_checks (error_kind e)
@@ -69,19 +69,19 @@ module _ (ts : List Type_tree) (items : List (Text × ComponentItem)) (ns : Reso
       go (inl k) = inl k
       go (inr k) = inr (which k.0, k.1)
 
-  pub by_member : (f : Form) (e : Error) → Some f ≡ form_of n.name → (error_kind e ≡ kind.OutOfMemory) ⊎ ((error_kind e ≡ kind.MethodName) × (error_offset e ≡ offset) × (follows ns (entry_trees ts items) f t ≡ false))
+  pub by_member : {M : Type 0} (f : Form) (e : Error M) → Some f ≡ form_of n.name → (error_kind e ≡ kind.OutOfMemory) ⊎ ((error_kind e ≡ kind.MethodName) × (error_offset e ≡ offset) × (follows ns (entry_trees ts items) f t ≡ false))
       → MemoryOrCausedBy (extern_checks ns fs (entry_trees ts items) info n t) offset e
   by_member f e q (inl k) = inl k
   by_member f e q (inr k) = inr (inr (inr (inl (k.0, rule_is f false q k.2))), k.1)
 
-  pub by_conflict : (e : Error) → error_kind e ≡ kind.Conflict → error_offset e ≡ offset → conflicts (names_in items) n.name ≡ true → MemoryOrCausedBy (extern_checks ns fs (entry_trees ts items) info n t) offset e
+  pub by_conflict : {M : Type 0} (e : Error M) → error_kind e ≡ kind.Conflict → error_offset e ≡ offset → conflicts (names_in items) n.name ≡ true → MemoryOrCausedBy (extern_checks ns fs (entry_trees ts items) info n t) offset e
   by_conflict e k at c = inr (inr (inr (inr (inl (k, conflict_same ∙ c)))), at)
 
-  pub by_size : (e : Error) → MemoryOrCausedBy (too_large_with info t) offset e → MemoryOrCausedBy (extern_checks ns fs (entry_trees ts items) info n t) offset e
+  pub by_size : {M : Type 0} (e : Error M) → MemoryOrCausedBy (too_large_with info t) offset e → MemoryOrCausedBy (extern_checks ns fs (entry_trees ts items) info n t) offset e
   by_size e (inl k) = inl k
   by_size e (inr k) = inr (inr (inr (inr (inr k.0))), k.1)
 
-  pub by_memory : (e : Error) → error_kind e ≡ kind.OutOfMemory → MemoryOrCausedBy (extern_checks ns fs (entry_trees ts items) info n t) offset e
+  pub by_memory : {M : Type 0} (e : Error M) → error_kind e ≡ kind.OutOfMemory → MemoryOrCausedBy (extern_checks ns fs (entry_trees ts items) info n t) offset e
   by_memory e k = inl k
 
 -- the names with that of the entry

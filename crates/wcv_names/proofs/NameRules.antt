@@ -12,7 +12,7 @@ use Rattle.wcv_syntax.specs.NameFaults.{has_accessors, fault_in, name_fault}
 use Rattle.wcv_types.specs.Tree.{Text, Extern_name}
 use Rattle.wcv_names.specs.WholeNames.{bad_suffix, bad_implements, bad_version, is_bad_name, lacks_accessors, lacks_canon_names, lacks_implements, lacks_feature, NameRefused}
 
-module _ (inst : Bool) (fs : WasmFeatures) (n : Extern_name) (offset : ℕ) (e : Error) (at : error_offset e ≡ offset) where
+module _ {M : Type 0} (inst : Bool) (fs : WasmFeatures) (n : Extern_name) (offset : ℕ) (e : Error M) (at : error_offset e ≡ offset) where
   pub by_name : error_kind e ≡ kind.Name → is_bad_name inst n ≡ true → NameRefused inst fs n offset e
   by_name k h = inr (inl (k, h), at)
 
@@ -41,7 +41,7 @@ module _ (inst : Bool) (fs : WasmFeatures) (n : Extern_name) (offset : ℕ) (e :
   by_feature_implements k h = by_feature k (or_right (lacks_accessors fs (form_of n.name)) (lacks_canon_names fs n || lacks_implements fs n) (or_right (lacks_canon_names fs n) (lacks_implements fs n) h))
 
 -- what the name alone is refused by
-module _ (inst : Bool) (fs : WasmFeatures) (n : Extern_name) (offset : ℕ) (e : Error) where
+module _ {M : Type 0} (inst : Bool) (fs : WasmFeatures) (n : Extern_name) (offset : ℕ) (e : Error M) where
   pub by_checked : name_fault fs n.name ≡ Some (error_kind e) → error_offset e ≡ offset → NameRefused inst fs n offset e
   by_checked h at = go (form_of n.name) refl h
     where
@@ -85,6 +85,6 @@ no_lack fs n h c i =
     (or_none (lacks_canon_names fs n) (lacks_implements fs n) c i)
 
 -- a version that is refused, or out of memory
-pub by_version_or_memory : (inst : Bool) (fs : WasmFeatures) (n : Extern_name) (offset : ℕ) (e : Error) → (error_kind e ≡ kind.OutOfMemory) ⊎ ((error_kind e ≡ kind.Name) × (error_offset e ≡ offset) × (bad_version n ≡ true)) → NameRefused inst fs n offset e
+pub by_version_or_memory : {M : Type 0} (inst : Bool) (fs : WasmFeatures) (n : Extern_name) (offset : ℕ) (e : Error M) → (error_kind e ≡ kind.OutOfMemory) ⊎ ((error_kind e ≡ kind.Name) × (error_offset e ≡ offset) × (bad_version n ≡ true)) → NameRefused inst fs n offset e
 by_version_or_memory inst fs n offset e (inl k) = inl k
 by_version_or_memory inst fs n offset e (inr h) = by_version inst fs n offset e h.1 h.0 h.2

@@ -81,9 +81,9 @@ lacks_feature fs n = lacks_accessors fs (form_of n.name) || (lacks_canon_names f
 -- ## Refusals
 
 -- a rule of names is broken, or a feature is missing
-abbrev pub IsNameFault : Bool → WasmFeatures → Extern_name → Error → Type 0
+abbrev pub IsNameFault : {M : Type 0} → Bool → WasmFeatures → Extern_name → Error M → Type 0
 IsNameFault inst fs n e = ((error_kind e ≡ kind.Name) × (is_bad_name inst n ≡ true)) ⊎ ((error_kind e ≡ kind.Feature) × (lacks_feature fs n ≡ true))
 
 -- out of memory, or by such a fault at that offset
-abbrev pub NameRefused : Bool → WasmFeatures → Extern_name → ℕ → Error → Type 0
+abbrev pub NameRefused : {M : Type 0} → Bool → WasmFeatures → Extern_name → ℕ → Error M → Type 0
 NameRefused inst fs n offset e = (error_kind e ≡ kind.OutOfMemory) ⊎ (IsNameFault inst fs n e × (error_offset e ≡ offset))

@@ -51,7 +51,7 @@ fn beside(
     } else {
         "a getter has the key of its item, and a function of a resource one key with its getter"
     };
-    Some(Error::new(
+    Some(Error::told(
         ErrorKind::Conflict,
         offset,
         format_args!("{word} name `{later}` conflicts with {word} {position}, `{earlier}`: {why}"),
@@ -77,7 +77,7 @@ pub fn conflict(
     }
     let word = list.desc();
     let later = Excerpt(name);
-    Error::new(
+    Error::told(
         ErrorKind::Conflict,
         offset,
         format_args!("{word} name `{later}` conflicts with an earlier {word}: both have one key"),

@@ -7,7 +7,7 @@ ghost use Rattle.wcv_types.specs.Unfold.{tree_at, trees, IsInfoOf};
 ghost use Rattle.wcv_names.specs.FuncTrees as trees_of;
 ghost use Rattle.wcv_names.specs.Externs.{is_instance_tree, too_large_with, with_entry};
 
-use wcv_core::Error;
+use wcv_core::Refusal;
 use wcv_types::{
     ComponentAnyTypeId, ComponentEntityType, ComponentValType, TypeAlloc, TypeInfo, TypeSort,
 };
@@ -71,7 +71,7 @@ pub fn measured(
     ty: &ComponentEntityType,
     types: &TypeAlloc,
     offset: u64,
-) -> Result<TypeInfo, Error>
+) -> Result<TypeInfo, Refusal<'static>>
     requires { EntityStands types.now ty.now }
     ensures info { IfOk result (λ i. i ≡ with_entry info (entity_tree (trees types.now.nodes) ty.now)) }
     ensures ok { OnOk result (IsFree (too_large_with info (entity_tree (trees types.now.nodes) ty.now))) }

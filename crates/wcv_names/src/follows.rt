@@ -163,7 +163,7 @@ impl ComponentNameContext {
             let word = list.desc();
             let excerpt = Excerpt(name);
             let wanted = Wanted(kind);
-            return Err(Error::new(
+            return Err(Error::told(
                 ErrorKind::MethodName,
                 offset,
                 format_args!("{word} `{excerpt}` must be {wanted}"),

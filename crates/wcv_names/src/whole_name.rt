@@ -12,7 +12,7 @@ ghost use Rattle.wcv_names.specs.WholeNames.{extern_name, NameRefused};
 use bitflags::Flags;
 use std::alloc::Global;
 use std::fmt;
-use wcv_core::{Error, ErrorKind, Excerpt, WasmFeatures};
+use wcv_core::{Error, ErrorKind, Excerpt, WasmFeatures, missing_feature};
 use wcv_syntax::{ComponentExternName, ComponentNameKind, InterfaceName, checked_kind};
 
 fn is_interface(kind: &ComponentNameKind<'_>) -> bool
@@ -41,19 +41,15 @@ where
     ensures kind { error_kind result ≡ kinds.Name }
     ensures offset { error_offset result ≡ offset }
 {
-    Error::new(ErrorKind::Name, offset, message)
+    Error::told(ErrorKind::Name, offset, message)
 }
 
 /// A refusal of what needs a feature that is missing.
-fn missing(feature: &str, needed_by: &str, offset: u64) -> Error
+fn missing(feature: &'static str, needed_by: &'static str, offset: u64) -> Error
     ensures kind { error_kind result ≡ kinds.Feature }
     ensures offset { error_offset result ≡ offset }
 {
-    Error::new(
-        ErrorKind::Feature,
-        offset,
-        format_args!("{needed_by} needs the feature `{feature}`, which the listing does not name"),
-    )
+    Error::from(missing_feature(needed_by, "", feature, offset))
 }
 
 /// The rest of the version that stands beside the name.
