@@ -9,7 +9,7 @@ use Rattle.wcv_core.specs.declared.core_types.CompositeInnerType.{CompositeInner
 use Rattle.wcv_core.specs.declared.core_types.CompositeInnerType.TheVariants as inner
 use Rattle.wcv_core.specs.declared.core_types.RecGroup.{RecGroup}
 use Rattle.wcv_core.specs.declared.core_types.SubType.{SubType}
-use Rattle.wcv_core.specs.declared.error.Error.{Error}
+use Rattle.wcv_core.specs.Refusal.{Told}
 use Rattle.wcv_core.specs.declared.features.WasmFeatures.{WasmFeatures}
 use Rattle.wcv_module.specs.Kept.{IsCounted}
 use Rattle.wcv_module.proofs.Counting.{decl_counted}
@@ -51,12 +51,12 @@ group_causes outers gs m r d is = ap (group_joins gs m) (sym (group_written r)) 
 pub record IsSoFar (outers : List (List Core_entry)) (gs hs : List Group) (m n : Module_type) (ds rest : List Module_decl) : Type 0 where
   pub made : all_declared outers gs m ds ≡ all_declared outers hs n rest
   pub free : IsFree (module_checks outers hs n rest) → IsFree (module_checks outers gs m ds)
-  pub caused : (offset : ℕ) (e : Error) → MemoryOrCausedBy (module_checks outers hs n rest) offset e → MemoryOrCausedBy (module_checks outers gs m ds) offset e
+  pub caused : (offset : ℕ) (e : Told) → MemoryOrCausedBy (module_checks outers hs n rest) offset e → MemoryOrCausedBy (module_checks outers gs m ds) offset e
   pub known : All (IsKnown (total hs)) (module_entries n)
   pub around : All (All (IsKnown (total hs))) outers
   pub counted : IsCounted hs n
 
-pub decl_caused : (outers : List (List Core_entry)) (gs hs : List Group) (m n : Module_type) (ds : List Module_decl) (d : Module_decl) (rest : List Module_decl) (offset : ℕ) (e : Error)
+pub decl_caused : (outers : List (List Core_entry)) (gs hs : List Group) (m n : Module_type) (ds : List Module_decl) (d : Module_decl) (rest : List Module_decl) (offset : ℕ) (e : Told)
     → IsSoFar outers gs hs m n ds (d ∷ rest) → MemoryOrCausedBy (decl_checks outers hs n d) offset e → MemoryOrCausedBy (module_checks outers gs m ds) offset e
 decl_caused outers gs hs m n ds d rest offset e s (inl k) = s.caused offset e (inl k)
 decl_caused outers gs hs m n ds d rest offset e s (inr c) = s.caused offset e (then_first (decl_checks outers hs n d) (on_made (λ t. module_checks outers t.0 t.1 rest) (declared outers hs n d)) offset e c)

@@ -73,7 +73,7 @@ known_alias n outers m (suc k) i t a b e = known_there n (slice_get outers k) i 
 pub known_with : (n : ℕ) (m : Module_type) (t : ℕ) → t < n → All (IsKnown n) (module_entries m) → All (IsKnown n) (module_entries (with_type m t))
 known_with n m t h a = subst (All (IsKnown n)) (sym (map-append type_entry m.types (record { index = t } ∷ []))) (known_push n t (module_entries m) h a)
 
-pub alias_known : (r : Result (Unit {0}) Error) (n : ℕ) (outers : List (List Core_entry)) (m p : Module_type) (k i : ℕ)
+pub alias_known : {M : Type 0} (r : Result (Unit {0}) (Error M)) (n : ℕ) (outers : List (List Core_entry)) (m p : Module_type) (k i : ℕ)
     → OnOk r (option_map (with_type m) (aliased outers m k i) ≡ Some p) → OnErr r (p ≡ m) → All (IsKnown n) (module_entries m) → All (All (IsKnown n)) outers → All (IsKnown n) (module_entries p)
 alias_known (Err x) n outers m p k i ok err a b = subst (λ (q : Module_type). All (IsKnown n) (module_entries q)) (sym err) a
 alias_known (Ok u) n outers m p k i ok err a b = go (aliased outers m k i) refl ok

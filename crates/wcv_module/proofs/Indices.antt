@@ -51,6 +51,6 @@ none_past [] i e = omega arith
 none_past (x ∷ xs) zero e = Prim.absurd (false≢true e)
 none_past (x ∷ xs) (suc i) e = omega (arith, none_past xs i e)
 
-pub index_cause : (n : ℕ) (ts : List CoreTypeId) (i offset : ℕ) (e : Error) → CausedBy (missing (slice_get ts i)) offset e → CausedBy (heap_checks n (type_entries ts) 0 (heap.Index i)) offset e
+pub index_cause : {M : Type 0} (n : ℕ) (ts : List CoreTypeId) (i offset : ℕ) (e : Error M) → CausedBy (missing (slice_get ts i)) offset e → CausedBy (heap_checks n (type_entries ts) 0 (heap.Index i)) offset e
 index_cause n ts i offset e (inl c, o) = (inl (c.0, lt_past i (length (type_entries ts)) (none_past (type_entries ts) i (missing_entry ts i ∙ c.1))), o)
 index_cause n ts i offset e (inr c, o) = absurd c

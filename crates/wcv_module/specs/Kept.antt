@@ -28,7 +28,7 @@ IsEntityKnown n (entity.Tag t) = t.index < n
 IsEntityKnown n _ = Unit {0}
 
 -- after a refusal module and table are as before; out of memory nothing is said of them
-abbrev pub IsUndone : Module_type → Module_type → List Group → List Group → Error → Type 0
+abbrev pub IsUndone : {M : Type 0} → Module_type → Module_type → List Group → List Group → Error M → Type 0
 IsUndone m n gs hs e = ((n ≡ m) × (hs ≡ gs)) ⊎ (error_kind e ≡ kind.OutOfMemory)
 
 -- what a module imports and exports

@@ -14,7 +14,7 @@ use crate::limits::{check_group, check_import_names, check_name};
 use crate::module::Module;
 use crate::outer::OuterTypes;
 use std::alloc::Global;
-use wcv_core::{Error, WasmFeatures};
+use wcv_core::{Error, Refusal, WasmFeatures};
 use wcv_syntax::{ModuleDecl, ModuleTypeDeclaration};
 use wcv_types::TypeAlloc;
 
@@ -34,7 +34,7 @@ pub trait ModuleDeclaration: Drop {
         ensures { module_decl_view result ≡ form self };
 
     /// Whether its lists and texts keep their limits.
-    fn check_limits(&self, offset: u64) -> Result<(), Error>
+    fn check_limits(&self, offset: u64) -> Result<(), Refusal<'static>>
         ensures ok { OnOk result (IsFree (decl_left (form self.now))) }
         ensures err { IfErr result (CausedBy (decl_left (form self.now)) offset) };
 }
@@ -48,7 +48,7 @@ impl ModuleDeclaration for ModuleTypeDeclaration {
         self
     }
 
-    fn check_limits(&self, offset: u64) -> Result<(), Error> {
+    fn check_limits(&self, offset: u64) -> Result<(), Refusal<'static>> {
         match self {
             ModuleTypeDeclaration::Ty(rec) => check_group(rec, offset),
             ModuleTypeDeclaration::Import(import) => check_import_names(import, offset),
@@ -67,7 +67,7 @@ impl ModuleDeclaration for ModuleDecl {
         self.in_module_type()
     }
 
-    fn check_limits(&self, offset: u64) -> Result<(), Error> {
+    fn check_limits(&self, offset: u64) -> Result<(), Refusal<'static>> {
         match self {
             ModuleDecl::Ty(rec) => check_group(rec, offset),
             ModuleDecl::Import(import) => check_import_names(import, offset),
@@ -98,15 +98,15 @@ impl Module {
         ensures stay { KeepsTrees types.old types.new }
     {
         match decl {
-            ModuleTypeDeclaration::Ty(rec) => self.add_types(rec, types, offset),
+            ModuleTypeDeclaration::Ty(rec) => Ok(self.add_types(rec, types, offset)?),
             ModuleTypeDeclaration::Import(import) => {
-                self.add_import(import, types.core_types(), offset)
+                Ok(self.add_import(import, types.core_types(), offset)?)
             }
             ModuleTypeDeclaration::Export { name, ty } => {
-                self.add_written_export(name.as_str(), &ty, types.core_types(), offset)
+                Ok(self.add_written_export(name.as_str(), &ty, types.core_types(), offset)?)
             }
             ModuleTypeDeclaration::OuterAlias { count, index } => {
-                self.add_outer_alias(outers, count, index, offset)
+                Ok(self.add_outer_alias(outers, count, index, offset)?)
             }
         }
     }

@@ -8,18 +8,18 @@ ghost use Rattle.wcv_syntax.specs.CoreItems.{entity_of};
 ghost use Rattle.wcv_syntax.specs.ModuleTypes.{module_entries, with_export, export_joins};
 
 use crate::module::Module;
-use wcv_core::{CoreTypes, Error};
+use wcv_core::{CoreTypes, Refusal};
 use wcv_syntax::TypeRef;
 
 impl Module {
     /// Adds an export of a written type.
-    pub fn add_written_export(
+    pub fn add_written_export<'a>(
         &mut self,
-        name: &str,
+        name: &'a str,
         ty: &TypeRef,
         core: &CoreTypes,
         offset: u64,
-    ) -> Result<(), Error>
+    ) -> Result<(), Refusal<'a>>
         requires known { All (IsKnown (total core.now)) (module_entries self.old) }
         ensures ok { OnOk result (option_map (with_export core.now self.old name.now) (entity_of self.old.types ty.now) ≡ Some self.new) }
         ensures free { OnOk result (IsFree (export_joins core.now self.old name.now ty.now)) }

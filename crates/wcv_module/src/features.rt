@@ -6,20 +6,21 @@ ghost use Rattle.wcv_core.specs.Refusal.{error_kind, error_offset};
 ghost use Rattle.wcv_syntax.specs.CoreItems.{threads, memory64, custom_page_sizes};
 
 use bitflags::Flags;
-use wcv_core::{Error, ErrorKind, WasmFeatures};
+use wcv_core::{ErrorKind, Refusal, WasmFeatures, missing_feature};
 
 /// Refuses what needs a feature that is missing, by the feature's name and by what needs it.
-fn check_feature(lacks: bool, name: &str, by: &str, offset: u64) -> Result<(), Error>
+fn check_feature(
+    lacks: bool,
+    name: &'static str,
+    by: &'static str,
+    offset: u64,
+) -> Result<(), Refusal<'static>>
     ensures ok { OnOk result (lacks ≡ false) }
     ensures not { OnErr result (lacks ≡ true) }
     ensures err { IfErr result (λ e. (error_kind e ≡ ErrorKind.Feature) × (error_offset e ≡ offset)) }
 {
     if lacks {
-        return Err(Error::new(
-            ErrorKind::Feature,
-            offset,
-            format_args!("{by} needs the feature `{name}`, which the listing does not name"),
-        ));
+        return Err(missing_feature(by, "", name, offset));
     }
     Ok(())
 }
@@ -28,9 +29,9 @@ fn check_feature(lacks: bool, name: &str, by: &str, offset: u64) -> Result<(), E
 pub fn check_memory64(
     features: &WasmFeatures,
     there: bool,
-    by: &str,
+    by: &'static str,
     offset: u64,
-) -> Result<(), Error>
+) -> Result<(), Refusal<'static>>
     ensures ok { OnOk result (IsFree (needs features.now memory64 there)) }
     ensures err { IfErr result (CausedBy (needs features.now memory64 there) offset) }
 {
@@ -39,7 +40,11 @@ pub fn check_memory64(
 }
 
 /// Whether memories may be shared, if one is.
-pub fn check_threads(features: &WasmFeatures, there: bool, offset: u64) -> Result<(), Error>
+pub fn check_threads(
+    features: &WasmFeatures,
+    there: bool,
+    offset: u64,
+) -> Result<(), Refusal<'static>>
     ensures ok { OnOk result (IsFree (needs features.now threads there)) }
     ensures err { IfErr result (CausedBy (needs features.now threads there) offset) }
 {
@@ -48,7 +53,11 @@ pub fn check_threads(features: &WasmFeatures, there: bool, offset: u64) -> Resul
 }
 
 /// Whether pages may have an unusual size, if they have.
-pub fn check_page_sizes(features: &WasmFeatures, there: bool, offset: u64) -> Result<(), Error>
+pub fn check_page_sizes(
+    features: &WasmFeatures,
+    there: bool,
+    offset: u64,
+) -> Result<(), Refusal<'static>>
     ensures ok { OnOk result (IsFree (needs features.now custom_page_sizes there)) }
     ensures err { IfErr result (CausedBy (needs features.now custom_page_sizes there) offset) }
 {
@@ -61,9 +70,9 @@ pub fn check_page_sizes(features: &WasmFeatures, there: bool, offset: u64) -> Re
 pub fn check_shared(
     features: &WasmFeatures,
     there: bool,
-    by: &str,
+    by: &'static str,
     offset: u64,
-) -> Result<(), Error>
+) -> Result<(), Refusal<'static>>
     ensures ok { OnOk result (IsFree (needs features.now shared_everything there)) }
     ensures err { IfErr result (CausedBy (needs features.now shared_everything there) offset) }
 {
@@ -72,7 +81,7 @@ pub fn check_shared(
 }
 
 /// Whether there may be tags.
-pub fn check_tags(features: &WasmFeatures, offset: u64) -> Result<(), Error>
+pub fn check_tags(features: &WasmFeatures, offset: u64) -> Result<(), Refusal<'static>>
     ensures ok { OnOk result (IsFree (needs features.now exceptions true)) }
     ensures err { IfErr result (CausedBy (needs features.now exceptions true) offset) }
 {

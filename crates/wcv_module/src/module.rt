@@ -24,8 +24,8 @@ use std::alloc::Global;
 use std::marker::Model;
 use wcv_core::limits::{MAX_ENTRIES, MAX_SIZE};
 use wcv_core::{
-    CompositeInnerType, CoreTypeId, CoreTypes, EntityType, Error, ErrorKind, Excerpt,
-    InternRecGroup, LabelSet, OutOfMemory, RecGroup, Text, WasmFeatures,
+    CompositeInnerType, CoreTypeId, CoreTypes, EntityType, Error, ErrorKind, InternRecGroup,
+    LabelSet, OutOfMemory, RecGroup, Refusal, Text, WasmFeatures, Why,
 };
 use wcv_syntax::{Import, TypeRef};
 use wcv_types::{ExportMap, ImportMap, ModuleType, TypeAlloc, TypeInfo};
@@ -76,7 +76,7 @@ impl InternRecGroup for Module {
         Ok(())
     }
 
-    fn type_id_at(&self, idx: u32, offset: u64) -> Result<CoreTypeId, Error> {
+    fn type_id_at(&self, idx: u32, offset: u64) -> Result<CoreTypeId, Refusal<'static>> {
         type_id_at(self.types.as_slice(), idx, offset)
     }
 
@@ -86,16 +86,19 @@ impl InternRecGroup for Module {
 }
 
 /// Whether so many more keep a limit. What they are is for the message.
-fn check_room(len: usize, more: usize, what: &str, offset: u64) -> Result<(), Error>
+fn check_room(
+    len: usize,
+    more: usize,
+    what: &'static str,
+    offset: u64,
+) -> Result<(), Refusal<'static>>
     ensures ok { OnOk result (IsFree (too_many max_entries (len + more))) }
     ensures err { IfErr result (CausedBy (too_many max_entries (len + more)) offset) }
 {
     if len > MAX_ENTRIES || more > MAX_ENTRIES - len {
-        return Err(Error::new(
-            ErrorKind::Limit,
-            offset,
-            format_args!("the module would have more than {MAX_ENTRIES} {what}"),
-        ));
+        let why = Why::new("the module would have more than %1 %w").word(what);
+        let why = why.numbers([MAX_ENTRIES as u64, 0, 0]);
+        return Err(Error::new(ErrorKind::Limit, offset, why));
     }
     Ok(())
 }
@@ -124,16 +127,12 @@ fn size_of(core: &CoreTypes, ty: EntityType) -> u64
     }
 }
 
-fn repeated(name: &str, offset: u64) -> Error
+fn repeated(name: &str, offset: u64) -> Refusal<'_>
     ensures kind { error_kind result ≡ ErrorKind.Conflict }
     ensures offset { error_offset result ≡ offset }
 {
-    let name = Excerpt(name);
-    Error::new(
-        ErrorKind::Conflict,
-        offset,
-        format_args!("the module exports `{name}` twice"),
-    )
+    let why = Why::new("the module exports `%n` twice").name(name);
+    Error::new(ErrorKind::Conflict, offset, why)
 }
 
 /// The name of an export, for the list and for the set.
@@ -196,7 +195,7 @@ impl Module {
         ty: &TypeRef,
         core: &CoreTypes,
         offset: u64,
-    ) -> Result<EntityType, Error>
+    ) -> Result<EntityType, Refusal<'static>>
         requires known { All (IsKnown (total core.now)) (module_entries self.now) }
         ensures ok { IfOk result (λ e. entity_of self.now.types ty.now ≡ Some e) }
         ensures known { IfOk result (IsEntityKnown (total core.now)) }
@@ -254,7 +253,7 @@ impl Module {
         rec: RecGroup,
         types: &mut TypeAlloc,
         offset: u64,
-    ) -> Result<(), Error>
+    ) -> Result<(), Refusal<'static>>
         requires known { All (IsKnown (total types.old.core)) (module_entries self.old) }
         ensures ok { OnOk result ((types.new.core, self.new) ≡ with_group_of types.old.core self.old (group_form rec)) }
         ensures free { OnOk result (IsFree (group_joins types.old.core self.old (group_form rec))) }
@@ -273,7 +272,7 @@ impl Module {
     }
 
     /// Adds a type that stands in the table already, as an outer alias does.
-    pub fn add_alias_type(&mut self, id: CoreTypeId, offset: u64) -> Result<(), Error>
+    pub fn add_alias_type(&mut self, id: CoreTypeId, offset: u64) -> Result<(), Refusal<'static>>
         ensures ok { OnOk result (self.new ≡ with_type self.old id.index) }
         ensures free { OnOk result (IsFree (types_checks self.old 1)) }
         ensures cause { IfErr result (MemoryOrCausedBy (types_checks self.old 1) offset) }
@@ -289,11 +288,11 @@ impl Module {
     fn size_with(
         &self,
         len: usize,
-        what: &str,
+        what: &'static str,
         core: &CoreTypes,
         ty: EntityType,
         offset: u64,
-    ) -> Result<u64, Error>
+    ) -> Result<u64, Refusal<'static>>
         requires known { IsEntityKnown (total core.now) ty }
         ensures ok { IfOk result (λ size. size ≡ self.now.size + entity_size core.now ty) }
         ensures small { IfOk result (λ size. size ≤ max_size) }
@@ -303,11 +302,9 @@ impl Module {
         check_room(len, 1, what, offset)?;
         let size = size_of(core, ty);
         if size > MAX_SIZE - self.size {
-            return Err(Error::new(
-                ErrorKind::Limit,
-                offset,
-                format_args!("the type of the module would have a size above {MAX_SIZE}"),
-            ));
+            let why = Why::new("the type of the module would have a size above %1");
+            let why = why.numbers([MAX_SIZE, 0, 0]);
+            return Err(Error::new(ErrorKind::Limit, offset, why));
         }
         Ok(self.size + size)
     }
@@ -318,7 +315,7 @@ impl Module {
         ty: &TypeRef,
         core: &CoreTypes,
         offset: u64,
-    ) -> Result<(EntityType, u64), Error>
+    ) -> Result<(EntityType, u64), Refusal<'static>>
         requires known { All (IsKnown (total core.now)) (module_entries self.now) }
         ensures ok { IfOk result (λ p. entity_of self.now.types ty.now ≡ Some p.0) }
         ensures size { IfOk result (λ p. p.1 ≡ self.now.size + entity_size core.now p.0) }
@@ -332,7 +329,12 @@ impl Module {
     }
 
     /// Adds an import. Whether another one has its names is looked at by `imports_for_module_type`.
-    pub fn add_import(&mut self, import: Import, core: &CoreTypes, offset: u64) -> Result<(), Error>
+    pub fn add_import(
+        &mut self,
+        import: Import,
+        core: &CoreTypes,
+        offset: u64,
+    ) -> Result<(), Refusal<'static>>
         requires known { All (IsKnown (total core.now)) (module_entries self.old) }
         ensures ok { OnOk result (option_map (with_import core.now self.old (import.module, import.name)) (entity_of self.old.types import.ty) ≡ Some self.new) }
         ensures free { OnOk result (IsFree (import_joins core.now self.old import.ty)) }
@@ -350,13 +352,13 @@ impl Module {
     }
 
     /// Adds an export of a type that `check_type_ref` gave.
-    pub fn add_export(
+    pub fn add_export<'a>(
         &mut self,
-        name: &str,
+        name: &'a str,
         ty: EntityType,
         offset: u64,
         core: &CoreTypes,
-    ) -> Result<(), Error>
+    ) -> Result<(), Refusal<'a>>
         requires known { IsEntityKnown (total core.now) ty }
         ensures ok { OnOk result (self.new ≡ with_export core.now self.old name.now ty) }
         ensures free { OnOk result (IsFree (export_checks core.now self.old name.now ty)) }
@@ -378,7 +380,7 @@ impl Module {
             }
             Err(err) => {
                 self.exports.truncate(len);
-                Err(Error::from(err))
+                Err(Refusal::from(err))
             }
         }
     }

@@ -6,7 +6,7 @@ ghost use Rattle.wcv_core.specs.Refusal.{error_kind, error_offset};
 ghost use Rattle.wcv_syntax.specs.ModuleTypes.{space_at, aliased, alias_checks, alias_joins, with_type};
 
 use crate::module::Module;
-use wcv_core::{CoreTypeId, Error, ErrorKind, InternRecGroup};
+use wcv_core::{CoreTypeId, Error, ErrorKind, InternRecGroup, Refusal, Why};
 
 /// The core types of what is open around a module. Contracts see it as the entries of each, the innermost first.
 pub trait OuterTypes {
@@ -19,24 +19,27 @@ pub trait OuterTypes {
     ghost spaces: { Self → List (List Core_entry) };
 
     /// The type at an index, in the innermost by the depth 0.
-    fn outer_type(&self, depth: u32, index: u32, offset: u64) -> Result<CoreTypeId, Error>
+    fn outer_type(
+        &self,
+        depth: u32,
+        index: u32,
+        offset: u64,
+    ) -> Result<CoreTypeId, Refusal<'static>>
         ensures ok { IfOk result (λ id. on_entry (at_index (slice_get (spaces self.now) depth) index) ≡ Some id.index) }
         ensures free { OnOk result (IsFree (alias_checks (slice_get (spaces self.now) depth) index)) }
         ensures err { IfErr result (CausedBy (alias_checks (slice_get (spaces self.now) depth) index) offset) };
 }
 
 /// A refusal of a depth that is past what is open.
-fn past(depth: u32, len: usize, offset: u64) -> Error
+fn past(depth: u32, len: usize, offset: u64) -> Refusal<'static>
     ensures kind { error_kind result ≡ ErrorKind.OutOfBounds }
     ensures offset { error_offset result ≡ offset }
 {
-    Error::new(
-        ErrorKind::OutOfBounds,
-        offset,
-        format_args!(
-            "an outer alias looks past {depth} components and types, and {len} are open around the module"
-        ),
-    )
+    let why = Why::new(
+        "an outer alias looks past %1 components and types, and %2 are open around the module",
+    );
+    let why = why.numbers([depth as u64, len as u64, 0]);
+    Error::new(ErrorKind::OutOfBounds, offset, why)
 }
 
 /// Nothing is open around a module.
@@ -48,7 +51,12 @@ impl OuterTypes for NoOuter {
 
     ghost spaces = { λ o. [] };
 
-    fn outer_type(&self, depth: u32, index: u32, offset: u64) -> Result<CoreTypeId, Error> {
+    fn outer_type(
+        &self,
+        depth: u32,
+        index: u32,
+        offset: u64,
+    ) -> Result<CoreTypeId, Refusal<'static>> {
         let _ = index;
         Err(past(depth, 0, offset))
     }
@@ -65,7 +73,12 @@ impl<'a, G: InternRecGroup> OuterTypes for Enclosing<'a, G> {
 
     ghost spaces = { λ o. reverse (map G.entries o.groups.now) };
 
-    fn outer_type(&self, depth: u32, index: u32, offset: u64) -> Result<CoreTypeId, Error> {
+    fn outer_type(
+        &self,
+        depth: u32,
+        index: u32,
+        offset: u64,
+    ) -> Result<CoreTypeId, Refusal<'static>> {
         let len = self.groups.len();
         if depth as usize >= len {
             return Err(past(depth, len, offset));
@@ -86,7 +99,7 @@ impl Module {
         count: u32,
         index: u32,
         offset: u64,
-    ) -> Result<CoreTypeId, Error>
+    ) -> Result<CoreTypeId, Refusal<'static>>
         ensures ok { IfOk result (λ id. aliased (O.spaces outers.now) self.now count index ≡ Some id.index) }
         ensures free { OnOk result (IsFree (alias_checks (space_at (O.spaces outers.now) self.now count) index)) }
         ensures err { IfErr result (CausedBy (alias_checks (space_at (O.spaces outers.now) self.now count) index) offset) }
@@ -110,7 +123,7 @@ impl Module {
         count: u32,
         index: u32,
         offset: u64,
-    ) -> Result<(), Error>
+    ) -> Result<(), Refusal<'static>>
         ensures ok { OnOk result (option_map (with_type self.old) (aliased (O.spaces outers.now) self.old count index) ≡ Some self.new) }
         ensures free { OnOk result (IsFree (alias_joins (O.spaces outers.now) self.old count index)) }
         ensures cause { IfErr result (MemoryOrCausedBy (alias_joins (O.spaces outers.now) self.old count index) offset) }

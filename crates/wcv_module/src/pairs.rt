@@ -55,7 +55,7 @@ fn repeated(names: &(Text, Text), offset: u64) -> Error
 {
     let module = Excerpt(names.0.as_str());
     let name = Excerpt(names.1.as_str());
-    Error::new(
+    Error::told(
         ErrorKind::Conflict,
         offset,
         format_args!("the module imports `{name}` of `{module}` twice"),

@@ -6,8 +6,7 @@ ghost use Rattle.wcv_syntax.specs.CoreItems as items;
 ghost use Rattle.wcv_syntax.specs.CoreItems.{table_sizes, memory_sizes, memory_checks};
 
 use crate::features::{check_memory64, check_page_sizes, check_threads};
-use std::fmt;
-use wcv_core::{Error, ErrorKind, MemoryType, TableType, WasmFeatures};
+use wcv_core::{Error, ErrorKind, MemoryType, Refusal, TableType, WasmFeatures, Why};
 
 /// The most elements of a table whose indices have 32 bits.
 const MAX_TABLE32: u64 = 4_294_967_295;
@@ -16,13 +15,11 @@ const MAX_TABLE32: u64 = 4_294_967_295;
 const USUAL_PAGE: u32 = 16;
 
 /// A refusal by a rule of core types.
-pub fn broken<D: fmt::Display>(message: D, offset: u64) -> Error
-where
-    D: Drop,
+pub fn broken(why: Why<'static>, offset: u64) -> Refusal<'static>
     ensures kind { error_kind result ≡ ErrorKind.CoreType }
     ensures offset { error_offset result ≡ offset }
 {
-    Error::new(ErrorKind::CoreType, offset, message)
+    Error::new(ErrorKind::CoreType, offset, why)
 }
 
 /// Whether the least number is above the greatest.
@@ -46,26 +43,22 @@ fn greatest_passes(limit: u64, greatest: Option<u64>) -> bool
 }
 
 /// Whether a table may have these sizes.
-pub fn check_table_sizes(ty: &TableType, offset: u64) -> Result<(), Error>
+pub fn check_table_sizes(ty: &TableType, offset: u64) -> Result<(), Refusal<'static>>
     ensures ok { OnOk result (IsFree (table_sizes ty.now)) }
     ensures err { IfErr result (CausedBy (table_sizes ty.now) offset) }
 {
     let min = ty.initial;
     if is_above(min, ty.maximum) {
-        let message = format_args!("the `min` {min} of a table is above its `max`");
-        return Err(broken(message, offset));
+        let why = Why::new("the `min` %1 of a table is above its `max`").numbers([min, 0, 0]);
+        return Err(broken(why, offset));
     }
     if !ty.table64 && MAX_TABLE32 < min {
-        let message = format_args!(
-            "the `min` {min} of a table with 32-bit indices is above {MAX_TABLE32}"
-        );
-        return Err(broken(message, offset));
+        let why = Why::new("the `min` %1 of a table with 32-bit indices is above %2");
+        return Err(broken(why.numbers([min, MAX_TABLE32, 0]), offset));
     }
     if !ty.table64 && greatest_passes(MAX_TABLE32, ty.maximum) {
-        let message = format_args!(
-            "the `max` of a table with 32-bit indices is above {MAX_TABLE32}"
-        );
-        return Err(broken(message, offset));
+        let why = Why::new("the `max` of a table with 32-bit indices is above %1");
+        return Err(broken(why.numbers([MAX_TABLE32, 0, 0]), offset));
     }
     Ok(())
 }
@@ -108,34 +101,32 @@ fn greatest_passes_bytes(ty: &MemoryType, greatest: Option<u64>) -> bool
 }
 
 /// A refusal of a memory with too many pages, by the mark of the number.
-fn too_large(ty: &MemoryType, mark: &str, offset: u64) -> Error
+fn too_large(ty: &MemoryType, mark: &'static str, offset: u64) -> Refusal<'static>
     ensures kind { error_kind result ≡ ErrorKind.CoreType }
     ensures offset { error_offset result ≡ offset }
 {
     let bits = if ty.memory64 { 64 } else { 32 };
-    let page = ty.page_size_log2;
-    broken(
-        format_args!(
-            "the `{mark}` of a memory with {bits}-bit indices and pages of 2^{page} bytes has more than 2^{bits} bytes"
-        ),
-        offset,
-    )
+    let page = ty.page_size_log2 as u64;
+    let why = Why::new(
+        "the `%w` of a memory with %1-bit indices and pages of 2^%2 bytes has more than 2^%1 bytes",
+    );
+    broken(why.word(mark).numbers([bits, page, 0]), offset)
 }
 
 /// Whether a memory may have these sizes.
-fn check_memory_sizes(ty: &MemoryType, offset: u64) -> Result<(), Error>
+fn check_memory_sizes(ty: &MemoryType, offset: u64) -> Result<(), Refusal<'static>>
     ensures ok { OnOk result (IsFree (memory_sizes ty.now)) }
     ensures err { IfErr result (CausedBy (memory_sizes ty.now) offset) }
 {
     let page = ty.page_size_log2;
     if page != 0 && page != USUAL_PAGE {
-        let message = format_args!("the page exponent {page} of a memory is neither 0 nor 16");
-        return Err(broken(message, offset));
+        let why = Why::new("the page exponent %1 of a memory is neither 0 nor 16");
+        return Err(broken(why.numbers([page as u64, 0, 0]), offset));
     }
     let min = ty.initial;
     if is_above(min, ty.maximum) {
-        let message = format_args!("the `min` {min} of a memory is above its `max`");
-        return Err(broken(message, offset));
+        let why = Why::new("the `min` %1 of a memory is above its `max`").numbers([min, 0, 0]);
+        return Err(broken(why, offset));
     }
     if passes_bytes(ty, min) {
         return Err(too_large(ty, "min", offset));
@@ -144,13 +135,17 @@ fn check_memory_sizes(ty: &MemoryType, offset: u64) -> Result<(), Error>
         return Err(too_large(ty, "max", offset));
     }
     if ty.shared && ty.maximum.is_none() {
-        return Err(broken("a shared memory has no `max`", offset));
+        return Err(broken(Why::new("a shared memory has no `max`"), offset));
     }
     Ok(())
 }
 
 /// Whether a memory may stand.
-pub fn check_memory(features: &WasmFeatures, ty: &MemoryType, offset: u64) -> Result<(), Error>
+pub fn check_memory(
+    features: &WasmFeatures,
+    ty: &MemoryType,
+    offset: u64,
+) -> Result<(), Refusal<'static>>
     ensures ok { OnOk result (IsFree (memory_checks features.now ty.now)) }
     ensures err { IfErr result (CausedBy (memory_checks features.now ty.now) offset) }
 {

@@ -14,26 +14,29 @@ use crate::features::{check_memory64, check_shared, check_tags};
 use crate::sizes::{broken, check_memory, check_table_sizes};
 use wcv_core::{
     CompositeInnerType, CoreTypeId, CoreTypes, EntityType, Error, ErrorKind, GlobalType, HeapType,
-    RefType, TableType, ValType, WasmFeatures, check_ref_features, check_val_features,
+    RefType, Refusal, TableType, ValType, WasmFeatures, Why, check_ref_features,
+    check_val_features,
 };
 use wcv_syntax::TypeRef;
 
 /// The type at an index.
-pub fn type_id_at(types: &[CoreTypeId], index: u32, offset: u64) -> Result<CoreTypeId, Error>
+pub fn type_id_at(
+    types: &[CoreTypeId],
+    index: u32,
+    offset: u64,
+) -> Result<CoreTypeId, Refusal<'static>>
     ensures ok { IfOk result (λ t. slice_get types.now index ≡ Some t) }
     ensures err { IfErr result (CausedBy (missing (slice_get types.now index)) offset) }
 {
     match types.get(index as usize) {
         Some(id) => Ok(*id),
         None => {
-            let len = types.len();
-            Err(Error::new(
-                ErrorKind::OutOfBounds,
-                offset,
-                format_args!(
-                    "core type {index} is out of bounds: {len} types stand before it in the module"
-                ),
-            ))
+            let len = types.len() as u64;
+            let why = Why::new(
+                "core type %1 is out of bounds: %2 types stand before it in the module",
+            );
+            let why = why.numbers([index as u64, len, 0]);
+            Err(Error::new(ErrorKind::OutOfBounds, offset, why))
         }
     }
 }
@@ -58,9 +61,9 @@ fn func_type_at(
     types: &[CoreTypeId],
     core: &CoreTypes,
     index: u32,
-    of: &str,
+    of: &'static str,
     offset: u64,
-) -> Result<CoreTypeId, Error>
+) -> Result<CoreTypeId, Refusal<'static>>
     requires { All (IsKnown (total core.now)) (type_entries types.now) }
     ensures ok { IfOk result (λ t. slice_get types.now index ≡ Some t) }
     ensures known { IfOk result (λ t. t.index < total core.now) }
@@ -69,11 +72,9 @@ fn func_type_at(
 {
     let id = type_id_at(types, index, offset)?;
     if !is_func(&core.get(id).inner) {
-        return Err(Error::new(
-            ErrorKind::WrongSort,
-            offset,
-            format_args!("core type {index} is no function type, and cannot be the type of {of}"),
-        ));
+        let why = Why::new("core type %1 is no function type, and cannot be the type of %w");
+        let why = why.word(of).numbers([index as u64, 0, 0]);
+        return Err(Error::new(ErrorKind::WrongSort, offset, why));
     }
     Ok(id)
 }
@@ -85,7 +86,7 @@ fn tag_type_at(
     core: &CoreTypes,
     index: u32,
     offset: u64,
-) -> Result<CoreTypeId, Error>
+) -> Result<CoreTypeId, Refusal<'static>>
     requires { All (IsKnown (total core.now)) (type_entries types.now) }
     ensures ok { IfOk result (λ t. slice_get types.now index ≡ Some t) }
     ensures known { IfOk result (λ t. t.index < total core.now) }
@@ -95,10 +96,8 @@ fn tag_type_at(
     check_tags(features, offset)?;
     let id = func_type_at(types, core, index, "a tag", offset)?;
     if gives(&core.get(id).inner) {
-        let message = format_args!(
-            "core type {index} is the type of a tag, and must have no results"
-        );
-        return Err(broken(message, offset));
+        let why = Why::new("core type %1 is the type of a tag, and must have no results");
+        return Err(broken(why.numbers([index as u64, 0, 0]), offset));
     }
     Ok(id)
 }
@@ -109,7 +108,7 @@ fn close_index(
     core: &CoreTypes,
     index: u32,
     offset: u64,
-) -> Result<HeapType, Error>
+) -> Result<HeapType, Refusal<'static>>
     ensures ok { IfOk result (λ h. h ≡ closed_heap (type_entries types.now) (HeapType.Index index)) }
     ensures free { OnOk result (IsFree (heap_checks (total core.now) (type_entries types.now) 0 (HeapType.Index index))) }
     ensures err { IfErr result (CausedBy (heap_checks (total core.now) (type_entries types.now) 0 (HeapType.Index index)) offset) }
@@ -127,7 +126,7 @@ fn close_heap(
     core: &CoreTypes,
     heap: HeapType,
     offset: u64,
-) -> Result<HeapType, Error>
+) -> Result<HeapType, Refusal<'static>>
     ensures ok { IfOk result (λ h. h ≡ closed_heap (type_entries types.now) heap) }
     ensures free { OnOk result (IsFree (heap_checks (total core.now) (type_entries types.now) 0 heap)) }
     ensures err { IfErr result (CausedBy (heap_checks (total core.now) (type_entries types.now) 0 heap) offset) }
@@ -142,7 +141,7 @@ fn close_heap(
             Err(Error::new(
                 ErrorKind::OutOfBounds,
                 offset,
-                "a core type is named by an id that is not of the table",
+                Why::new("a core type is named by an id that is not of the table"),
             ))
         }
     }
@@ -154,7 +153,7 @@ fn close_ref(
     core: &CoreTypes,
     ty: RefType,
     offset: u64,
-) -> Result<RefType, Error>
+) -> Result<RefType, Refusal<'static>>
     ensures ok { IfOk result (λ r. r ≡ closed_ref (type_entries types.now) ty) }
     ensures free { OnOk result (IsFree (heap_checks (total core.now) (type_entries types.now) 0 ty.heap)) }
     ensures err { IfErr result (CausedBy (heap_checks (total core.now) (type_entries types.now) 0 ty.heap) offset) }
@@ -177,7 +176,7 @@ fn close_val(
     core: &CoreTypes,
     ty: ValType,
     offset: u64,
-) -> Result<ValType, Error>
+) -> Result<ValType, Refusal<'static>>
     ensures ok { IfOk result (λ v. v ≡ closed_val (type_entries types.now) ty) }
     ensures free { OnOk result (IsFree (val_checks (total core.now) (type_entries types.now) 0 ty)) }
     ensures err { IfErr result (CausedBy (val_checks (total core.now) (type_entries types.now) 0 ty) offset) }
@@ -206,7 +205,7 @@ fn close_element(
     core: &CoreTypes,
     ty: &TableType,
     offset: u64,
-) -> Result<RefType, Error>
+) -> Result<RefType, Refusal<'static>>
     requires { All (IsKnown (total core.now)) (type_entries types.now) }
     ensures ok { IfOk result (λ r. r ≡ closed_ref (type_entries types.now) ty.now.element_type) }
     ensures free { OnOk result (IsFree (then_checks (element_checks features.now core.now (type_entries types.now) ty.now.element_type) (sharing_checks core.now (type_entries types.now) ty.now))) }
@@ -215,7 +214,10 @@ fn close_element(
     check_ref_features(features, ty.element_type, offset)?;
     let element = close_ref(types, core, ty.element_type, offset)?;
     if ty.shared && !is_shared(core, element) {
-        return Err(broken("a shared table has elements that are not shared", offset));
+        return Err(broken(
+            Why::new("a shared table has elements that are not shared"),
+            offset,
+        ));
     }
     Ok(element)
 }
@@ -227,7 +229,7 @@ fn close_table(
     core: &CoreTypes,
     ty: &TableType,
     offset: u64,
-) -> Result<TableType, Error>
+) -> Result<TableType, Refusal<'static>>
     requires { All (IsKnown (total core.now)) (type_entries types.now) }
     ensures ok { IfOk result (λ t. t ≡ closed_table (type_entries types.now) ty.now) }
     ensures free { OnOk result (IsFree (table_checks features.now core.now (type_entries types.now) ty.now)) }
@@ -254,7 +256,7 @@ fn close_global(
     core: &CoreTypes,
     ty: &GlobalType,
     offset: u64,
-) -> Result<GlobalType, Error>
+) -> Result<GlobalType, Refusal<'static>>
     ensures ok { IfOk result (λ g. g ≡ closed_global (type_entries types.now) ty.now) }
     ensures free { OnOk result (IsFree (global_checks features.now core.now (type_entries types.now) ty.now)) }
     ensures err { IfErr result (CausedBy (global_checks features.now core.now (type_entries types.now) ty.now) offset) }
@@ -276,7 +278,7 @@ pub fn written(
     core: &CoreTypes,
     ty: &TypeRef,
     offset: u64,
-) -> Result<EntityType, Error>
+) -> Result<EntityType, Refusal<'static>>
     requires { All (IsKnown (total core.now)) (type_entries types.now) }
     ensures ok { IfOk result (λ e. entity_of types.now ty.now ≡ Some e) }
     ensures known { IfOk result (IsEntityKnown (total core.now)) }
