@@ -11,7 +11,7 @@ use Rattle.wcv_core.specs.declared.core_types.EntityType.{EntityType}
 use Rattle.wcv_syntax.specs.Model.{Text, Module_decl, Core_type_form, core_rec, core_module_type}
 use Rattle.wcv_syntax.specs.ModuleTypes.{Module_type, Made, empty_module, written_group, all_declared, module_checks, module_left}
 use Rattle.wcv_types.specs.Rename.{rename, rename_parts, rename_head}
-use Rattle.wcv_types.specs.Tree.{Head, nothing, primitive, resource, defined, func, instance, component, type_entity, core_module, core_instance, core_type, core_item, node, none, part, core_import, core_export, core_imports, core_exports, Parts, sub_type}
+use Rattle.wcv_types.specs.Tree.{Head, nothing, core_module, core_item, node, none, part, core_import, core_export, core_imports, core_exports, Parts, sub_type}
 use Rattle.wcv_lower.specs.Checks.{IsFree, Counts, counts, no_type_room, no_core_type_room, full}
 use Rattle.wcv_lower.specs.Context.{Type_tree, Context, Scope, Core_space, core_types, core_modules}
 use Rattle.wcv_lower.specs.CoreItems.{head_entry, core_entry, core_entries, outer_entries, types_join, group_step, module_tree, module_joins, core_type_step, core_type_checks, core_module_step, core_module_checks, core_module_left}
@@ -25,17 +25,7 @@ use Rattle.wcv_lower.proofs.ModulesMade.{all_made}
 module _ (f g : Name → Name) where
   head_entry-renamed : (h : Head Name Name) → head_entry (rename_head f g h) ≡ head_entry h
   head_entry-renamed nothing = refl
-  head_entry-renamed (primitive p) = refl
-  head_entry-renamed (resource r s) = refl
-  head_entry-renamed (defined i k) = refl
-  head_entry-renamed (func i b) = refl
-  head_entry-renamed (instance i own) = refl
-  head_entry-renamed (component i ins outs) = refl
-  head_entry-renamed type_entity = refl
-  head_entry-renamed (core_module i n) = refl
-  head_entry-renamed (core_instance i n) = refl
-  head_entry-renamed (core_type i) = refl
-  head_entry-renamed (core_item e) = refl
+  head_entry-renamed x = refl
 
   core_entry-renamed : (t : Type_tree) → core_entry (rename f g t) ≡ core_entry t
   core_entry-renamed (node h ps) = head_entry-renamed h

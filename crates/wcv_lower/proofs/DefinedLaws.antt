@@ -15,7 +15,7 @@ use Rattle.wcv_types.specs.Abi.{handle, borrow, abi_size}
 use Rattle.wcv_types.specs.Measure.{size, depth}
 use Rattle.wcv_types.specs.Rename.{rename, rename_parts}
 use Rattle.wcv_types.specs.Tree as tree
-use Rattle.wcv_types.specs.Tree.{Former, nothing, primitive, resource, defined, func, instance, component, type_entity, core_module, core_instance, core_type, core_item, here, is_resource, sort, node, none, part, Parts}
+use Rattle.wcv_types.specs.Tree.{Former, primitive, defined, here, is_resource, sort, node, none, part, Parts}
 use Rattle.wcv_types.proofs.AbiRenamed.{abi_size-rename, contains-rename}
 use Rattle.wcv_types.proofs.Measure.{size-rename, depth-rename}
 use Rattle.wcv_lower.specs.Checks.{Checks, IsFree, if_found, missing_of, too_many}
@@ -54,30 +54,7 @@ module _ (f g : Name → Name) where
   primitive_of-renamed : (t : Type_tree) → primitive_of (rename f g t) ≡ primitive_of t
   primitive_of-renamed (node (primitive p) ps) = refl
   primitive_of-renamed (node (defined i (tree.named p)) ps) = refl
-  primitive_of-renamed (node (defined i tree.record_of) ps) = refl
-  primitive_of-renamed (node (defined i tree.variant_of) ps) = refl
-  primitive_of-renamed (node (defined i tree.list_of) ps) = refl
-  primitive_of-renamed (node (defined i tree.map_of) ps) = refl
-  primitive_of-renamed (node (defined i tree.tuple_of) ps) = refl
-  primitive_of-renamed (node (defined i tree.option_of) ps) = refl
-  primitive_of-renamed (node (defined i tree.result_of) ps) = refl
-  primitive_of-renamed (node (defined i tree.own_of) ps) = refl
-  primitive_of-renamed (node (defined i tree.borrow_of) ps) = refl
-  primitive_of-renamed (node (defined i tree.future_of) ps) = refl
-  primitive_of-renamed (node (defined i tree.stream_of) ps) = refl
-  primitive_of-renamed (node (defined i (tree.fixed_list_of n)) ps) = refl
-  primitive_of-renamed (node (defined i (tree.flags_of ns)) ps) = refl
-  primitive_of-renamed (node (defined i (tree.enum_of ns)) ps) = refl
-  primitive_of-renamed (node nothing ps) = refl
-  primitive_of-renamed (node (core_module i n) ps) = refl
-  primitive_of-renamed (node (core_instance i n) ps) = refl
-  primitive_of-renamed (node (core_type i) ps) = refl
-  primitive_of-renamed (node (core_item e) ps) = refl
-  primitive_of-renamed (node (resource r s) ps) = refl
-  primitive_of-renamed (node (func i b) ps) = refl
-  primitive_of-renamed (node (instance i own) ps) = refl
-  primitive_of-renamed (node (component i ins outs) ps) = refl
-  primitive_of-renamed (node type_entity ps) = refl
+  primitive_of-renamed (node h ps) = refl
 
   has_borrow-renamed : (t : Type_tree) → has_borrow (rename f g t) ≡ has_borrow t
   has_borrow-renamed t = ap (λ (b : Bool). (kind.Borrow, b) ∷ []) (contains-rename f g borrow t)
@@ -123,18 +100,7 @@ module _ (f g : Name → Name) where
       λ j. a j ++ b j
   simple_content-renamed c (d.Future o) = result-renamed c o
   simple_content-renamed c (d.Stream o) = found-same (λ t. has_borrow t ++ bad_element t) in_stream-renamed (option_tree c o) (option_tree (rename_context f g c) o) (option_tree-renamed f g c o)
-  simple_content-renamed c (d.Primitive p) = refl
-  simple_content-renamed c (d.Record fs) = refl
-  simple_content-renamed c (d.Variant cs) = refl
-  simple_content-renamed c (d.List v) = refl
-  simple_content-renamed c (d.FixedLengthList v n) = refl
-  simple_content-renamed c (d.Tuple vs) = refl
-  simple_content-renamed c (d.Flags ns) = refl
-  simple_content-renamed c (d.Enum ns) = refl
-  simple_content-renamed c (d.Option v) = refl
-  simple_content-renamed c (d.Result o e) = refl
-  simple_content-renamed c (d.Own r) = refl
-  simple_content-renamed c (d.Borrow r) = refl
+  simple_content-renamed c x = refl
 
   content_checks-renamed : (c : Context) (x : Defined_form) → content_checks (rename_context f g c) x ≡ content_checks c x
   content_checks-renamed c (simple x) = simple_content-renamed c x

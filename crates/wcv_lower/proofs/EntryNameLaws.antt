@@ -12,7 +12,7 @@ use Rattle.wcv_syntax.specs.ExternName.{Access, call, get, set, Form, item, cons
 use Rattle.wcv_syntax.specs.FormOf.{form_of}
 use Rattle.wcv_types.specs.Identity.{Identity, of_node, of_reference, identity_at, rename_identity}
 use Rattle.wcv_types.specs.Rename.{rename, rename_parts}
-use Rattle.wcv_types.specs.Tree.{Text, Extern_name, Sort, is_nothing, is_value, is_resource, is_func, is_instance, is_component, is_type, is_module, is_core_instance, is_core_type, is_core_item, nothing, resource, defined, func, instance, own_of, borrow_of, result_of, here, label, import, export, core_import, core_export, node, Parts, none, part, sort, head, created, first_part}
+use Rattle.wcv_types.specs.Tree.{Text, Extern_name, Sort, is_nothing, is_type, nothing, resource, defined, func, instance, own_of, borrow_of, result_of, here, label, import, export, core_import, core_export, node, Parts, none, part, sort, head, created, first_part}
 use Rattle.wcv_types.proofs.Identity.{same_under, identity-same}
 use Rattle.wcv_types.proofs.Lists.{map-map}
 use Rattle.wcv_names.specs.Externs as externs
@@ -246,15 +246,7 @@ module _ (w : Renaming) where
   references-renamed is_type t =
       ap (λ (u : Type_tree). reference_in (identity_at (head u))) (created-renamed f g t) ∙ ap reference_in (head-renamed (created t)) ∙ reference_in-renamed (identity_at (head (created t)))
   references-renamed is_nothing t = refl
-  references-renamed is_value t = refl
-  references-renamed is_resource t = refl
-  references-renamed is_func t = refl
-  references-renamed is_instance t = refl
-  references-renamed is_component t = refl
-  references-renamed is_module t = refl
-  references-renamed is_core_instance t = refl
-  references-renamed is_core_type t = refl
-  references-renamed is_core_item t = refl
+  references-renamed x t = refl
 
   named_by-renamed : (e : Extern_name × Type_tree) → named_by (rename_entry f g e) ≡ map named_to (named_by e)
   named_by-renamed e =

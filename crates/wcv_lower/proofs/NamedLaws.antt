@@ -38,16 +38,9 @@ module _ (w : Renaming) where
   entry-renamed : (ids : List Identity) (t : Type_tree) → is_named_entry (to ids) (rename f g t) ≡ is_named_entry ids t
   entry-renamed ids (node (defined i k) ps) = named-renamed ids (node (defined i k) ps)
   entry-renamed ids (node type_entity ps) = ap (passes (to ids)) (referenced-renamed f g (node type_entity ps)) ∙ passes-renamed ids (referenced (node type_entity ps))
-  entry-renamed ids (node nothing ps) = refl
-  entry-renamed ids (node (primitive p) ps) = refl
-  entry-renamed ids (node (resource r s) ps) = refl
   entry-renamed ids (node (func i b) ps) = passes-renamed ids (node (func i b) ps)
   entry-renamed ids (node (instance i own) ps) = passes-renamed ids (node (instance i own) ps)
-  entry-renamed ids (node (component i ins outs) ps) = refl
-  entry-renamed ids (node (core_module i n) ps) = refl
-  entry-renamed ids (node (core_instance i n) ps) = refl
-  entry-renamed ids (node (core_type i) ps) = refl
-  entry-renamed ids (node (core_item e) ps) = refl
+  entry-renamed ids (node h ps) = refl
 
   known-renamed : (ids : List Identity) (o : Option Identity) → is_known (to ids) (option_map (rename_identity f g) o) ≡ is_known ids o
   known-renamed ids None = refl
