@@ -118,9 +118,6 @@ module _ (a : Arena) (z : Contents) (h : StateStands a z) (e : Text × Component
       go None i w = same_defined a z h rs (w ∙ append-nil z.defined_resources)
       go (Some r) i w = one_defined a z h rs r None w (introduced_stands a e.1.ty r i stands)
 
-  pub same_names : (d : Side) → IsPrefix (names z d) (names z d) × AllStand a (names z d)
-  same_names d = names_grow a z (names z d) d true [] h (All-nil _) (inl refl)
-
 -- ## Keeping
 
 -- an entry in an arena that grew

@@ -187,7 +187,7 @@ module _ (a : Arena) (limited : Bool) (fs : WasmFeatures) (s : SpaceLists) (side
       (free_both (name_checks fs Es n t) (room_alone ++ size_alone) (subst IsFree kept (free_left (externs.name_checks (names_of side.resources) fs Es n t) size_alone h))
       (free_both room_alone size_alone r (free_right (externs.name_checks (names_of side.resources) fs Es n t) size_alone h)))
 
-  pub name_caused : (offset : ℕ) (e : Error) → MemoryOrCausedBy (extern_checks (names_of side.resources) fs (entry_trees (trees a.nodes) side.items) info n t) offset e → MemoryOrCausedBy (entry_checks limited fs (trees a.nodes) s side.items info n t) offset e
+  pub name_caused : {M : Type 0} (offset : ℕ) (e : Error M) → MemoryOrCausedBy (extern_checks (names_of side.resources) fs (entry_trees (trees a.nodes) side.items) info n t) offset e → MemoryOrCausedBy (entry_checks limited fs (trees a.nodes) s side.items info n t) offset e
   name_caused offset e h =
       caused_more (name_checks fs Es n t ++ size_alone) (full_list ++ (name_checks fs Es n t ++ (room_alone ++ size_alone))) offset e
       (λ q. cause_right full_list (name_checks fs Es n t ++ (room_alone ++ size_alone)) (error_kind e)
@@ -196,18 +196,18 @@ module _ (a : Arena) (limited : Bool) (fs : WasmFeatures) (s : SpaceLists) (side
       (cause_either (name_checks fs Es n t) size_alone (error_kind e) q)))
       (subst (λ (cs : Checks). MemoryOrCausedBy (cs ++ size_alone) offset e) kept h)
 
-  pub side_caused : (offset : ℕ) (e : Error) → MemoryOrCausedBy (full_if limited max_entries (length side.items)) offset e → MemoryOrCausedBy (entry_checks limited fs (trees a.nodes) s side.items info n t) offset e
+  pub side_caused : {M : Type 0} (offset : ℕ) (e : Error M) → MemoryOrCausedBy (full_if limited max_entries (length side.items)) offset e → MemoryOrCausedBy (entry_checks limited fs (trees a.nodes) s side.items info n t) offset e
   side_caused offset e h =
       caused_more full_list (full_list ++ (name_checks fs Es n t ++ (room_alone ++ size_alone))) offset e
       (λ q. cause_left full_list (name_checks fs Es n t ++ (room_alone ++ size_alone)) (error_kind e) q) h
 
-  pub room_caused : (offset : ℕ) (e : Error) → MemoryOrCausedBy (no_room (room_counts s) (sort t)) offset e → MemoryOrCausedBy (entry_checks limited fs (trees a.nodes) s side.items info n t) offset e
+  pub room_caused : {M : Type 0} (offset : ℕ) (e : Error M) → MemoryOrCausedBy (no_room (room_counts s) (sort t)) offset e → MemoryOrCausedBy (entry_checks limited fs (trees a.nodes) s side.items info n t) offset e
   room_caused offset e h =
       caused_more room_alone (full_list ++ (name_checks fs Es n t ++ (room_alone ++ size_alone))) offset e
       (λ q. cause_right full_list (name_checks fs Es n t ++ (room_alone ++ size_alone)) (error_kind e)
       (cause_right (name_checks fs Es n t) (room_alone ++ size_alone) (error_kind e) (cause_left room_alone size_alone (error_kind e) q))) h
 
-  pub memory_caused : (offset : ℕ) (e : Error) → error_kind e ≡ kind.OutOfMemory → MemoryOrCausedBy (entry_checks limited fs (trees a.nodes) s side.items info n t) offset e
+  pub memory_caused : {M : Type 0} (offset : ℕ) (e : Error M) → error_kind e ≡ kind.OutOfMemory → MemoryOrCausedBy (entry_checks limited fs (trees a.nodes) s side.items info n t) offset e
   memory_caused offset e h = inl h
 
 -- the names of a list with one more entry

@@ -67,14 +67,14 @@ module _ (a : Arena) (s : Contents) where
 
   -- ## Causes
 
-  pub import_caused : (outer : List Context) (ds : Defined) (es : Listed) (offset : ℕ) (e : Error) → ds ≡ s.defined_resources → es ≡ s.imports → MemoryOrCausedBy (import_checks ds (side_trees es)) offset e → MemoryOrCausedBy (end_checks (scope_of s outer) (context_of a s)) offset e
+  pub import_caused : {M : Type 0} (outer : List Context) (ds : Defined) (es : Listed) (offset : ℕ) (e : Error M) → ds ≡ s.defined_resources → es ≡ s.imports → MemoryOrCausedBy (import_checks ds (side_trees es)) offset e → MemoryOrCausedBy (end_checks (scope_of s outer) (context_of a s)) offset e
   import_caused outer ds es offset e d i w =
       let cs : Checks = import_checks s.defined_resources (side_trees s.imports) in
       let ks : Checks = kept_checks s.defined_resources (side_trees s.exports) in
       let same : import_checks ds (side_trees es) ≡ cs = λ j. import_checks (d j) (side_trees (i j)) in
       caused_more cs (end_checks (scope_of s outer) (context_of a s)) offset e (λ q. cause_left cs ks (error_kind e) q) (subst (λ (cs : Checks). MemoryOrCausedBy cs offset e) same w)
 
-  pub export_caused : (outer : List Context) (ds : Defined) (es : Listed) (offset : ℕ) (e : Error) → ds ≡ s.defined_resources → es ≡ s.exports → MemoryOrCausedBy (kept_checks ds (side_trees es)) offset e → MemoryOrCausedBy (end_checks (scope_of s outer) (context_of a s)) offset e
+  pub export_caused : {M : Type 0} (outer : List Context) (ds : Defined) (es : Listed) (offset : ℕ) (e : Error M) → ds ≡ s.defined_resources → es ≡ s.exports → MemoryOrCausedBy (kept_checks ds (side_trees es)) offset e → MemoryOrCausedBy (end_checks (scope_of s outer) (context_of a s)) offset e
   export_caused outer ds es offset e d i w =
       let cs : Checks = import_checks s.defined_resources (side_trees s.imports) in
       let ks : Checks = kept_checks s.defined_resources (side_trees s.exports) in

@@ -34,7 +34,7 @@ use Rattle.wcv_state.proofs.Walks.{drop_found, drop_past}
 
 -- ## One cause
 
-pub scope_caused : (b c : Bool) (offset : ℕ) (e : Error) → (b ≡ true → c ≡ true) → MemoryOrCausedBy ((kind.ResourceScope, b) ∷ []) offset e → MemoryOrCausedBy ((kind.ResourceScope, c) ∷ []) offset e
+pub scope_caused : {M : Type 0} (b c : Bool) (offset : ℕ) (e : Error M) → (b ≡ true → c ≡ true) → MemoryOrCausedBy ((kind.ResourceScope, b) ∷ []) offset e → MemoryOrCausedBy ((kind.ResourceScope, c) ∷ []) offset e
 scope_caused b c offset e h w =
     caused_more ((kind.ResourceScope, b) ∷ []) ((kind.ResourceScope, c) ∷ []) offset e
     (λ q. ⊎_elim (λ (x : (error_kind e ≡ kind.ResourceScope) × (b ≡ true)). inl (x.0, h x.1)) (λ (x : ⊥). absurd x) q) w

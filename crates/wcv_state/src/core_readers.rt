@@ -5,13 +5,17 @@ ghost use Rattle.wcv_state.specs.Promises.{CausedBy};
 
 use crate::indices::element_at;
 use crate::state::ComponentState;
-use wcv_core::{CoreTypeId, Error, GlobalType, MemoryType, TableType};
+use wcv_core::{CoreTypeId, GlobalType, MemoryType, Refusal, TableType};
 use wcv_types::{ComponentCoreInstanceTypeId, ComponentCoreModuleTypeId, ComponentCoreTypeId};
 
 impl ComponentState {
     /// The core type at that index. Refuses an index that is not below the length as `OutOfBounds`, and
     /// takes no memory. So do all that follow.
-    pub fn core_type_at(&self, idx: u32, offset: u64) -> Result<ComponentCoreTypeId, Error>
+    pub fn core_type_at(
+        &self,
+        idx: u32,
+        offset: u64,
+    ) -> Result<ComponentCoreTypeId, Refusal<'static>>
         ensures ok { IfOk result (λ id. slice_get self.now.spaces.core_types idx ≡ Some id) }
         ensures err { IfErr result (CausedBy (missing (slice_get self.now.spaces.core_types idx)) offset) }
     {
@@ -19,7 +23,11 @@ impl ComponentState {
     }
 
     /// The type of the core module at that index.
-    pub fn module_at(&self, idx: u32, offset: u64) -> Result<ComponentCoreModuleTypeId, Error>
+    pub fn module_at(
+        &self,
+        idx: u32,
+        offset: u64,
+    ) -> Result<ComponentCoreModuleTypeId, Refusal<'static>>
         ensures ok { IfOk result (λ id. slice_get self.now.spaces.core_modules idx ≡ Some id) }
         ensures err { IfErr result (CausedBy (missing (slice_get self.now.spaces.core_modules idx)) offset) }
     {
@@ -31,7 +39,7 @@ impl ComponentState {
         &self,
         idx: u32,
         offset: u64,
-    ) -> Result<ComponentCoreInstanceTypeId, Error>
+    ) -> Result<ComponentCoreInstanceTypeId, Refusal<'static>>
         ensures ok { IfOk result (λ id. slice_get self.now.spaces.core_instances idx ≡ Some id) }
         ensures err { IfErr result (CausedBy (missing (slice_get self.now.spaces.core_instances idx)) offset) }
     {
@@ -39,7 +47,7 @@ impl ComponentState {
     }
 
     /// The type of the core function at that index.
-    pub fn core_function_at(&self, idx: u32, offset: u64) -> Result<CoreTypeId, Error>
+    pub fn core_function_at(&self, idx: u32, offset: u64) -> Result<CoreTypeId, Refusal<'static>>
         ensures ok { IfOk result (λ id. slice_get self.now.spaces.core_funcs idx ≡ Some id) }
         ensures err { IfErr result (CausedBy (missing (slice_get self.now.spaces.core_funcs idx)) offset) }
     {
@@ -47,7 +55,7 @@ impl ComponentState {
     }
 
     /// The type of the tag at that index.
-    pub fn tag_at(&self, idx: u32, offset: u64) -> Result<CoreTypeId, Error>
+    pub fn tag_at(&self, idx: u32, offset: u64) -> Result<CoreTypeId, Refusal<'static>>
         ensures ok { IfOk result (λ id. slice_get self.now.spaces.core_tags idx ≡ Some id) }
         ensures err { IfErr result (CausedBy (missing (slice_get self.now.spaces.core_tags idx)) offset) }
     {
@@ -55,7 +63,7 @@ impl ComponentState {
     }
 
     /// The type of the memory at that index.
-    pub fn memory_at(&self, idx: u32, offset: u64) -> Result<MemoryType, Error>
+    pub fn memory_at(&self, idx: u32, offset: u64) -> Result<MemoryType, Refusal<'static>>
         ensures ok { IfOk result (λ ty. slice_get self.now.spaces.core_memories idx ≡ Some ty) }
         ensures err { IfErr result (CausedBy (missing (slice_get self.now.spaces.core_memories idx)) offset) }
     {
@@ -63,7 +71,7 @@ impl ComponentState {
     }
 
     /// The type of the table at that index.
-    pub fn table_at(&self, idx: u32, offset: u64) -> Result<TableType, Error>
+    pub fn table_at(&self, idx: u32, offset: u64) -> Result<TableType, Refusal<'static>>
         ensures ok { IfOk result (λ ty. slice_get self.now.spaces.core_tables idx ≡ Some ty) }
         ensures err { IfErr result (CausedBy (missing (slice_get self.now.spaces.core_tables idx)) offset) }
     {
@@ -71,7 +79,7 @@ impl ComponentState {
     }
 
     /// The type of the global at that index.
-    pub fn global_at(&self, idx: u32, offset: u64) -> Result<GlobalType, Error>
+    pub fn global_at(&self, idx: u32, offset: u64) -> Result<GlobalType, Refusal<'static>>
         ensures ok { IfOk result (λ ty. slice_get self.now.spaces.core_globals idx ≡ Some ty) }
         ensures err { IfErr result (CausedBy (missing (slice_get self.now.spaces.core_globals idx)) offset) }
     {

@@ -2,7 +2,7 @@
 use crate::indices::sub_type_at;
 use crate::state::ComponentState;
 use std::mem::replace;
-use wcv_core::{CoreTypeId, Error, InternRecGroup, OutOfMemory, WasmFeatures};
+use wcv_core::{CoreTypeId, InternRecGroup, OutOfMemory, Refusal, WasmFeatures};
 use wcv_types::ComponentCoreTypeId;
 
 /// The space of core types is the one to which a group's types join.
@@ -28,7 +28,7 @@ impl InternRecGroup for ComponentState {
         Ok(())
     }
 
-    fn type_id_at(&self, idx: u32, offset: u64) -> Result<CoreTypeId, Error> {
+    fn type_id_at(&self, idx: u32, offset: u64) -> Result<CoreTypeId, Refusal<'static>> {
         sub_type_at(self.spaces.core_types.as_slice(), idx, offset)
     }
 

@@ -10,7 +10,7 @@ ghost use Rattle.wcv_lower.specs.Ending.{any_free, kept};
 ghost use Rattle.wcv_state.specs.Contents.{defined_resource};
 ghost use Rattle.wcv_state.specs.Ending.{import_checks, kept_checks, path_of, with_kept, HasFree, HasFirst};
 ghost use Rattle.wcv_state.specs.Looking.{has_resource};
-ghost use Rattle.wcv_state.specs.Promises.{MemoryOrCausedBy};
+ghost use Rattle.wcv_state.specs.Promises.{CausedBy, MemoryOrCausedBy};
 
 use crate::resources::Representations;
 use std::alloc::Global;
@@ -53,7 +53,8 @@ fn first_with<'a>(
     Ok(None)
 }
 
-/// The refusal of an import over a resource that is defined here, the one at that position of those.
+/// The refusal of an import over a resource that is defined here, the one at that position of those. It names the
+/// import, unless there is no memory to look for it.
 fn free_in_import(
     types: &TypeAlloc,
     imports: &ItemMap,
@@ -62,7 +63,7 @@ fn free_in_import(
     offset: u64,
 ) -> Error
     requires { All (EntryStands types.now) imports.now }
-    ensures { MemoryOrCausedBy ((kind.ResourceScope, true) ∷ []) offset result }
+    ensures { CausedBy ((kind.ResourceScope, true) ∷ []) offset result }
 {
     let mut free = ResourceSet::new(types.allocator());
     let found = first_with(types, imports, resource, &mut free);
@@ -70,7 +71,7 @@ fn free_in_import(
     match found {
         Ok(Some((k, name))) => {
             let entry = Excerpt(name.as_str());
-            Error::new(
+            Error::told(
                 ErrorKind::ResourceScope,
                 offset,
                 format_args!(
@@ -78,14 +79,13 @@ fn free_in_import(
                 ),
             )
         }
-        Ok(None) => Error::new(
+        Ok(None) | Err(OutOfMemory) => Error::told(
             ErrorKind::ResourceScope,
             offset,
             format_args!(
                 "an import has in its type resource {position} of those that are defined here"
             ),
         ),
-        Err(error) => error.into(),
     }
 }
 
@@ -161,7 +161,7 @@ fn keep(
             paths.insert(resource, place)?;
             Ok(())
         }
-        None => Err(Error::new(
+        None => Err(Error::told(
             ErrorKind::ResourceScope,
             offset,
             format_args!(

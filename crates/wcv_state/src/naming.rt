@@ -111,7 +111,7 @@ fn unnamed_part(
 {
     let entry = Excerpt(name);
     let part = Excerpt(part);
-    Error::new(
+    Error::told(
         ErrorKind::Unnamed,
         offset,
         format_args!("{word} `{entry}`: {before}{part}{behind} {NOT_NAMED}"),
@@ -200,7 +200,7 @@ impl NamedTypes {
         }
         if is_export_alone(ty, types, &self.imports, &self.exports) {
             let entry = Excerpt(name);
-            return Err(Error::new(
+            return Err(Error::told(
                 ErrorKind::Unnamed,
                 offset,
                 format_args!(

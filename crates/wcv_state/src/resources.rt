@@ -9,9 +9,9 @@ ghost use Rattle.wcv_state.specs.Looking as looking;
 ghost use Rattle.wcv_state.specs.Looking.{any_sort, introduced_id, import_paths, export_reps, has_resource, local_rep_checks};
 ghost use Rattle.wcv_state.specs.Promises.{CausedBy};
 
-use crate::indices::element_at;
+use crate::indices::{element_at, wrong_sort};
 use std::alloc::Global;
-use wcv_core::{Error, ErrorKind, IndexMapAppendOnly, OutOfMemory, Place, ValType};
+use wcv_core::{Error, ErrorKind, IndexMapAppendOnly, OutOfMemory, Place, Refusal, ValType, Why};
 use wcv_types::{AliasableResourceId, ComponentAnyTypeId, ComponentEntityType, Paths, ResourceId};
 
 /// Resources, each with its representation where that is known.
@@ -84,17 +84,13 @@ pub fn resource_at(
     types: &[ComponentAnyTypeId],
     index: u32,
     offset: u64,
-) -> Result<AliasableResourceId, Error>
+) -> Result<AliasableResourceId, Refusal<'static>>
     ensures ok { IfOk result (λ id. slice_get types.now index ≡ Some (any.Resource id)) }
     ensures err { IfErr result (CausedBy (missing_of is_resource (option_map any_sort (slice_get types.now index))) offset) }
 {
     match element_at(types, "type", index, offset)? {
         ComponentAnyTypeId::Resource(id) => Ok(id),
-        _ => Err(Error::new(
-            ErrorKind::WrongSort,
-            offset,
-            format_args!("type index {index} is not of a resource"),
-        )),
+        _ => Err(wrong_sort("type index %1 is not of a resource", index, offset)),
     }
 }
 
@@ -104,19 +100,19 @@ pub fn local_rep(
     defined: &Representations,
     index: u32,
     offset: u64,
-) -> Result<(ResourceId, ValType), Error>
+) -> Result<(ResourceId, ValType), Refusal<'static>>
     ensures ok { IfOk result (λ p. looking.local_rep types.now defined.now index ≡ Some p) }
     ensures err { IfErr result (CausedBy (local_rep_checks types.now defined.now index) offset) }
 {
     let resource = resource_at(types, index, offset)?.resource;
     match defined.get(&resource) {
         Some(Some(rep)) => Ok((resource, *rep)),
-        _ => Err(Error::new(
-            ErrorKind::ResourceScope,
-            offset,
-            format_args!(
-                "type index {index} is of a resource that is not defined here with a representation"
-            ),
-        )),
+        _ => {
+            let why = Why::new(
+                "type index %1 is of a resource that is not defined here with a representation",
+            );
+            let why = why.numbers([index as u64, 0, 0]);
+            Err(Error::new(ErrorKind::ResourceScope, offset, why))
+        }
     }
 }

@@ -2,13 +2,16 @@ use Rattle.wcv_core.specs.Limits.{max_entries}
 use Rattle.std.proofs.Common.{ℕ, List, map, ◌++◌, ◌∙◌, ap, subst}
 use Rattle.std.proofs.lemmas.Result.{err_from_is_err_and}
 use Rattle.wcv_types.specs.Entities.{entity_tree}
-use Rattle.wcv_types.specs.Tree.{Text}
+use Rattle.wcv_types.specs.Tree.{Text, sort}
 use Rattle.wcv_types.specs.Unfold.{trees}
-use Rattle.wcv_lower.specs.Checks.{IsFree, full_if}
+use Rattle.wcv_lower.specs.Checks.{IsFree, full_if, no_room}
 use Rattle.wcv_lower.specs.Entries.{extern_name}
+use Rattle.wcv_state.specs.Entering.{room_counts}
 use Rattle.wcv_state.specs.Inside.{lists, AreKeys}
 use Rattle.wcv_state.specs.Looking.{created_reference}
-use Rattle.wcv_state.proofs.EntryNames.{enter_free, name_caused, room_caused}
+use Rattle.wcv_state.specs.Promises.{MemoryOrCausedBy}
+use Rattle.wcv_core.proofs.Closing.{caused_same}
+use Rattle.wcv_state.proofs.EntryNames.{enter_free, name_caused, room_caused, side_caused}
 use Rattle.wcv_state.proofs.entries.admit.Goals as goal
 
 pub returns-in_err-check_extern-clause-err : goal.returns-in_err-check_extern-clause-err
@@ -19,7 +22,15 @@ returns-in_err-check_extern-clause-err c =
 pub returns-in_err-check_room-clause-err : goal.returns-in_err-check_room-clause-err
 returns-in_err-check_room-clause-err c =
     let p = err_from_is_err_and c.from_residual-in_err-check_room.result c.from_residual-in_err-check_room.ensures.1 in
-    rw (p.1, p.2) (room_caused c.args.types.now c.args.limited c.args.features.now (lists c.args.spaces.now) c.args.side.now c.args.info.now (extern_name c.args.name.now) (entity_tree (trees c.args.types.now.nodes) c.args.ty.now) c.requires.entries c.requires.names c.args.offset c.in_err-check_room.field-0.0 c.in_err-check_room.ensures.err)
+    rw p.1 (room_caused c.args.types.now c.args.limited c.args.features.now (lists c.args.spaces.now) c.args.side.now c.args.info.now (extern_name c.args.name.now) (entity_tree (trees c.args.types.now.nodes) c.args.ty.now) c.requires.entries c.requires.names c.args.offset p.0
+    (caused_same (no_room (room_counts (lists c.args.spaces.now)) (sort (entity_tree (trees c.args.types.now.nodes) c.args.ty.now))) c.args.offset c.in_err-check_room.field-0.0 p.0 p.2.0 p.2.1 c.in_err-check_room.ensures.err))
+
+pub returns-in_err-check_list-clause-err : goal.returns-in_err-check_list-clause-err
+returns-in_err-check_list-clause-err c =
+    let p = err_from_is_err_and c.from_residual-in_err-check_list.result c.from_residual-in_err-check_list.ensures.1 in
+    rw p.1 (side_caused c.args.types.now c.args.limited c.args.features.now (lists c.args.spaces.now) c.args.side.now c.args.info.now (extern_name c.args.name.now) (entity_tree (trees c.args.types.now.nodes) c.args.ty.now) c.requires.entries c.requires.names c.args.offset p.0
+    (subst (λ (k : ℕ). MemoryOrCausedBy (full_if c.args.limited max_entries k) c.args.offset p.0) c.len.ensures
+    (caused_same (full_if c.args.limited max_entries c.len.result) c.args.offset c.in_err-check_list.field-0.0 p.0 p.2.0 p.2.1 c.in_err-check_list.ensures.err)))
 
 pub returns-clause-ok : goal.returns-clause-ok
 returns-clause-ok c =

@@ -1,4 +1,4 @@
-use Rattle.std.proofs.Common.{true, sym}
+use Rattle.std.proofs.Common.{true, sym, inr}
 use Rattle.std.specs.Prelude.{map}
 use Rattle.wcv_types.specs.Entities.{entry_trees}
 use Rattle.wcv_types.specs.Unfold.{trees}
@@ -9,4 +9,4 @@ use Rattle.wcv_state.proofs.kept.check_imports.Goals as goal
 
 pub returns-in-Some-clause-err : goal.returns-in-Some-clause-err
 returns-in-Some-clause-err c =
-    scope_caused true (any_free (map defined_resource c.args.defined.now) (entry_trees (trees c.args.types.now.nodes) c.args.imports.now)) c.args.offset c.free_in_import.result (λ e. sym c.in-Some.ensures) c.free_in_import.ensures
+    scope_caused true (any_free (map defined_resource c.args.defined.now) (entry_trees (trees c.args.types.now.nodes) c.args.imports.now)) c.args.offset c.free_in_import.result (λ e. sym c.in-Some.ensures) (inr c.free_in_import.ensures)

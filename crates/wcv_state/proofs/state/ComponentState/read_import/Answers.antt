@@ -12,6 +12,7 @@ use Rattle.wcv_lower.specs.Context.{in_types, importing, exporting}
 use Rattle.wcv_state.specs.Contents.{Contents, IdStands, kind_of, names}
 use Rattle.wcv_state.specs.Inside.{contents_of}
 use Rattle.wcv_state.specs.Looking.{GivesWritten}
+use Rattle.wcv_core.proofs.Closing.{caused_same}
 use Rattle.wcv_state.proofs.Calls.{built_looked, named_caused}
 use Rattle.wcv_state.proofs.ItemCalls.{import_is, ref_found, ref_caused}
 use Rattle.wcv_state.proofs.Keeping.{state_stands}
@@ -24,9 +25,9 @@ written-requires c =
 pub returns-in_err-ty-clause-err : goal.returns-in_err-ty-clause-err
 returns-in_err-ty-clause-err c =
     let p = err_from_is_err_and c.from_residual.result c.from_residual.ensures.1 in
-    rw (p.1, p.2) (λ outer.
+    rw p.1 (λ outer. caused_same _ c.args.offset c.in_err-ty.field-0.0 p.0 p.2.0 p.2.1 (
     built_looked c.args.types.now c.args.self.now (contents_of c.self.inside) c.self.view_is outer (import_item c.args.import.now) importing c.args.import.now.name _ _ _ (import_is c.args.types.now c.args.self.now (contents_of c.self.inside) c.self.view_is c.requires outer c.args.import.now) _ c.args.offset c.in_err-ty.field-0.0
-    (λ b t. ref_caused c.args.types.now c.args.self.now (contents_of c.self.inside) c.self.view_is c.requires outer c.args.import.now.ty c.args.offset c.in_err-ty.field-0.0 t) c.in_err-ty.ensures.err)
+    (λ b t. ref_caused c.args.types.now c.args.self.now (contents_of c.self.inside) c.self.view_is c.requires outer c.args.import.now.ty c.args.offset c.in_err-ty.field-0.0 t) c.in_err-ty.ensures.err))
 
 pub returns-in_err-ty-clause-grown : goal.returns-in_err-ty-clause-grown
 returns-in_err-ty-clause-grown c = subst (Extends c.args.types.now) (sym c.in_err-ty.ensures.same) (extends_refl c.args.types.now)
