@@ -30,6 +30,28 @@ use Rattle.wcv_state.proofs.Calls.{caused_more}
 use Rattle.wcv_decls.specs.Items.{Stored, Added}
 use Rattle.wcv_decls.specs.Resolved.{IsShape, IsFuncShape, resolve_checks, func_resolve_checks}
 
+-- ## Causes in three steps: of what needs no other type, of what is looked up, and of the size
+
+module _ (own parts content sizes : Checks) where
+  pub all_free : IsFree own → IsFree (parts ++ content) → IsFree sizes → IsFree (own ++ (parts ++ (content ++ sizes)))
+  all_free o r z = free_both own (parts ++ (content ++ sizes)) o (free_both parts (content ++ sizes) (free_left parts content r) (free_both content sizes (free_right parts content r) z))
+
+  module _ {M : Type 0} (offset : ℕ) (e : Error M) where
+    first_caused : MemoryOrCausedBy own offset e → MemoryOrCausedBy (own ++ (parts ++ (content ++ sizes))) offset e
+    first_caused t = caused_more own (own ++ (parts ++ (content ++ sizes))) offset e (cause_left own (parts ++ (content ++ sizes)) (error_kind e)) t
+
+    second_caused : MemoryOrCausedBy (parts ++ content) offset e → MemoryOrCausedBy (own ++ (parts ++ (content ++ sizes))) offset e
+    second_caused t = caused_more (parts ++ content) (own ++ (parts ++ (content ++ sizes))) offset e
+        (λ k. cause_right own (parts ++ (content ++ sizes)) (error_kind e) (go (cause_either parts content (error_kind e) k))) t
+      where
+        go : Cause parts (error_kind e) ⊎ Cause content (error_kind e) → Cause (parts ++ (content ++ sizes)) (error_kind e)
+        go (inl k) = cause_left parts (content ++ sizes) (error_kind e) k
+        go (inr k) = cause_right parts (content ++ sizes) (error_kind e) (cause_left content sizes (error_kind e) k)
+
+    third_caused : MemoryOrCausedBy sizes offset e → MemoryOrCausedBy (own ++ (parts ++ (content ++ sizes))) offset e
+    third_caused t = caused_more sizes (own ++ (parts ++ (content ++ sizes))) offset e
+        (λ k. cause_right own (parts ++ (content ++ sizes)) (error_kind e) (cause_right parts (content ++ sizes) (error_kind e) (cause_right content sizes (error_kind e) k))) t
+
 -- ## Defined types
 
 module _ (a : Arena) (c : Context) (x : Defined_form) (s : ComponentDefinedType) (h : IsShape a c x s) where
@@ -55,33 +77,21 @@ module _ (a : Arena) (c : Context) (x : Defined_form) (s : ComponentDefinedType)
   pub sizes_same : size_checks (tree_of (trees a.nodes) (n.Defined s)) ≡ if_found size_checks (defined_tree (base []) c x)
   sizes_same = sym (ap (if_found size_checks) (shape_tree (base [])))
 
-module _ (fs : WasmFeatures) (c : Context) (x : Defined_form) where
+module _ {M : Type 0} (fs : WasmFeatures) (c : Context) (x : Defined_form) (offset : ℕ) (e : Error M) where
   abbrev sizes : Checks
   sizes = if_found size_checks (defined_tree (base []) c x)
 
   abbrev parts : Checks
   parts = made_checks fs c (handle_index x) (written_parts x)
 
-  abbrev content : Checks
-  content = content_checks c x
+  pub own_caused : MemoryOrCausedBy (own_checks fs x) offset e → MemoryOrCausedBy (defined_checks fs c x) offset e
+  own_caused t = first_caused (own_checks fs x) parts (content_checks c x) sizes offset e t
 
-  pub defined_free : IsFree (own_checks fs x) → IsFree (resolve_checks fs c x) → IsFree (if_found size_checks (defined_tree (base []) c x)) → IsFree (defined_checks fs c x)
-  defined_free o r z = free_both (own_checks fs x) (parts ++ (content ++ sizes)) o (free_both parts (content ++ sizes) (free_left parts content r) (free_both content sizes (free_right parts content r) z))
+  pub resolve_caused : MemoryOrCausedBy (resolve_checks fs c x) offset e → MemoryOrCausedBy (defined_checks fs c x) offset e
+  resolve_caused t = second_caused (own_checks fs x) parts (content_checks c x) sizes offset e t
 
-  pub own_caused : (offset : ℕ) (e : Error) → MemoryOrCausedBy (own_checks fs x) offset e → MemoryOrCausedBy (defined_checks fs c x) offset e
-  own_caused offset e t = caused_more (own_checks fs x) (defined_checks fs c x) offset e (cause_left (own_checks fs x) (parts ++ (content ++ sizes)) (error_kind e)) t
-
-  pub resolve_caused : (offset : ℕ) (e : Error) → MemoryOrCausedBy (resolve_checks fs c x) offset e → MemoryOrCausedBy (defined_checks fs c x) offset e
-  resolve_caused offset e t = caused_more (resolve_checks fs c x) (defined_checks fs c x) offset e
-      (λ k. cause_right (own_checks fs x) (parts ++ (content ++ sizes)) (error_kind e) (go (cause_either parts content (error_kind e) k))) t
-    where
-      go : Cause parts (error_kind e) ⊎ Cause content (error_kind e) → Cause (parts ++ (content ++ sizes)) (error_kind e)
-      go (inl k) = cause_left parts (content ++ sizes) (error_kind e) k
-      go (inr k) = cause_right parts (content ++ sizes) (error_kind e) (cause_left content sizes (error_kind e) k)
-
-  pub size_caused : (offset : ℕ) (e : Error) → MemoryOrCausedBy (if_found size_checks (defined_tree (base []) c x)) offset e → MemoryOrCausedBy (defined_checks fs c x) offset e
-  size_caused offset e t = caused_more sizes (defined_checks fs c x) offset e
-      (λ k. cause_right (own_checks fs x) (parts ++ (content ++ sizes)) (error_kind e) (cause_right parts (content ++ sizes) (error_kind e) (cause_right content sizes (error_kind e) k))) t
+  pub size_caused : MemoryOrCausedBy (if_found size_checks (defined_tree (base []) c x)) offset e → MemoryOrCausedBy (defined_checks fs c x) offset e
+  size_caused t = third_caused (own_checks fs x) parts (content_checks c x) sizes offset e t
 
 -- ## Function types
 
@@ -105,31 +115,18 @@ module _ (a : Arena) (c : Context) (f : Func_form) (s : ComponentFuncType) (h : 
   pub func_sizes_same : size_checks (tree_of (trees a.nodes) (n.Func s)) ≡ if_found size_checks (func_tree (base []) c f)
   func_sizes_same = sym (ap (if_found size_checks) (func_shape_tree (base [])))
 
-module _ (fs : WasmFeatures) (c : Context) (f : Func_form) where
+module _ {M : Type 0} (fs : WasmFeatures) (c : Context) (f : Func_form) (offset : ℕ) (e : Error M) where
   abbrev func_sizes : Checks
   func_sizes = if_found size_checks (func_tree (base []) c f)
-
-  abbrev func_values : Checks
-  func_values = parts_checks fs c (func_parts f)
 
   abbrev gives : Checks
   gives = if_found has_borrow (option_tree c f.result)
 
-  pub func_free : IsFree (func_own_checks fs f) → IsFree (func_resolve_checks fs c f) → IsFree (if_found size_checks (func_tree (base []) c f)) → IsFree (func_checks fs c f)
-  func_free o r z =
-      free_both (func_own_checks fs f) (func_values ++ (gives ++ func_sizes)) o (free_both func_values (gives ++ func_sizes) (free_left func_values gives r) (free_both gives func_sizes (free_right func_values gives r) z))
+  pub func_own_caused : MemoryOrCausedBy (func_own_checks fs f) offset e → MemoryOrCausedBy (func_checks fs c f) offset e
+  func_own_caused t = first_caused (func_own_checks fs f) (parts_checks fs c (func_parts f)) gives func_sizes offset e t
 
-  pub func_own_caused : (offset : ℕ) (e : Error) → MemoryOrCausedBy (func_own_checks fs f) offset e → MemoryOrCausedBy (func_checks fs c f) offset e
-  func_own_caused offset e t = caused_more (func_own_checks fs f) (func_checks fs c f) offset e (cause_left (func_own_checks fs f) (func_values ++ (gives ++ func_sizes)) (error_kind e)) t
+  pub func_resolve_caused : MemoryOrCausedBy (func_resolve_checks fs c f) offset e → MemoryOrCausedBy (func_checks fs c f) offset e
+  func_resolve_caused t = second_caused (func_own_checks fs f) (parts_checks fs c (func_parts f)) gives func_sizes offset e t
 
-  pub func_resolve_caused : (offset : ℕ) (e : Error) → MemoryOrCausedBy (func_resolve_checks fs c f) offset e → MemoryOrCausedBy (func_checks fs c f) offset e
-  func_resolve_caused offset e t = caused_more (func_resolve_checks fs c f) (func_checks fs c f) offset e
-      (λ k. cause_right (func_own_checks fs f) (func_values ++ (gives ++ func_sizes)) (error_kind e) (go (cause_either func_values gives (error_kind e) k))) t
-    where
-      go : Cause func_values (error_kind e) ⊎ Cause gives (error_kind e) → Cause (func_values ++ (gives ++ func_sizes)) (error_kind e)
-      go (inl k) = cause_left func_values (gives ++ func_sizes) (error_kind e) k
-      go (inr k) = cause_right func_values (gives ++ func_sizes) (error_kind e) (cause_left gives func_sizes (error_kind e) k)
-
-  pub func_size_caused : (offset : ℕ) (e : Error) → MemoryOrCausedBy (if_found size_checks (func_tree (base []) c f)) offset e → MemoryOrCausedBy (func_checks fs c f) offset e
-  func_size_caused offset e t = caused_more func_sizes (func_checks fs c f) offset e
-      (λ k. cause_right (func_own_checks fs f) (func_values ++ (gives ++ func_sizes)) (error_kind e) (cause_right func_values (gives ++ func_sizes) (error_kind e) (cause_right gives func_sizes (error_kind e) k))) t
+  pub func_size_caused : MemoryOrCausedBy (if_found size_checks (func_tree (base []) c f)) offset e → MemoryOrCausedBy (func_checks fs c f) offset e
+  func_size_caused t = third_caused (func_own_checks fs f) (parts_checks fs c (func_parts f)) gives func_sizes offset e t

@@ -79,10 +79,10 @@ module _ (a b : Arena) (s s' : Contents) (rec : RecGroup) (h : StateStands a s) 
       let l : length (rec_view rec) ≡ length rec.types.items = length-mapped sub_view rec.types.items in
       λ j. group_checks s.features a.core (es j) (w j) ++ no_core_type_room (l j) (counts Here)
 
-  pub group_caused : (outer : List Context) (offset : ℕ) (e : Error) → MemoryOrCausedBy (group_checks s.features a.core (core_entries_of s) (group_form rec)) offset e → MemoryOrCausedBy (call_checks (scope_of s outer) (context_of a s) (core_type_item (core_rec (rec_view rec)))) offset e
+  pub group_caused : {M : Type 0} (outer : List Context) (offset : ℕ) (e : Error M) → MemoryOrCausedBy (group_checks s.features a.core (core_entries_of s) (group_form rec)) offset e → MemoryOrCausedBy (call_checks (scope_of s outer) (context_of a s) (core_type_item (core_rec (rec_view rec)))) offset e
   group_caused outer offset e m = subst (λ cs. MemoryOrCausedBy cs offset e) (sym (checks_same outer)) (caused_more Checked (Checked ++ Room) offset e (cause_left Checked Room (error_kind e)) m)
 
-  pub room_caused : (outer : List Context) (offset : ℕ) (e : Error) → MemoryOrCausedBy (no_core_type_room (length rec.types.items) (counts (context_of a s))) offset e → MemoryOrCausedBy (call_checks (scope_of s outer) (context_of a s) (core_type_item (core_rec (rec_view rec)))) offset e
+  pub room_caused : {M : Type 0} (outer : List Context) (offset : ℕ) (e : Error M) → MemoryOrCausedBy (no_core_type_room (length rec.types.items) (counts (context_of a s))) offset e → MemoryOrCausedBy (call_checks (scope_of s outer) (context_of a s) (core_type_item (core_rec (rec_view rec)))) offset e
   room_caused outer offset e m = subst (λ cs. MemoryOrCausedBy cs offset e) (sym (checks_same outer)) (caused_more Room (Checked ++ Room) offset e (cause_right Checked Room (error_kind e)) m)
 
   pub group_grew : (outer : List Context) (p : Place) → s.spent ≡ false → b.core ≡ grown a.core closed → s' ≡ with_types with_sub s (group_ids a.core closed) → IsFree Checked → IsFree Room → Grew a b outer p s s' (core_type_item (core_rec (rec_view rec)))
@@ -102,7 +102,7 @@ module _ (a b : Arena) (s s' : Contents) (rec : RecGroup) (h : StateStands a s) 
       }
 
   -- what it leaves where it was refused
-  pub group_left : (e : Error) → All (IsKnown (total b.core)) (core_entries_of s') → IsLeft with_sub spent s s' a.core b.core closed e → Keeps a b s s'
+  pub group_left : {M : Type 0} (e : Error M) → All (IsKnown (total b.core)) (core_entries_of s') → IsLeft with_sub spent s s' a.core b.core closed e → Keeps a b s s'
   group_left e known (inl l) = subst (Keeps a b s) (sym l.0) (keeps_grown a b s ext h)
   group_left e known (inr l) =
       let is : List ℕ = take l.1.1.0 (group_ids a.core closed) in

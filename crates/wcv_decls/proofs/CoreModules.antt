@@ -146,8 +146,8 @@ module _ (a : Arena) (ss : List Contents) (x : Contents) (fs : WasmFeatures) (ds
   pub free_in : IsFree (module_checks (reverse (map core_entries_of ss)) a.core (empty_module fs) ds) → IsFree (no_type_room true (counts (context_of a x))) → FreeIn a ss (core_type_item (core_module_type ds))
   free_in f r outer s e = subst IsFree (checks_same outer s e) (free_both Declared Room f r)
 
-  pub declared_caused : (offset : ℕ) (y : Error) → MemoryOrCausedBy (module_checks (reverse (map core_entries_of ss)) a.core (empty_module fs) ds) offset y → CausedIn a ss (core_type_item (core_module_type ds)) offset y
+  pub declared_caused : {M : Type 0} (offset : ℕ) (y : Error M) → MemoryOrCausedBy (module_checks (reverse (map core_entries_of ss)) a.core (empty_module fs) ds) offset y → CausedIn a ss (core_type_item (core_module_type ds)) offset y
   declared_caused offset y m outer s e = subst (λ cs. MemoryOrCausedBy cs offset y) (checks_same outer s e) (caused_more Declared (Declared ++ Room) offset y (cause_left Declared Room (error_kind y)) m)
 
-  pub room_caused : (offset : ℕ) (y : Error) → MemoryOrCausedBy (no_type_room true (counts (context_of a x))) offset y → CausedIn a ss (core_type_item (core_module_type ds)) offset y
+  pub room_caused : {M : Type 0} (offset : ℕ) (y : Error M) → MemoryOrCausedBy (no_type_room true (counts (context_of a x))) offset y → CausedIn a ss (core_type_item (core_module_type ds)) offset y
   room_caused offset y m outer s e = subst (λ cs. MemoryOrCausedBy cs offset y) (checks_same outer s e) (caused_more Room (Declared ++ Room) offset y (cause_right Declared Room (error_kind y)) m)

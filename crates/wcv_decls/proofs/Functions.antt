@@ -42,15 +42,15 @@ cause_before fs c (p ∷ ps) qs k h = go (cause_either (option_checks fs c p.1) 
     go (inl x) more = cause_left (option_checks fs c p.1) (parts_checks fs c (ps ++ qs)) k x
     go (inr x) more = cause_right (option_checks fs c p.1) (parts_checks fs c (ps ++ qs)) k (more x)
 
-pub params_caused : (fs : WasmFeatures) (c : Context) (f : Func_form) (ds : Checks) (offset : ℕ) (e : Error) → MemoryOrCausedBy (parts_checks fs c (map written_field f.params)) offset e → MemoryOrCausedBy (parts_checks fs c (func_parts f) ++ ds) offset e
+pub params_caused : {M : Type 0} (fs : WasmFeatures) (c : Context) (f : Func_form) (ds : Checks) (offset : ℕ) (e : Error M) → MemoryOrCausedBy (parts_checks fs c (map written_field f.params)) offset e → MemoryOrCausedBy (parts_checks fs c (func_parts f) ++ ds) offset e
 params_caused fs c f ds offset e t =
     caused_more (parts_checks fs c (map written_field f.params)) (parts_checks fs c (func_parts f) ++ ds) offset e
     (λ k. cause_left (parts_checks fs c (func_parts f)) ds (error_kind e) (cause_before fs c (map written_field f.params) ((here, f.result) ∷ []) (error_kind e) k)) t
 
-pub gives_caused : (fs : WasmFeatures) (c : Context) (f : Func_form) (ds : Checks) (offset : ℕ) (e : Error) → MemoryOrCausedBy (option_checks fs c f.result) offset e → MemoryOrCausedBy (parts_checks fs c (func_parts f) ++ ds) offset e
+pub gives_caused : {M : Type 0} (fs : WasmFeatures) (c : Context) (f : Func_form) (ds : Checks) (offset : ℕ) (e : Error M) → MemoryOrCausedBy (option_checks fs c f.result) offset e → MemoryOrCausedBy (parts_checks fs c (func_parts f) ++ ds) offset e
 gives_caused fs c f ds offset e t =
     caused_more (option_checks fs c f.result) (parts_checks fs c (func_parts f) ++ ds) offset e
     (λ k. cause_left (parts_checks fs c (func_parts f)) ds (error_kind e) (cause_in fs c (map written_field f.params) (here, f.result) [] (error_kind e) k)) t
 
-pub behind_caused : (fs : WasmFeatures) (c : Context) (f : Func_form) (ds : Checks) (offset : ℕ) (e : Error) → MemoryOrCausedBy ds offset e → MemoryOrCausedBy (parts_checks fs c (func_parts f) ++ ds) offset e
+pub behind_caused : {M : Type 0} (fs : WasmFeatures) (c : Context) (f : Func_form) (ds : Checks) (offset : ℕ) (e : Error M) → MemoryOrCausedBy ds offset e → MemoryOrCausedBy (parts_checks fs c (func_parts f) ++ ds) offset e
 behind_caused fs c f ds offset e t = caused_more ds (parts_checks fs c (func_parts f) ++ ds) offset e (cause_right (parts_checks fs c (func_parts f)) ds (error_kind e)) t

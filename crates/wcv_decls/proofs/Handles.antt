@@ -59,7 +59,7 @@ module _ (a : Arena) (s : Contents) (h : StateStands a s) (k : ℕ) (r : Aliasab
   pub resource_looked_free : IsFree (missing_of is_resource (option_map sort (type_at (context_of a s) k)) ++ [])
   resource_looked_free = free_both (missing_of is_resource (option_map sort (type_at (context_of a s) k))) [] resource_free tt
 
-pub resource_caused : (a : Arena) (s : Contents) → StateStands a s → (k offset : ℕ) (e : Error) → CausedBy (missing_of is_resource (option_map any_sort (slice_get s.spaces.types k))) offset e → MemoryOrCausedBy (missing_of is_resource (option_map sort (type_at (context_of a s) k)) ++ []) offset e
+pub resource_caused : {M : Type 0} (a : Arena) (s : Contents) → StateStands a s → (k offset : ℕ) (e : Error M) → CausedBy (missing_of is_resource (option_map any_sort (slice_get s.spaces.types k))) offset e → MemoryOrCausedBy (missing_of is_resource (option_map sort (type_at (context_of a s) k)) ++ []) offset e
 resource_caused a s h k offset e t =
     let cs : Checks = missing_of is_resource (option_map sort (type_at (context_of a s) k)) in
     inr (cause_left cs [] (error_kind e) (subst (λ (o : Option Sort). Cause (missing_of is_resource o) (error_kind e)) (sym (sorts_same a s h k)) t.0), t.1)

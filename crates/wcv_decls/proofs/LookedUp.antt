@@ -44,6 +44,6 @@ pub index_free : (fs : WasmFeatures) (a : Arena) (s : Contents) (k : ℕ) (i : C
 index_free fs a s k i h e =
     subst (λ (o : Option Sort). IsFree (missing_of is_value o)) (sym (sorts_same a s h k ∙ ap (option_map any_sort) e)) (refl, (refl, tt))
 
-pub index_caused : (fs : WasmFeatures) (a : Arena) (s : Contents) (k offset : ℕ) (e : Error) → StateStands a s → CausedBy (missing_of is_value (option_map any_sort (slice_get s.spaces.types k))) offset e →
+pub index_caused : {M : Type 0} (fs : WasmFeatures) (a : Arena) (s : Contents) (k offset : ℕ) (e : Error M) → StateStands a s → CausedBy (missing_of is_value (option_map any_sort (slice_get s.spaces.types k))) offset e →
     MemoryOrCausedBy (option_checks fs (context_of a s) (Some (w.Ty k))) offset e
 index_caused fs a s k offset e h t = inr (subst (λ (o : Option Sort). CausedBy (missing_of is_value o) offset e) (sym (sorts_same a s h k)) t)

@@ -98,7 +98,7 @@ module _ {X Y : Type 0} (a : Arena) (c : Context) (fs : WasmFeatures) (g : X →
         free = subst (λ qs. IsFree (parts_checks fs c qs)) (sym ps) (free_push fs c (map g w.done) (g x) w.free f);
       }
 
-  pub looked_caused : (items rest : List X) (out : List Y) (x : X) (offset : ℕ) (e : Error) → Looked items (x ∷ rest) out → MemoryOrCausedBy (option_checks fs c (g x).1) offset e → MemoryOrCausedBy (parts_checks fs c (map g items)) offset e
+  pub looked_caused : {M : Type 0} (items rest : List X) (out : List Y) (x : X) (offset : ℕ) (e : Error M) → Looked items (x ∷ rest) out → MemoryOrCausedBy (option_checks fs c (g x).1) offset e → MemoryOrCausedBy (parts_checks fs c (map g items)) offset e
   looked_caused items rest out x offset e w t =
       caused_more (option_checks fs c (g x).1) (parts_checks fs c (map g items)) offset e
       (λ k. subst (λ xs. Cause (parts_checks fs c (map g xs)) (error_kind e)) w.all

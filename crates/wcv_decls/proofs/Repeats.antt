@@ -98,7 +98,7 @@ module _ (set ns : List Text) (i : ℕ) (n : Text) (at : slice_get ns i ≡ Some
           ))
       go (inr (inr p)) = absurd p
 
-  pub names_caused : (offset : ℕ) (e : Error) → AreKeys set (map lower_case (take i ns)) → MemoryOrCausedBy (bad_label set n) offset e → MemoryOrCausedBy (label_checks ns) offset e
+  pub names_caused : {M : Type 0} (offset : ℕ) (e : Error M) → AreKeys set (map lower_case (take i ns)) → MemoryOrCausedBy (bad_label set n) offset e → MemoryOrCausedBy (label_checks ns) offset e
   names_caused offset e a t = caused_more (bad_label set n) (label_checks ns) offset e (names_fail (error_kind e) a) t
 
   -- one more name that may join

@@ -36,17 +36,17 @@ module _ (a : Arena) (c : Context) (fs : WasmFeatures) where
   two_free o p h k = free_both (option_checks fs c o) (option_checks fs c p ++ []) h (one_free p k)
 
   -- the looked-up checks of a list of parts, and what stands behind them
-  pub looked_up : (ps : List (Role × Option Written_value)) (ds : Checks) (offset : ℕ) (e : Error) → MemoryOrCausedBy (parts_checks fs c ps) offset e → MemoryOrCausedBy (parts_checks fs c ps ++ ds) offset e
+  pub looked_up : {M : Type 0} (ps : List (Role × Option Written_value)) (ds : Checks) (offset : ℕ) (e : Error M) → MemoryOrCausedBy (parts_checks fs c ps) offset e → MemoryOrCausedBy (parts_checks fs c ps ++ ds) offset e
   looked_up ps ds offset e t = caused_more (parts_checks fs c ps) (parts_checks fs c ps ++ ds) offset e (cause_left (parts_checks fs c ps) ds (error_kind e)) t
 
-  pub one_caused : (o : Option Written_value) (offset : ℕ) (e : Error) → MemoryOrCausedBy (option_checks fs c o) offset e → MemoryOrCausedBy (parts_checks fs c ((here, o) ∷ [])) offset e
+  pub one_caused : {M : Type 0} (o : Option Written_value) (offset : ℕ) (e : Error M) → MemoryOrCausedBy (option_checks fs c o) offset e → MemoryOrCausedBy (parts_checks fs c ((here, o) ∷ [])) offset e
   one_caused o offset e t = caused_more (option_checks fs c o) (parts_checks fs c ((here, o) ∷ [])) offset e (cause_left (option_checks fs c o) [] (error_kind e)) t
 
-  pub first_caused : (o p : Option Written_value) (offset : ℕ) (e : Error) → MemoryOrCausedBy (option_checks fs c o) offset e → MemoryOrCausedBy (parts_checks fs c ((here, o) ∷ (here, p) ∷ [])) offset e
+  pub first_caused : {M : Type 0} (o p : Option Written_value) (offset : ℕ) (e : Error M) → MemoryOrCausedBy (option_checks fs c o) offset e → MemoryOrCausedBy (parts_checks fs c ((here, o) ∷ (here, p) ∷ [])) offset e
   first_caused o p offset e t =
       caused_more (option_checks fs c o) (parts_checks fs c ((here, o) ∷ (here, p) ∷ [])) offset e (cause_left (option_checks fs c o) (parts_checks fs c ((here, p) ∷ [])) (error_kind e)) t
 
-  pub second_caused : (o p : Option Written_value) (offset : ℕ) (e : Error) → MemoryOrCausedBy (option_checks fs c p) offset e → MemoryOrCausedBy (parts_checks fs c ((here, o) ∷ (here, p) ∷ [])) offset e
+  pub second_caused : {M : Type 0} (o p : Option Written_value) (offset : ℕ) (e : Error M) → MemoryOrCausedBy (option_checks fs c p) offset e → MemoryOrCausedBy (parts_checks fs c ((here, o) ∷ (here, p) ∷ [])) offset e
   second_caused o p offset e t =
       caused_more (parts_checks fs c ((here, p) ∷ [])) (parts_checks fs c ((here, o) ∷ (here, p) ∷ [])) offset e (cause_right (option_checks fs c o) (parts_checks fs c ((here, p) ∷ [])) (error_kind e)) (one_caused p offset e t)
 
@@ -55,5 +55,5 @@ module _ (a : Arena) (c : Context) (fs : WasmFeatures) where
   pub found_free : (cs : Type_tree → Checks) (o : Option Type_tree) (t : Type_tree) → o ≡ Some t → IsFree (cs t) → IsFree (if_found cs o)
   found_free cs o t e h = subst (λ (p : Option Type_tree). IsFree (if_found cs p)) (sym e) h
 
-  pub found_caused : (cs : Type_tree → Checks) (o : Option Type_tree) (t : Type_tree) (offset : ℕ) (e : Error) → o ≡ Some t → MemoryOrCausedBy (cs t) offset e → MemoryOrCausedBy (if_found cs o) offset e
+  pub found_caused : {M : Type 0} (cs : Type_tree → Checks) (o : Option Type_tree) (t : Type_tree) (offset : ℕ) (e : Error M) → o ≡ Some t → MemoryOrCausedBy (cs t) offset e → MemoryOrCausedBy (if_found cs o) offset e
   found_caused cs o t offset e q h = subst (λ (p : Option Type_tree). MemoryOrCausedBy (if_found cs p) offset e) (sym q) h

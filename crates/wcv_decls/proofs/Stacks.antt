@@ -78,14 +78,14 @@ marked t front ts w = ap all_spent w ∙ map-append spent front (t ∷ [])
 
 -- where the innermost alone became another before
 module _ (ss : List Contents) (k : ℕ) (s s' : Contents) (e : k ≡ length ss - 1) (h : 0 < length ss) (i : s ≡ slice_index_or ss k s) where
-  pub refused_on : (a : Arena) (f : Form) (offset : ℕ) (x : Error) → ((outer : List Contents) → ss ≡ outer ++ s ∷ [] → MemoryOrCausedBy (call_checks (scope_of s (contexts_around a outer)) (context_of a s) f) offset x) →
+  pub refused_on : {M : Type 0} (a : Arena) (f : Form) (offset : ℕ) (x : Error M) → ((outer : List Contents) → ss ≡ outer ++ s ∷ [] → MemoryOrCausedBy (call_checks (scope_of s (contexts_around a outer)) (context_of a s) f) offset x) →
       RefusedOn a ss (all_spent (slice_set ss k s')) f offset x
   refused_on a f offset x g = let r = last_set ss k s s' e h i in record {
     last = record { outer = r.front; old = s; new = spent s'; was = r.was; becomes = marked s' r.front (slice_set ss k s') r.becomes };
     refused = (refl, g r.front r.was);
   }
 
-  pub refuses_on : (limited : Bool) (a : Arena) (t : Type_form) (offset : ℕ) (x : Error) → ((outer : List Context) → MemoryOrCausedBy (declare_checks limited (scope_of s outer) (context_of a s) t) offset x) →
+  pub refuses_on : {M : Type 0} (limited : Bool) (a : Arena) (t : Type_form) (offset : ℕ) (x : Error M) → ((outer : List Context) → MemoryOrCausedBy (declare_checks limited (scope_of s outer) (context_of a s) t) offset x) →
       RefusesOn limited a ss (all_spent (slice_set ss k s')) t offset x
   refuses_on limited a t offset x f = let r = last_set ss k s s' e h i in record {
     last = record { outer = r.front; old = s; new = spent s'; was = r.was; becomes = marked s' r.front (slice_set ss k s') r.becomes };
@@ -103,7 +103,7 @@ innermost [] h = absurd (omega (arith, h))
 innermost (s ∷ []) h = record { outer = []; last = s; was = refl }
 innermost (s ∷ t ∷ ss) h = let r = innermost (t ∷ ss) (omega arith) in record { outer = s ∷ r.outer; last = r.last; was = ap (λ xs. s ∷ xs) r.was }
 
-pub refused_before : (a : Arena) (ss : List Contents) (f : Form) (offset : ℕ) (x : Error) → 0 < length ss → CausedIn a ss f offset x → RefusedOn a ss (all_spent ss) f offset x
+pub refused_before : {M : Type 0} (a : Arena) (ss : List Contents) (f : Form) (offset : ℕ) (x : Error M) → 0 < length ss → CausedIn a ss f offset x → RefusedOn a ss (all_spent ss) f offset x
 refused_before a ss f offset x h g = let r = innermost ss h in record {
   last = record { outer = r.outer; old = r.last; new = spent r.last; was = r.was; becomes = marked r.last r.outer ss r.was };
   refused = (refl, g r.outer r.last r.was);

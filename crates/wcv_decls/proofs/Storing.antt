@@ -1,5 +1,5 @@
 -- A node that joined the arena and the types of a state, and its size.
-use Rattle.std.proofs.Common.{◌≡◌, [], ◌∷◌, length, sym, ◌∙◌, ap, subst, arith, length-append, false}
+use Rattle.std.proofs.Common.{◌≡◌, [], ◌∷◌, length, sym, ◌∙◌, ap, refl, subst, arith, length-append, true, false}
 use Rattle.wcv_types.specs.Arena.{Arena}
 use Rattle.wcv_types.specs.Entities.{any_part}
 use Rattle.wcv_types.specs.Standing.{Stands, Extends, with_node}
@@ -10,7 +10,7 @@ use Rattle.wcv_types.proofs.Grown.{extends_refl, extends_push}
 use Rattle.wcv_lower.specs.Context.{in_types, push, type_entry}
 use Rattle.wcv_state.specs.Contents.{Contents, with_id, StateStands}
 use Rattle.wcv_state.specs.Promises.{Keeps}
-use Rattle.wcv_state.proofs.Keeping.{state_stands, same_context, keeps_grown, keeps_trans, keeps_with_id, with_id_context}
+use Rattle.wcv_state.proofs.Keeping.{state_stands, same_context, keeps_grown, keeps_marked, keeps_trans, keeps_with_id, with_id_context}
 use Rattle.wcv_decls.specs.Items.{Stored}
 
 -- nothing changed
@@ -25,8 +25,12 @@ module _ (a b : Arena) (s : Contents) (x : Node) (eb : b ≡ with_node a x) (h :
   pub node_keeps : Keeps a b s s
   node_keeps = keeps_grown a b s grew h
 
-  pub node_stands : StateStands b s
+  node_stands : StateStands b s
   node_stands = state_stands a b grew s h
+
+  -- so where the state is spent
+  pub spent_keeps : (s' : Contents) → s' ≡ record s { spent = true } → Keeps a b s s'
+  spent_keeps s' e = subst (λ (z : Contents). Keeps a b s z) (sym e) (keeps_trans a b b s s (record s { spent = true }) node_keeps (keeps_marked b s s true refl node_stands))
 
   pub stored : (s' : Contents) (id : ComponentAnyTypeId) → s.spent ≡ false → Stands b (any_part id) → tree_at b (any_part id) ≡ tree_of (trees a.nodes) x → s' ≡ with_id in_types id s → Stored a b s s' x
   stored s' id live stands tree es = subst (λ (z : Contents). Stored a b s z x) (sym es) (record {

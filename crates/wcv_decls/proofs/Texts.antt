@@ -24,7 +24,7 @@ module _ (ts : List Text) (i : ℕ) (t : Text) (at : slice_get ts i ≡ Some t) 
   texts_push f g = subst (λ (xs : List Text). IsFree (each_too_long xs)) (sym (take-at ts i t at)) (one_more (take i ts) t f g)
 
   -- a text that is too long
-  pub texts_caused : (offset : ℕ) (e : Error) → MemoryOrCausedBy (too_long t) offset e → MemoryOrCausedBy (each_too_long ts) offset e
+  pub texts_caused : {M : Type 0} (offset : ℕ) (e : Error M) → MemoryOrCausedBy (too_long t) offset e → MemoryOrCausedBy (each_too_long ts) offset e
   texts_caused offset e c =
       caused_more (too_long t) (each_too_long ts) offset e
       (λ d. subst (λ (xs : List Text). Cause (each_too_long xs) (error_kind e)) (split-at ts i t at) (one_fails (take i ts) (drop (suc i) ts) t (error_kind e) d)) c

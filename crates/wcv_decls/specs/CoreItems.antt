@@ -54,5 +54,5 @@ MadeIn a b ss ds m =
 abbrev pub FreeIn : Arena → List Contents → Form → Type 0
 FreeIn a ss f = (outer : List Contents) (s : Contents) → ss ≡ outer ++ s ∷ [] → IsFree (call_checks (scope_of s (contexts_around a outer)) (context_of a s) f)
 
-abbrev pub CausedIn : Arena → List Contents → Form → ℕ → Error → Type 0
+abbrev pub CausedIn : {M : Type 0} → Arena → List Contents → Form → ℕ → Error M → Type 0
 CausedIn a ss f offset e = (outer : List Contents) (s : Contents) → ss ≡ outer ++ s ∷ [] → MemoryOrCausedBy (call_checks (scope_of s (contexts_around a outer)) (context_of a s) f) offset e

@@ -40,7 +40,7 @@ pub record GrewOn (a a' : Arena) (p : Place) (ss ss' : List Contents) (f : Form)
   pub grew : Grew a a' (contexts_around a last.outer) p last.old last.new f
 
 -- it was refused by a cause of the item that the call looks at, and all are spent
-pub record RefusedOn (a : Arena) (ss ss' : List Contents) (f : Form) (offset : ℕ) (e : Error) : Type 0 where
+pub record RefusedOn {M : Type 0} (a : Arena) (ss ss' : List Contents) (f : Form) (offset : ℕ) (e : Error M) : Type 0 where
   pub last : ChangesLast all_spent ss ss'
   pub refused : Refuses a (contexts_around a last.outer) last.old last.new f offset e
 
@@ -50,7 +50,7 @@ pub record DeclaresOn (limited : Bool) (a a' : Arena) (p : Place) (ss ss' : List
   pub declared : Declared limited a a' (contexts_around a last.outer) p last.old last.new t
 
 -- it was refused by a cause of the type item, and all are spent
-pub record RefusesOn (limited : Bool) (a : Arena) (ss ss' : List Contents) (t : Type_form) (offset : ℕ) (e : Error) : Type 0 where
+pub record RefusesOn {M : Type 0} (limited : Bool) (a : Arena) (ss ss' : List Contents) (t : Type_form) (offset : ℕ) (e : Error M) : Type 0 where
   pub last : ChangesLast all_spent ss ss'
   pub refused : RefusesBy (declare_checks limited (scope_of last.old (contexts_around a last.outer)) (context_of a last.old) t) last.new offset e
 

@@ -19,12 +19,13 @@ use crate::resource::add_resource;
 use crate::shape::check_shape;
 use crate::store::{store_defined, store_func};
 use std::alloc::Global;
-use wcv_core::{Error, WasmFeatures};
+use wcv_core::{Error, Refusal, WasmFeatures};
 use wcv_state::{ComponentState, NameList};
 use wcv_syntax::{ComponentDefinedType, ComponentFuncType, ComponentType};
 use wcv_types::TypeAlloc;
 
 /// What of a defined type needs no other type.
+#[tactic(auto, using(wcv_core::proofs::Closing::caused_same))]
 fn check_defined(
     alloc: Global,
     ty: &ComponentDefinedType,
@@ -36,7 +37,8 @@ fn check_defined(
 {
     check_shape(ty, offset)?;
     check_names(alloc, ty, offset)?;
-    check_features(ty, features, offset)
+    check_features(ty, features, offset)?;
+    Ok(())
 }
 
 /// A defined type.
@@ -57,11 +59,12 @@ fn add_defined(
     let alloc = types.allocator();
     check_defined(alloc, &ty, state.features(), offset)?;
     let shape = resolve_defined(alloc, ty, state, types, offset)?;
-    store_defined(shape, state, types, offset)
+    store_defined(shape, state, types, offset)?;
+    Ok(())
 }
 
 /// Whether a function may be async, where it is.
-fn check_mark(async_: bool, features: &WasmFeatures, offset: u64) -> Result<(), Error>
+fn check_mark(async_: bool, features: &WasmFeatures, offset: u64) -> Result<(), Refusal<'static>>
     ensures ok { OnOk result (IsFree (cond async_ (lacks features.now cm_async) [])) }
     ensures err { IfErr result (MemoryOrCausedBy (cond async_ (lacks features.now cm_async) []) offset) }
 {
@@ -72,6 +75,7 @@ fn check_mark(async_: bool, features: &WasmFeatures, offset: u64) -> Result<(), 
 }
 
 /// What of a function type needs no other type.
+#[tactic(auto, using(wcv_core::proofs::Closing::caused_same))]
 fn check_func(
     alloc: Global,
     func: &ComponentFuncType,
@@ -103,7 +107,8 @@ fn add_func(
     let alloc = types.allocator();
     check_func(alloc, &func, state.features(), offset)?;
     let shape = resolve_func(alloc, func, state, types, offset)?;
-    store_func(shape, state, types, offset)
+    store_func(shape, state, types, offset)?;
+    Ok(())
 }
 
 /// A type of a form that is built.

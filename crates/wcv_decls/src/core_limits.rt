@@ -9,14 +9,14 @@ ghost use Rattle.wcv_state.specs.Contents.{context_of};
 ghost use Rattle.wcv_state.specs.Promises.{MemoryOrCausedBy};
 
 use wcv_core::limits::MAX_INSTANCES;
-use wcv_core::{Error, ErrorKind};
+use wcv_core::{Error, ErrorKind, Refusal, Why};
 use wcv_module::{check_group, check_module_limits};
 use wcv_state::{ComponentState, Space};
 use wcv_syntax::{CoreType, ModuleDecl};
 use wcv_types::TypeAlloc;
 
 /// Whether the lists and the texts of a core type item keep their limits.
-pub fn check_core_limits(ty: &CoreType, offset: u64) -> Result<(), Error>
+pub fn check_core_limits(ty: &CoreType, offset: u64) -> Result<(), Refusal<'static>>
     ensures ok { OnOk result (IsFree (core_type_left (core_type_view ty.now))) }
     ensures err { IfErr result (MemoryOrCausedBy (core_type_left (core_type_view ty.now)) offset) }
 {
@@ -27,20 +27,22 @@ pub fn check_core_limits(ty: &CoreType, offset: u64) -> Result<(), Error>
 }
 
 /// Whether there is room for one more core module.
-fn check_modules(state: &ComponentState, types: &TypeAlloc, offset: u64) -> Result<(), Error>
+fn check_modules(
+    state: &ComponentState,
+    types: &TypeAlloc,
+    offset: u64,
+) -> Result<(), Refusal<'static>>
     ensures ok { OnOk result (IsFree (full max_instances (length ((context_of types.now state.now).core core_modules)))) }
     ensures err { IfErr result (MemoryOrCausedBy (full max_instances (length ((context_of types.now state.now).core core_modules))) offset) }
 {
     let _ = types;
     let count = state.space_len(Space::CoreModules);
     if count >= MAX_INSTANCES {
-        return Err(Error::new(
-            ErrorKind::Limit,
-            offset,
-            format_args!(
-                "no room for one more core module: there are {count}, at most {MAX_INSTANCES} are allowed"
-            ),
-        ));
+        let why = Why::new(
+            "no room for one more core module: there are %1, at most %2 are allowed",
+        );
+        let why = why.numbers([count as u64, MAX_INSTANCES as u64, 0]);
+        return Err(Error::new(ErrorKind::Limit, offset, why));
     }
     Ok(())
 }
@@ -52,7 +54,7 @@ pub fn check_core_module_limits(
     state: &ComponentState,
     types: &TypeAlloc,
     offset: u64,
-) -> Result<(), Error>
+) -> Result<(), Refusal<'static>>
     ensures ok { OnOk result (IsFree (core_module_left (context_of types.now state.now) (map code_decl_view decls.now))) }
     ensures err { IfErr result (MemoryOrCausedBy (core_module_left (context_of types.now state.now) (map code_decl_view decls.now)) offset) }
 {

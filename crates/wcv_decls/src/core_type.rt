@@ -40,7 +40,7 @@ fn add_group(
     check_core_types(rec.types.len(), state, types, offset)?;
     match types.intern_rec_group(state, rec, offset) {
         Ok(()) => Ok(()),
-        Err(err) => Err(err),
+        Err(err) => Err(Error::from(err)),
     }
 }
 

@@ -13,7 +13,7 @@ use crate::content::{check_borrow, check_element, check_key, check_map_value};
 use crate::lists::{resolve_cases, resolve_fields, resolve_items};
 use crate::values::{resolve, resolve_option};
 use std::alloc::Global;
-use wcv_core::Error;
+use wcv_core::Refusal;
 use wcv_state::ComponentState;
 use wcv_syntax::{ComponentDefinedType as Written, ComponentValType as WrittenValue};
 use wcv_types::{ComponentDefinedType, TypeAlloc};
@@ -25,7 +25,7 @@ fn resolve_map(
     state: &ComponentState,
     types: &TypeAlloc,
     offset: u64,
-) -> Result<ComponentDefinedType, Error>
+) -> Result<ComponentDefinedType, Refusal<'static>>
     requires stands { StateStands types.now state.now }
     ensures ok { IfOk result (IsValueShape types.now (context_of types.now state.now) (simple (written.Map key value))) }
     ensures free { OnOk result (IsFree (resolve_checks state.now.features (context_of types.now state.now) (simple (written.Map key value)))) }
@@ -44,7 +44,7 @@ fn resolve_future(
     state: &ComponentState,
     types: &TypeAlloc,
     offset: u64,
-) -> Result<ComponentDefinedType, Error>
+) -> Result<ComponentDefinedType, Refusal<'static>>
     requires stands { StateStands types.now state.now }
     ensures ok { IfOk result (IsValueShape types.now (context_of types.now state.now) (simple (written.Future payload))) }
     ensures free { OnOk result (IsFree (resolve_checks state.now.features (context_of types.now state.now) (simple (written.Future payload)))) }
@@ -61,7 +61,7 @@ fn resolve_stream(
     state: &ComponentState,
     types: &TypeAlloc,
     offset: u64,
-) -> Result<ComponentDefinedType, Error>
+) -> Result<ComponentDefinedType, Refusal<'static>>
     requires stands { StateStands types.now state.now }
     ensures ok { IfOk result (IsValueShape types.now (context_of types.now state.now) (simple (written.Stream payload))) }
     ensures free { OnOk result (IsFree (resolve_checks state.now.features (context_of types.now state.now) (simple (written.Stream payload)))) }
@@ -81,7 +81,7 @@ fn resolve_result(
     state: &ComponentState,
     types: &TypeAlloc,
     offset: u64,
-) -> Result<ComponentDefinedType, Error>
+) -> Result<ComponentDefinedType, Refusal<'static>>
     requires stands { StateStands types.now state.now }
     ensures ok { IfOk result (IsValueShape types.now (context_of types.now state.now) (simple (written.Result ok err))) }
     ensures free { OnOk result (IsFree (resolve_checks state.now.features (context_of types.now state.now) (simple (written.Result ok err)))) }
@@ -99,7 +99,7 @@ fn resolve_simple(
     state: &ComponentState,
     types: &TypeAlloc,
     offset: u64,
-) -> Result<ComponentDefinedType, Error>
+) -> Result<ComponentDefinedType, Refusal<'static>>
     requires stands { StateStands types.now state.now }
     requires values { handle_index (simple ty) ≡ None }
     requires simple { holds_no_list ty ≡ true }
@@ -130,7 +130,7 @@ fn resolve_values(
     state: &ComponentState,
     types: &TypeAlloc,
     offset: u64,
-) -> Result<ComponentDefinedType, Error>
+) -> Result<ComponentDefinedType, Refusal<'static>>
     requires stands { StateStands types.now state.now }
     requires values { handle_index (defined_view ty) ≡ None }
     ensures ok { IfOk result (IsValueShape types.now (context_of types.now state.now) (defined_view ty)) }
@@ -161,7 +161,7 @@ pub fn resolve_defined(
     state: &ComponentState,
     types: &TypeAlloc,
     offset: u64,
-) -> Result<ComponentDefinedType, Error>
+) -> Result<ComponentDefinedType, Refusal<'static>>
     requires stands { StateStands types.now state.now }
     ensures ok { IfOk result (IsShape types.now (context_of types.now state.now) (defined_view ty)) }
     ensures free { OnOk result (IsFree (resolve_checks state.now.features (context_of types.now state.now) (defined_view ty))) }

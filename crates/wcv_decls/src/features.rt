@@ -8,27 +8,32 @@ ghost use Rattle.wcv_lower.specs.Values.{has_feature, lacks, cm64, cm_async, cm_
 ghost use Rattle.wcv_state.specs.Promises.{MemoryOrCausedBy};
 
 use bitflags::Flags;
-use wcv_core::{Error, ErrorKind, PrimitiveValType, WasmFeatures};
+use wcv_core::{ErrorKind, PrimitiveValType, Refusal, WasmFeatures, missing_feature};
 use wcv_syntax::ComponentDefinedType;
 
 /// Refuses what needs a feature that is missing, by its name and by what needs it.
-fn check_feature(has: bool, name: &str, needed_by: &str, offset: u64) -> Result<(), Error>
+fn check_feature(
+    has: bool,
+    name: &'static str,
+    needed_by: &'static str,
+    offset: u64,
+) -> Result<(), Refusal<'static>>
     ensures ok { OnOk result (has ≡ true) }
     ensures not { OnErr result (has ≡ false) }
     ensures err { IfErr result (λ e. (error_kind e ≡ ErrorKind.Feature) × (error_offset e ≡ offset)) }
 {
     if !has {
-        return Err(Error::new(
-            ErrorKind::Feature,
-            offset,
-            format_args!("{needed_by} needs the feature `{name}`, which the listing does not name"),
-        ));
+        return Err(missing_feature(needed_by, "", name, offset));
     }
     Ok(())
 }
 
 /// Whether futures, streams and async functions may stand.
-pub fn check_async(features: &WasmFeatures, needed_by: &str, offset: u64) -> Result<(), Error>
+pub fn check_async(
+    features: &WasmFeatures,
+    needed_by: &'static str,
+    offset: u64,
+) -> Result<(), Refusal<'static>>
     ensures ok { OnOk result (IsFree (lacks features.now cm_async)) }
     ensures err { IfErr result (MemoryOrCausedBy (lacks features.now cm_async) offset) }
 {
@@ -41,7 +46,7 @@ pub fn check_async(features: &WasmFeatures, needed_by: &str, offset: u64) -> Res
 }
 
 /// Whether `i64` may represent a resource.
-pub fn check_cm64(features: &WasmFeatures, offset: u64) -> Result<(), Error>
+pub fn check_cm64(features: &WasmFeatures, offset: u64) -> Result<(), Refusal<'static>>
     ensures ok { OnOk result (IsFree (lacks features.now cm64)) }
     ensures err { IfErr result (MemoryOrCausedBy (lacks features.now cm64) offset) }
 {
@@ -58,7 +63,7 @@ pub fn check_primitive(
     ty: PrimitiveValType,
     features: &WasmFeatures,
     offset: u64,
-) -> Result<(), Error>
+) -> Result<(), Refusal<'static>>
     ensures ok { OnOk result (IsFree (primitive_checks features.now ty)) }
     ensures err { IfErr result (MemoryOrCausedBy (primitive_checks features.now ty) offset) }
 {
@@ -78,7 +83,7 @@ pub fn check_features(
     ty: &ComponentDefinedType,
     features: &WasmFeatures,
     offset: u64,
-) -> Result<(), Error>
+) -> Result<(), Refusal<'static>>
     ensures ok { OnOk result (IsFree (feature_checks features.now (defined_view ty.now))) }
     ensures err { IfErr result (MemoryOrCausedBy (feature_checks features.now (defined_view ty.now)) offset) }
 {

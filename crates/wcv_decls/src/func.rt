@@ -12,7 +12,7 @@ use crate::content::check_borrow;
 use crate::lists::resolve_fields;
 use crate::values::resolve_option;
 use std::alloc::Global;
-use wcv_core::Error;
+use wcv_core::Refusal;
 use wcv_state::ComponentState;
 use wcv_syntax::ComponentFuncType as Written;
 use wcv_types::{ComponentFuncType, TypeAlloc};
@@ -24,7 +24,7 @@ pub fn resolve_func(
     state: &ComponentState,
     types: &TypeAlloc,
     offset: u64,
-) -> Result<ComponentFuncType, Error>
+) -> Result<ComponentFuncType, Refusal<'static>>
     requires stands { StateStands types.now state.now }
     ensures fits { IfOk result (λ s. Fits types.now (node.Func s)) }
     ensures ok { IfOk result (IsFuncShape types.now (context_of types.now state.now) (func_view func)) }

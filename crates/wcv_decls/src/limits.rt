@@ -8,25 +8,21 @@ ghost use Rattle.wcv_state.specs.NameLists.{list_names};
 ghost use Rattle.wcv_state.specs.Promises.{MemoryOrCausedBy};
 
 use wcv_core::limits::{MAX_LIST, MAX_PARAMS, MAX_TEXT};
-use wcv_core::{Error, ErrorKind, Excerpt, Text};
+use wcv_core::{Error, ErrorKind, Refusal, Text, Why};
 use wcv_state::NameList;
 use wcv_syntax::{ComponentDefinedType, ComponentFuncType, ComponentType};
 
 /// Whether a name of a type is not too long. What has the name is for the message.
-fn check_text(text: &Text, word: &str, offset: u64) -> Result<(), Error>
+fn check_text<'a>(text: &'a Text, word: &'static str, offset: u64) -> Result<(), Refusal<'a>>
     ensures ok { OnOk result (IsFree (too_long text.now)) }
     ensures err { IfErr result (MemoryOrCausedBy (too_long text.now) offset) }
 {
     let bytes = text.as_str().len();
     if bytes > MAX_TEXT {
-        let excerpt = Excerpt(text.as_str());
-        return Err(Error::new(
-            ErrorKind::Limit,
-            offset,
-            format_args!(
-                "{word} name `{excerpt}` has {bytes} bytes, at most {MAX_TEXT} are allowed"
-            ),
-        ));
+        let why = Why::new("%w name `%n` has %1 bytes, at most %2 are allowed");
+        let why = why.word(word).name(text.as_str());
+        let why = why.numbers([bytes as u64, MAX_TEXT as u64, 0]);
+        return Err(Error::new(ErrorKind::Limit, offset, why));
     }
     Ok(())
 }
@@ -52,7 +48,7 @@ fn are_short(list: NameList<'_>) -> bool
 }
 
 /// So of each name of a list.
-fn check_texts(list: NameList<'_>, offset: u64) -> Result<(), Error>
+fn check_texts<'a>(list: NameList<'a>, offset: u64) -> Result<(), Refusal<'a>>
     ensures ok { OnOk result (IsFree (each_too_long (list_names list.entry))) }
     ensures err { IfErr result (MemoryOrCausedBy (each_too_long (list_names list.entry)) offset) }
 {
@@ -66,22 +62,32 @@ fn check_texts(list: NameList<'_>, offset: u64) -> Result<(), Error>
 }
 
 /// Whether a type has no more entries than a limit. What it is, and what an entry of it is, are for the message.
-fn check_count(count: usize, limit: usize, ty: &str, word: &str, offset: u64) -> Result<(), Error>
+fn check_count(
+    count: usize,
+    limit: usize,
+    ty: &'static str,
+    word: &'static str,
+    offset: u64,
+) -> Result<(), Refusal<'static>>
     ensures ok { OnOk result (IsFree (too_many limit count)) }
     ensures err { IfErr result (MemoryOrCausedBy (too_many limit count) offset) }
 {
     if count > limit {
-        return Err(Error::new(
-            ErrorKind::Limit,
-            offset,
-            format_args!("{ty} has {count} {word}s, at most {limit} are allowed"),
-        ));
+        let why = Why::new("%n has %1 %ws, at most %2 are allowed");
+        let why = why.name(ty).word(word);
+        let why = why.numbers([count as u64, limit as u64, 0]);
+        return Err(Error::new(ErrorKind::Limit, offset, why));
     }
     Ok(())
 }
 
 /// Both limits of a list of names.
-fn check_list(list: NameList<'_>, limit: usize, ty: &str, offset: u64) -> Result<(), Error>
+fn check_list<'a>(
+    list: NameList<'a>,
+    limit: usize,
+    ty: &'static str,
+    offset: u64,
+) -> Result<(), Refusal<'a>>
     ensures ok { OnOk result (IsFree (too_many limit (length (list_names list.entry)) ++ each_too_long (list_names list.entry))) }
     ensures err { IfErr result (MemoryOrCausedBy (too_many limit (length (list_names list.entry)) ++ each_too_long (list_names list.entry)) offset) }
 {
@@ -90,7 +96,7 @@ fn check_list(list: NameList<'_>, limit: usize, ty: &str, offset: u64) -> Result
 }
 
 /// The limits of a defined type.
-fn check_defined(ty: &ComponentDefinedType, offset: u64) -> Result<(), Error>
+fn check_defined(ty: &ComponentDefinedType, offset: u64) -> Result<(), Refusal<'_>>
     ensures ok { OnOk result (IsFree (defined_left (defined_view ty.now))) }
     ensures err { IfErr result (MemoryOrCausedBy (defined_left (defined_view ty.now)) offset) }
 {
@@ -115,7 +121,7 @@ fn check_defined(ty: &ComponentDefinedType, offset: u64) -> Result<(), Error>
 }
 
 /// The limits of a function type.
-fn check_func(func: &ComponentFuncType, offset: u64) -> Result<(), Error>
+fn check_func(func: &ComponentFuncType, offset: u64) -> Result<(), Refusal<'_>>
     ensures ok { OnOk result (IsFree (func_left (func_view func.now))) }
     ensures err { IfErr result (MemoryOrCausedBy (func_left (func_view func.now)) offset) }
 {
@@ -128,7 +134,7 @@ fn check_func(func: &ComponentFuncType, offset: u64) -> Result<(), Error>
 }
 
 /// Whether a type item keeps the limits of its lists and of its texts.
-pub fn check_limits(ty: &ComponentType, offset: u64) -> Result<(), Error>
+pub fn check_limits(ty: &ComponentType, offset: u64) -> Result<(), Refusal<'_>>
     ensures ok { OnOk result (IsFree (type_left (type_view ty.now))) }
     ensures err { IfErr result (MemoryOrCausedBy (type_left (type_view ty.now)) offset) }
 {

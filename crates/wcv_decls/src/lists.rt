@@ -9,7 +9,7 @@ ghost use Rattle.wcv_decls.specs.Resolved.{AreSlots, written_field, field_part, 
 
 use crate::values::{resolve, resolve_option};
 use std::alloc::Global;
-use wcv_core::{Error, Text};
+use wcv_core::{Refusal, Text};
 use wcv_state::ComponentState;
 use wcv_syntax::{ComponentValType as Written, VariantCase};
 use wcv_types::{ComponentValType, TypeAlloc};
@@ -21,7 +21,7 @@ pub fn resolve_fields(
     state: &ComponentState,
     types: &TypeAlloc,
     offset: u64,
-) -> Result<Vec<(Text, ComponentValType)>, Error>
+) -> Result<Vec<(Text, ComponentValType)>, Refusal<'static>>
     requires stands { StateStands types.now state.now }
     ensures ok { IfOk result (λ fs. AreSlots types.now (context_of types.now state.now) (map written_field fields.items) (value_slots (map field_part fs.items))) }
     ensures free { OnOk result (IsFree (parts_checks state.now.features (context_of types.now state.now) (map written_field fields.items))) }
@@ -42,7 +42,7 @@ pub fn resolve_cases(
     state: &ComponentState,
     types: &TypeAlloc,
     offset: u64,
-) -> Result<Vec<(Text, Option<ComponentValType>)>, Error>
+) -> Result<Vec<(Text, Option<ComponentValType>)>, Refusal<'static>>
     requires stands { StateStands types.now state.now }
     ensures ok { IfOk result (λ cs. AreSlots types.now (context_of types.now state.now) (map written_case cases.items) (value_slots (map case_part cs.items))) }
     ensures free { OnOk result (IsFree (parts_checks state.now.features (context_of types.now state.now) (map written_case cases.items))) }
@@ -63,7 +63,7 @@ pub fn resolve_items(
     state: &ComponentState,
     types: &TypeAlloc,
     offset: u64,
-) -> Result<Vec<ComponentValType>, Error>
+) -> Result<Vec<ComponentValType>, Refusal<'static>>
     requires stands { StateStands types.now state.now }
     ensures ok { IfOk result (λ vs. AreSlots types.now (context_of types.now state.now) (map written_item items.items) (value_slots (map item_part vs.items))) }
     ensures free { OnOk result (IsFree (parts_checks state.now.features (context_of types.now state.now) (map written_item items.items))) }

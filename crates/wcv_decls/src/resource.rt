@@ -11,12 +11,12 @@ ghost use Rattle.wcv_state.specs.Promises.{MemoryOrCausedBy, Keeps};
 ghost use Rattle.wcv_decls.specs.Items.{Declares};
 
 use crate::features::check_cm64;
-use wcv_core::{Error, ErrorKind, ValType, WasmFeatures};
+use wcv_core::{Error, ErrorKind, Refusal, ValType, WasmFeatures, Why};
 use wcv_state::{ComponentKind, ComponentState};
 use wcv_types::{ComponentAnyTypeId, TypeAlloc};
 
 /// Whether resources may be defined where the item stands.
-fn check_scope(kind: ComponentKind, offset: u64) -> Result<(), Error>
+fn check_scope(kind: ComponentKind, offset: u64) -> Result<(), Refusal<'static>>
     ensures ok { OnOk result (IsFree ((kinds.ResourceScope, not (is_concrete (kind_of kind))) ∷ [])) }
     ensures err { IfErr result (MemoryOrCausedBy ((kinds.ResourceScope, not (is_concrete (kind_of kind))) ∷ []) offset) }
 {
@@ -25,13 +25,13 @@ fn check_scope(kind: ComponentKind, offset: u64) -> Result<(), Error>
         _ => Err(Error::new(
             ErrorKind::ResourceScope,
             offset,
-            "a resource may be defined in a component, and in no declared type",
+            Why::new("a resource may be defined in a component, and in no declared type"),
         )),
     }
 }
 
 /// Whether a resource may have the representation.
-fn check_rep(rep: ValType, features: &WasmFeatures, offset: u64) -> Result<(), Error>
+fn check_rep(rep: ValType, features: &WasmFeatures, offset: u64) -> Result<(), Refusal<'static>>
     ensures ok { OnOk result (IsFree (rep_checks features.now rep)) }
     ensures err { IfErr result (MemoryOrCausedBy (rep_checks features.now rep) offset) }
 {
@@ -41,13 +41,13 @@ fn check_rep(rep: ValType, features: &WasmFeatures, offset: u64) -> Result<(), E
         _ => Err(Error::new(
             ErrorKind::Shape,
             offset,
-            "a resource is represented by `i32`, or by `i64` with the feature `cm64`",
+            Why::new("a resource is represented by `i32`, or by `i64` with the feature `cm64`"),
         )),
     }
 }
 
 /// A resource.
-#[tactic(auto, using(crate::proofs::Storing::unchanged))]
+#[tactic(auto, using(crate::proofs::Storing::unchanged, wcv_core::proofs::Closing::caused_same))]
 pub fn add_resource(
     rep: ValType,
     state: &mut ComponentState,

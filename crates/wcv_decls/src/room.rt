@@ -5,7 +5,7 @@ ghost use Rattle.wcv_state.specs.Contents.{context_of};
 ghost use Rattle.wcv_state.specs.Promises.{MemoryOrCausedBy};
 
 use wcv_core::limits::MAX_ENTRIES;
-use wcv_core::{Error, ErrorKind};
+use wcv_core::{Error, ErrorKind, Refusal, Why};
 use wcv_state::ComponentState;
 use wcv_types::TypeAlloc;
 
@@ -15,20 +15,18 @@ pub fn check_types(
     state: &ComponentState,
     types: &TypeAlloc,
     offset: u64,
-) -> Result<(), Error>
+) -> Result<(), Refusal<'static>>
     ensures ok { OnOk result (IsFree (no_type_room limited (counts (context_of types.now state.now)))) }
     ensures err { IfErr result (MemoryOrCausedBy (no_type_room limited (counts (context_of types.now state.now))) offset) }
 {
     let _ = types;
     let count = state.type_count();
     if limited && count >= MAX_ENTRIES {
-        return Err(Error::new(
-            ErrorKind::Limit,
-            offset,
-            format_args!(
-                "no room for one more type or core type: there are {count}, at most {MAX_ENTRIES} are allowed"
-            ),
-        ));
+        let why = Why::new(
+            "no room for one more type or core type: there are %1, at most %2 are allowed",
+        );
+        let why = why.numbers([count as u64, MAX_ENTRIES as u64, 0]);
+        return Err(Error::new(ErrorKind::Limit, offset, why));
     }
     Ok(())
 }
@@ -39,20 +37,18 @@ pub fn check_core_types(
     state: &ComponentState,
     types: &TypeAlloc,
     offset: u64,
-) -> Result<(), Error>
+) -> Result<(), Refusal<'static>>
     ensures ok { OnOk result (IsFree (no_core_type_room more (counts (context_of types.now state.now)))) }
     ensures err { IfErr result (MemoryOrCausedBy (no_core_type_room more (counts (context_of types.now state.now))) offset) }
 {
     let _ = types;
     let count = state.type_count();
     if count > MAX_ENTRIES || more > MAX_ENTRIES - count {
-        return Err(Error::new(
-            ErrorKind::Limit,
-            offset,
-            format_args!(
-                "no room for {more} more core types: there are {count} types and core types, at most {MAX_ENTRIES} are allowed"
-            ),
-        ));
+        let why = Why::new(
+            "no room for %1 more core types: there are %2 types and core types, at most %3 are allowed",
+        );
+        let why = why.numbers([more as u64, count as u64, MAX_ENTRIES as u64]);
+        return Err(Error::new(ErrorKind::Limit, offset, why));
     }
     Ok(())
 }

@@ -6,23 +6,25 @@ ghost use Rattle.wcv_state.specs.Promises.{MemoryOrCausedBy};
 ghost use Rattle.wcv_decls.specs.Resolved.{kept_checks};
 
 use wcv_core::limits::{MAX_ABI_SIZE, MAX_DEPTH, MAX_SIZE};
-use wcv_core::{Error, ErrorKind};
+use wcv_core::{Error, ErrorKind, Refusal, Why};
 use wcv_types::TypeInfo;
 
-fn too_large(offset: u64, what: &str, number: u64, limit: u64) -> Error
+fn too_large(offset: u64, what: &'static str, number: u64, limit: u64) -> Refusal<'static>
     ensures kind { error_kind result ≡ ErrorKind.Limit }
     ensures offset { error_offset result ≡ offset }
 {
-    Error::new(
-        ErrorKind::Limit,
-        offset,
-        format_args!("type {what} {number}, at most {limit} is allowed"),
-    )
+    let why = Why::new("type %w %1, at most %2 is allowed").word(what);
+    Error::new(ErrorKind::Limit, offset, why.numbers([number, limit, 0]))
 }
 
 /// Whether a type of that size and depth, which takes so many bytes with pointers of 4 and of 8 bytes, is not
 /// too large.
-pub fn check_size(info: TypeInfo, size32: u64, size64: u64, offset: u64) -> Result<(), Error>
+pub fn check_size(
+    info: TypeInfo,
+    size32: u64,
+    size64: u64,
+    offset: u64,
+) -> Result<(), Refusal<'static>>
     ensures ok { OnOk result (IsFree (kept_checks info size32 size64)) }
     ensures err { IfErr result (MemoryOrCausedBy (kept_checks info size32 size64) offset) }
 {

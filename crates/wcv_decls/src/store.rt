@@ -10,7 +10,7 @@ ghost use Rattle.wcv_state.specs.Promises.{MemoryOrCausedBy, Keeps};
 ghost use Rattle.wcv_decls.specs.Items.{Stored};
 
 use crate::size::check_size;
-use wcv_core::Error;
+use wcv_core::Refusal;
 use wcv_state::ComponentState;
 use wcv_types::{
     ComponentAnyTypeId, ComponentDefinedType, ComponentDefinedTypeId, ComponentFuncType,
@@ -24,7 +24,7 @@ pub fn store_defined(
     state: &mut ComponentState,
     types: &mut TypeAlloc,
     offset: u64,
-) -> Result<(), Error>
+) -> Result<(), Refusal<'static>>
     requires live { state.old.spent ≡ false }
     requires stands { StateStands types.old state.old }
     requires fits { Fits types.old (node.Defined shape) }
@@ -47,7 +47,7 @@ pub fn store_func(
     state: &mut ComponentState,
     types: &mut TypeAlloc,
     offset: u64,
-) -> Result<(), Error>
+) -> Result<(), Refusal<'static>>
     requires live { state.old.spent ≡ false }
     requires stands { StateStands types.old state.old }
     requires fits { Fits types.old (node.Func shape) }

@@ -7,7 +7,7 @@ ghost use Rattle.wcv_state.specs.Promises.{MemoryOrCausedBy};
 ghost use Rattle.wcv_decls.specs.Resolved.{IsOption};
 
 use crate::features::check_primitive;
-use wcv_core::Error;
+use wcv_core::Refusal;
 use wcv_state::ComponentState;
 use wcv_syntax::ComponentValType as Written;
 use wcv_types::{ComponentValType, TypeAlloc};
@@ -19,7 +19,7 @@ pub fn resolve(
     state: &ComponentState,
     types: &TypeAlloc,
     offset: u64,
-) -> Result<ComponentValType, Error>
+) -> Result<ComponentValType, Refusal<'static>>
     requires stands { StateStands types.now state.now }
     ensures ok { IfOk result (λ v. IsOption types.now (context_of types.now state.now) (Some ty) (Some v)) }
     ensures free { OnOk result (IsFree (option_checks state.now.features (context_of types.now state.now) (Some ty))) }
@@ -42,7 +42,7 @@ pub fn resolve_option(
     state: &ComponentState,
     types: &TypeAlloc,
     offset: u64,
-) -> Result<Option<ComponentValType>, Error>
+) -> Result<Option<ComponentValType>, Refusal<'static>>
     requires stands { StateStands types.now state.now }
     ensures ok { IfOk result (IsOption types.now (context_of types.now state.now) ty) }
     ensures free { OnOk result (IsFree (option_checks state.now.features (context_of types.now state.now) ty)) }

@@ -8,6 +8,7 @@ use Rattle.wcv_lower.specs.Types.{tree_checks}
 use Rattle.wcv_lower.proofs.Causes.{cause_left, cause_right, free_both}
 use Rattle.wcv_state.specs.Contents.{context_of}
 use Rattle.wcv_state.proofs.Calls.{caused_more, built_caused, built_free}
+use Rattle.wcv_core.proofs.Closing.{caused_same}
 use Rattle.wcv_decls.proofs.declare.declare.Goals as goal
 
 pub returns-in_err-check_types-clause-err : goal.returns-in_err-check_types-clause-err
@@ -18,7 +19,8 @@ returns-in_err-check_types-clause-err c =
     let room : Checks = no_type_room c.args.check_limit (counts x) in
     let tree : Checks = tree_checks c.args.state.now.features x (type_view c.args.ty) in
     let built : is_built_type (type_view c.args.ty) ≡ true = sym c.is_built_type.ensures ∙ c.in_ok-check_form.ensures.ok in
-    rw (p.1, p.2) (λ outer. built_caused (is_built_type (type_view c.args.ty)) (tree ++ room) c.args.offset e built (caused_more room (tree ++ room) c.args.offset e (cause_right tree room (error_kind e)) c.in_err-check_types.ensures.err))
+    rw p.1 (λ outer. built_caused (is_built_type (type_view c.args.ty)) (tree ++ room) c.args.offset p.0 built (caused_more room (tree ++ room) c.args.offset p.0 (cause_right tree room (error_kind p.0))
+    (caused_same room c.args.offset e p.0 p.2.0 p.2.1 c.in_err-check_types.ensures.err)))
 
 pub returns-clause-free : goal.returns-clause-free
 returns-clause-free c =

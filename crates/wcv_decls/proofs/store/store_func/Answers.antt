@@ -1,11 +1,7 @@
-use Rattle.std.proofs.Common.{subst, sym, refl, true}
 use Rattle.std.proofs.lemmas.Result.{err_from_is_err_and}
 use Rattle.wcv_types.specs.declared.arena.Node.TheVariants as node
 use Rattle.wcv_types.specs.declared.ids.ComponentAnyTypeId.TheVariants as any
-use Rattle.wcv_state.specs.Contents.{Contents}
-use Rattle.wcv_state.specs.Promises.{Keeps}
-use Rattle.wcv_state.proofs.Keeping.{keeps_marked, keeps_trans}
-use Rattle.wcv_decls.proofs.Storing.{node_keeps, node_stands, stored}
+use Rattle.wcv_decls.proofs.Storing.{node_keeps, spent_keeps, stored}
 use Rattle.wcv_decls.proofs.store.store_func.Goals as goal
 
 pub returns-in_err-check_size-clause-keeps : goal.returns-in_err-check_size-clause-keeps
@@ -16,11 +12,7 @@ returns-in_err-check_size-clause-keeps c =
 pub returns-in_err-push_type-clause-keeps : goal.returns-in_err-push_type-clause-keeps
 returns-in_err-push_type-clause-keeps c =
     let p = err_from_is_err_and c.from_residual-in_err-push_type.result c.from_residual-in_err-push_type.ensures.1 in
-    let b = c.push_ty.new.self in
-    let s : Contents = c.args.state.now in
-    let first : Keeps c.args.types.now b s s = node_keeps c.args.types.now b s (node.Func c.args.shape) c.in_ok-id.ensures.added c.requires.stands in
-    rw p.1 (subst (λ (z : Contents). Keeps c.args.types.now b s z) (sym c.in_err-push_type.ensures.err)
-    (keeps_trans c.args.types.now b b s s (record s { spent = true }) first (keeps_marked b s s true refl (node_stands c.args.types.now b s (node.Func c.args.shape) c.in_ok-id.ensures.added c.requires.stands))))
+    rw p.1 (spent_keeps c.args.types.now c.push_ty.new.self c.args.state.now (node.Func c.args.shape) c.in_ok-id.ensures.added c.requires.stands c.push_type.new.self c.in_err-push_type.ensures.err)
 
 pub returns-clause-ok : goal.returns-clause-ok
 returns-clause-ok c =
