@@ -20,11 +20,11 @@ use Rattle.wcv_syntax.specs.declared.instance.ComponentExternalKind.{ComponentEx
 use Rattle.wcv_syntax.specs.declared.instance.ComponentExternalKind.TheVariants as kind
 use Rattle.wcv_types.specs.Paths.{PathLeadsTo}
 use Rattle.wcv_types.specs.Resources.{FreeIn}
-use Rattle.wcv_types.specs.Tree.{Text, Extern_name, primitive, Sort, is_nothing, is_value, is_resource, is_func, is_instance, is_component, is_type, is_module, is_core_instance, is_core_type, is_core_item, sort, defined, func, core_module, core_item, core_import, core_export, core_imports, core_exports, sub_type, node, Parts, none, part, here, nothing, referenced}
+use Rattle.wcv_types.specs.Tree.{Text, Extern_name, primitive, Sort, is_value, is_resource, is_func, is_type, is_module, sort, defined, func, core_imports, core_exports, sub_type, node, Parts, none, part, here, nothing, referenced}
 use Rattle.wcv_types.proofs.Lists.{some-inj}
 use Rattle.wcv_lower.specs.Checks.{same_sort}
 use Rattle.wcv_lower.specs.Context.{Type_tree, Entries, Context, Scope, Space, in_types, in_funcs, in_values, in_instances, in_components, Core_space, core_types, core_modules, Side, importing, exporting, types, is_concrete, placed, unknown, type_entry}
-use Rattle.wcv_lower.specs.CoreItems.{core_entries, types_join, group_step, module_tree, module_joins, core_type_step, core_module_step, outer_entries}
+use Rattle.wcv_lower.specs.CoreItems.{core_entries, types_join, group_step, module_tree, module_joins, core_type_step, outer_entries}
 use Rattle.wcv_lower.specs.Defined.{made_of, former, handle_index, written_parts}
 use Rattle.wcv_lower.specs.Entries.{extern_name, written_at, written, items_of, exported_as, exported}
 use Rattle.wcv_lower.specs.Growth.{step}
@@ -210,16 +210,7 @@ pub record SameLists (c d : Context) : Type 0 where
 
 joins-same : (o : Sort) (t : Type_tree) (c : Context) → SameLists c (apply (joins o t) c)
 joins-same is_func t c = record { imported = refl; defined = refl; imports = refl }
-joins-same is_value t c = record { imported = refl; defined = refl; imports = refl }
-joins-same is_instance t c = record { imported = refl; defined = refl; imports = refl }
-joins-same is_component t c = record { imported = refl; defined = refl; imports = refl }
-joins-same is_type t c = record { imported = refl; defined = refl; imports = refl }
-joins-same is_resource t c = record { imported = refl; defined = refl; imports = refl }
-joins-same is_nothing t c = record { imported = refl; defined = refl; imports = refl }
-joins-same is_module t c = record { imported = refl; defined = refl; imports = refl }
-joins-same is_core_instance t c = record { imported = refl; defined = refl; imports = refl }
-joins-same is_core_type t c = record { imported = refl; defined = refl; imports = refl }
-joins-same is_core_item t c = record { imported = refl; defined = refl; imports = refl }
+joins-same x t c = record { imported = refl; defined = refl; imports = refl }
 
 -- before it joins its space
 abbrev entered : Side → Extern_name → Brought → Context → Context

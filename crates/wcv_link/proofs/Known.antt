@@ -7,9 +7,9 @@ use Rattle.std.proofs.lemmas.List.Elements.{All-push, All-weaker}
 use Rattle.std.proofs.lemmas.Option.{slice_get_within, get_or_from_slice_get}
 use Rattle.wcv_core.specs.Names.{Name, Place}
 use Rattle.wcv_types.specs.Resources.{Free, FreeIn}
-use Rattle.wcv_types.specs.Tree.{Extern_name, Head, nothing, primitive, resource, defined, func, instance, component, type_entity, core_module, core_instance, core_type, core_item, Sort, is_nothing, is_value, is_resource, is_func, is_instance, is_component, is_type, is_module, is_core_instance, is_core_type, is_core_item, sort, sort_at, node, Parts, none, part, first_part, rest_parts, created, referenced, type_of}
+use Rattle.wcv_types.specs.Tree.{Extern_name, Head, nothing, type_entity, Sort, is_nothing, is_value, is_resource, is_func, is_instance, is_component, is_type, is_module, is_core_instance, is_core_type, is_core_item, sort, sort_at, node, Parts, none, part, first_part, rest_parts, created, referenced, type_of}
 use Rattle.wcv_types.proofs.Lists.{some-inj}
-use Rattle.wcv_lower.specs.Context.{Type_tree, Context, Space, in_types, Core_space, core_modules, Side, importing, exporting, same_space, same_core_space, same_side, joined}
+use Rattle.wcv_lower.specs.Context.{Type_tree, Context, Space, in_types, Core_space, Side, importing, exporting, same_space, same_core_space, same_side, joined}
 use Rattle.wcv_lower.specs.Names.{Names, introduced}
 use Rattle.wcv_lower.specs.NewTypes.{renewed, new_reference}
 use Rattle.wcv_lower.specs.Step.{Change, appends, lists, introduces, defines, creates, core_appends, interns, Step, change, apply, joins, enters, Brought}
@@ -32,17 +32,7 @@ all-get Q xs k x a e = subst Q (get_or_from_slice_get xs k x x e) (a k x (slice_
 -- an entry of a type has what is free in its two types
 entity-free : (r : Name) (h : Head Name Name) (ps : Parts Name Name) → sort_at h ≡ is_type → FreeIn r ps → Free r (node h ps)
 entity-free r type_entity ps e x = inr (refl, x)
-entity-free r nothing ps e x = cc
-entity-free r (primitive p) ps e x = cc
-entity-free r (resource q s) ps e x = cc
-entity-free r (defined i k) ps e x = cc
-entity-free r (func i b) ps e x = cc
-entity-free r (instance i own) ps e x = cc
-entity-free r (component i ins outs) ps e x = cc
-entity-free r (core_module i n) ps e x = cc
-entity-free r (core_instance i n) ps e x = cc
-entity-free r (core_type k) ps e x = cc
-entity-free r (core_item d) ps e x = cc
+entity-free r y ps e x = cc
 
 first-free : (r : Name) (ps : Parts Name Name) → Free r (first_part ps) → FreeIn r ps
 first-free r none (inl x) = absurd x
@@ -75,17 +65,7 @@ module _ (P : Name → Type 0) where
 
   pub renewed-within : (names : Names) (p : Place) (t : Type_tree) → Within t → Within (renewed names p t)
   renewed-within names p (node nothing ps) w r x = w r x
-  renewed-within names p (node (primitive q) ps) w r x = w r x
-  renewed-within names p (node (resource q s) ps) w r x = w r x
-  renewed-within names p (node (defined i k) ps) w r x = w r x
-  renewed-within names p (node (func i b) ps) w r x = w r x
-  renewed-within names p (node (instance i own) ps) w r x = w r x
-  renewed-within names p (node (component i ins outs) ps) w r x = w r x
-  renewed-within names p (node type_entity ps) w r x = w r x
-  renewed-within names p (node (core_module i n) ps) w r x = w r x
-  renewed-within names p (node (core_instance i n) ps) w r x = w r x
-  renewed-within names p (node (core_type k) ps) w r x = w r x
-  renewed-within names p (node (core_item d) ps) w r x = w r x
+  renewed-within names p (node h ps) w r x = w r x
 
   pub reference-within : (names : Names) (p : Place) → ((r : Name) → r ≡ names.resource (introduced p) → P r) → Within (new_reference names p)
   reference-within names p w r (inl e) = w r e

@@ -39,7 +39,7 @@ pub record AcceptsItem (a b : Arena) (s s' : Contents) (f : Form) : Type 0 where
   pub features : s'.features ≡ s.features
 
 -- the item was refused by a cause of it, or out of memory
-abbrev pub RefusesItem : Arena → Contents → Form → ℕ → Error → Type 0
+abbrev pub RefusesItem : {M : Type 0} → Arena → Contents → Form → ℕ → Error M → Type 0
 RefusesItem a s f offset e = MemoryOrCausedBy (checks (scope_of s []) (context_of a s) f) offset e
 
 -- ## The items so far
@@ -64,5 +64,5 @@ pub record ValidSoFar (a : Arena) (s : Contents) (k : ℕ) (features : WasmFeatu
   pub reads : ValidAsFar (names_of names) [] (around_root features) 0 start is k (context_of a s) left
 
 -- the root was refused by a cause where it is refused, or out of memory
-abbrev pub MemoryOrRefused : WasmFeatures → Items → ℕ → Error → Type 0
+abbrev pub MemoryOrRefused : {M : Type 0} → WasmFeatures → Items → ℕ → Error M → Type 0
 MemoryOrRefused features is end e = (error_kind e ≡ kind.OutOfMemory) ⊎ Refused features is end (error_kind e) (error_offset e)

@@ -7,14 +7,17 @@ use Rattle.wcv_lower.specs.Checks.{IsFree}
 use Rattle.wcv_lower.specs.CoreItems.{core_module_left}
 use Rattle.wcv_state.specs.Promises.{MemoryOrCausedBy}
 use Rattle.wcv_state.specs.Contents.{context_of, scope_of}
+use Rattle.wcv_core.proofs.Closing.{caused_same}
 use Rattle.wcv_link.proofs.Steps.{call_caused, left_caused, item_read}
 use Rattle.wcv_link.proofs.core_items.read_core_module.Goals as goal
 
 pub returns-in_err-check_core_module_limits-clause-err : goal.returns-in_err-check_core_module_limits-clause-err
 returns-in_err-check_core_module_limits-clause-err c =
     let p = err_from_is_err_and c.from_residual.result c.from_residual.ensures.1 in
-    rw (p.1, p.2)
-    (left_caused (scope_of c.args.state.now []) (context_of c.args.types.now c.args.state.now) (core_module_item (map code_decl_view c.args.decls.items)) c.args.offset c.in_err-check_core_module_limits.field-0.0 refl (subst (λ (ds : List ModuleDecl). MemoryOrCausedBy (core_module_left (context_of c.args.types.now c.args.state.now) (map code_decl_view ds)) c.args.offset c.in_err-check_core_module_limits.field-0.0) c.deref.ensures.value c.in_err-check_core_module_limits.ensures.err))
+    rw p.1
+    (left_caused (scope_of c.args.state.now []) (context_of c.args.types.now c.args.state.now) (core_module_item (map code_decl_view c.args.decls.items)) c.args.offset p.0 refl
+    (subst (λ (ds : List ModuleDecl). MemoryOrCausedBy (core_module_left (context_of c.args.types.now c.args.state.now) (map code_decl_view ds)) c.args.offset p.0) c.deref.ensures.value
+    (caused_same (core_module_left (context_of c.args.types.now c.args.state.now) (map code_decl_view c.deref.result.now)) c.args.offset c.in_err-check_core_module_limits.field-0.0 p.0 p.2.0 p.2.1 c.in_err-check_core_module_limits.ensures.err)))
 
 pub returns-clause-ok : goal.returns-clause-ok
 returns-clause-ok c =

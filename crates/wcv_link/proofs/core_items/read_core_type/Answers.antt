@@ -2,17 +2,20 @@ use Rattle.std.proofs.Common.{List, [], refl, slice_index_or}
 use Rattle.std.proofs.lemmas.Result.{err_from_is_err_and, on_ok_weaker, IfErr-weaker}
 use Rattle.wcv_syntax.specs.Model.{Form, core_type_item}
 use Rattle.wcv_syntax.specs.View.{core_type_view}
+use Rattle.wcv_lower.specs.Growth.{left_checks}
 use Rattle.wcv_state.specs.Contents.{Contents, context_of, scope_of}
 use Rattle.wcv_decls.specs.Stack.{GrewOn, RefusedOn, KeepsOn}
 use Rattle.wcv_decls.proofs.Stacks.{unmapped}
+use Rattle.wcv_core.proofs.Closing.{caused_same}
 use Rattle.wcv_link.proofs.Steps.{call_caused, left_caused, item_read, grew_alone, refused_alone, keeps_alone}
 use Rattle.wcv_link.proofs.core_items.read_core_type.Goals as goal
 
 pub returns-in_err-check_core_limits-clause-err : goal.returns-in_err-check_core_limits-clause-err
 returns-in_err-check_core_limits-clause-err c =
     let p = err_from_is_err_and c.from_residual.result c.from_residual.ensures.1 in
-    rw (p.1, p.2)
-    (left_caused (scope_of c.args.state.now []) (context_of c.args.types.now c.args.state.now) (core_type_item (core_type_view c.args.ty)) c.args.offset c.in_err-check_core_limits.field-0.0 refl c.in_err-check_core_limits.ensures.err)
+    rw p.1
+    (left_caused (scope_of c.args.state.now []) (context_of c.args.types.now c.args.state.now) (core_type_item (core_type_view c.args.ty)) c.args.offset p.0 refl
+    (caused_same (left_checks (context_of c.args.types.now c.args.state.now) (core_type_item (core_type_view c.args.ty))) c.args.offset c.in_err-check_core_limits.field-0.0 p.0 p.2.0 p.2.1 c.in_err-check_core_limits.ensures.err))
 
 pub returns-clause-ok : goal.returns-clause-ok
 returns-clause-ok c =

@@ -2,16 +2,18 @@ use Rattle.std.proofs.Common.{[], ◌∙◌, sym}
 use Rattle.std.proofs.lemmas.Result.{err_from_is_err_and, on_ok_weaker, IfErr-weaker}
 use Rattle.wcv_syntax.specs.Model.{type_item}
 use Rattle.wcv_syntax.specs.View.{type_view}
+use Rattle.wcv_lower.specs.Growth.{left_checks}
 use Rattle.wcv_state.specs.Contents.{context_of, scope_of}
+use Rattle.wcv_core.proofs.Closing.{caused_same}
 use Rattle.wcv_link.proofs.Steps.{call_caused, left_caused, grew_of, item_read}
 use Rattle.wcv_link.proofs.reading.read_type.Goals as goal
 
 pub returns-in_err-check_limits-clause-err : goal.returns-in_err-check_limits-clause-err
 returns-in_err-check_limits-clause-err c =
     let p = err_from_is_err_and c.from_residual-in_err-check_limits.result c.from_residual-in_err-check_limits.ensures.1 in
-    rw (p.1, p.2)
-    (left_caused (scope_of c.args.state.now []) (context_of c.args.types.now c.args.state.now) (type_item (type_view c.args.ty)) c.args.offset c.in_err-check_limits.field-0.0
-    (sym c.is_built_type.ensures ∙ c.in_ok-check_form.ensures.ok) c.in_err-check_limits.ensures.err)
+    rw p.1
+    (left_caused (scope_of c.args.state.now []) (context_of c.args.types.now c.args.state.now) (type_item (type_view c.args.ty)) c.args.offset p.0 (sym c.is_built_type.ensures ∙ c.in_ok-check_form.ensures.ok)
+    (caused_same (left_checks (context_of c.args.types.now c.args.state.now) (type_item (type_view c.args.ty))) c.args.offset c.in_err-check_limits.field-0.0 p.0 p.2.0 p.2.1 c.in_err-check_limits.ensures.err))
 
 pub returns-clause-ok : goal.returns-clause-ok
 returns-clause-ok c =
