@@ -1,12 +1,53 @@
 // The ends over std's readers and writers.
 ghost use Rattle.std.specs.Prelude.{◌≡◌};
+ghost use Rattle.std.specs.Io.{ReadsAtMost, WritesAtMost};
+ghost use Rattle.std.specs.Io.KnownBytes.{ReadConsumes, WriteAppends};
 ghost use Rattle.wcv_main.specs.Adapters.{reader_of, reader_faults, writer_of, writer_faults};
 
 use crate::ends::{Failed, Sink, Source};
-use std::io::{Read, Write};
+use std::io::{ErrorKind, Read, Result as IoResult, Write};
+
+// How often in a row a call that was interrupted is made again. Then it counts as one that failed.
+const TRIES: u32 = 65_536;
+
+/// Reads once. A read that is interrupted is tried again, up to 65,536 times in a row.
+fn read_again<R: Read>(reader: &mut R, into: &mut [u8]) -> IoResult<usize>
+    ensures bound { ReadsAtMost result into.new }
+    ensures bytes { ReadConsumes (R.remaining reader.old) (R.remaining reader.new) result into.new }
+{
+    for _ in 1..TRIES {
+        match reader.read(into) {
+            Ok(count) => return Ok(count),
+            Err(error) => {
+                if error.kind() != ErrorKind::Interrupted {
+                    return Err(error);
+                }
+            }
+        }
+    }
+    reader.read(into)
+}
+
+/// Writes once. A write that is interrupted is tried again, up to 65,536 times in a row.
+fn write_again<W: Write>(writer: &mut W, from: &[u8]) -> IoResult<usize>
+    ensures bound { WritesAtMost result from.now }
+    ensures bytes { WriteAppends (W.contents writer.old) (W.contents writer.new) result from.now }
+{
+    for _ in 1..TRIES {
+        match writer.write(from) {
+            Ok(count) => return Ok(count),
+            Err(error) => {
+                if error.kind() != ErrorKind::Interrupted {
+                    return Err(error);
+                }
+            }
+        }
+    }
+    writer.write(from)
+}
 
 /// Any reader of std as a source. It tells the bytes that the reader tells, and each error of the
-/// reader is a fault.
+/// reader is a fault. A read that is interrupted is tried again; 65,536 of them in a row are one fault.
 #[derive(Drop)]
 pub struct ReadAdapter<R> {
     reader: R,
@@ -36,7 +77,7 @@ impl<R: Read> Source for ReadAdapter<R> {
     ghost faults = { λ s. reader_faults s };
 
     fn read(&mut self, into: &mut [u8]) -> Result<usize, Failed> {
-        match self.reader.read(into) {
+        match read_again(&mut self.reader, into) {
             Ok(count) => Ok(count),
             Err(_) => {
                 self.faults = self.faults.saturating_add(1);
@@ -47,7 +88,8 @@ impl<R: Read> Source for ReadAdapter<R> {
 }
 
 /// Any writer of std as a sink. It tells the bytes that the writer tells. Each error of the writer
-/// is a fault, and so is a write that takes none of the bytes that it was given.
+/// is a fault, and so is a write that takes none of the bytes that it was given. A write that is
+/// interrupted is tried again; 65,536 of them in a row are one fault.
 #[derive(Drop)]
 pub struct WriteAdapter<W> {
     writer: W,
@@ -80,7 +122,7 @@ impl<W: Write> Sink for WriteAdapter<W> {
         if from.is_empty() {
             return Ok(0);
         }
-        match self.writer.write(from) {
+        match write_again(&mut self.writer, from) {
             Ok(0) | Err(_) => {
                 self.faults = self.faults.saturating_add(1);
                 Err(Failed)

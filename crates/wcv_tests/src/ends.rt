@@ -1,5 +1,5 @@
 // The ends over readers, writers and memory, and what stands on them.
-use crate::fakes::{BreaksOnce, FailsOnce};
+use crate::fakes::{BreaksOnce, FailsOnce, Interrupts};
 use std::alloc::Global;
 use std::test::Fail;
 use wcv_main::{
@@ -36,6 +36,40 @@ fn a_writer_goes_on_after_a_fault(rt: HostRuntime) {
     assert_eq!(rt; sink.faults(), 1);
     assert_eq!(rt; sink.write(b"jk"), Ok(2));
     assert_eq!(rt; taken.as_slice(), &b"abcdefghijk"[..]);
+}
+
+#[test]
+fn an_interrupted_read_is_tried_again(rt: HostRuntime) {
+    let mut into = [0u8; 3];
+    let mut source = ReadAdapter::new(Interrupts {
+        times: 2,
+        within: FailsOnce {
+            bytes: b"xy",
+            before: Some(1),
+        },
+    });
+    assert_eq!(rt; source.read(&mut into), Ok(1));
+    assert_eq!(rt; into, *b"x\0\0");
+    assert_eq!(rt; source.faults(), 0);
+    assert_eq!(rt; source.read(&mut into), Err(Failed));
+    assert_eq!(rt; source.faults(), 1);
+}
+
+#[test]
+fn an_interrupted_write_is_tried_again(rt: HostRuntime) {
+    let mut taken = Vec::new(rt.alloc());
+    let mut sink = WriteAdapter::new(Interrupts {
+        times: 2,
+        within: BreaksOnce {
+            taken: &mut taken,
+            calls: 2,
+        },
+    });
+    assert_eq!(rt; sink.write(b"ab"), Ok(2));
+    assert_eq!(rt; sink.faults(), 0);
+    assert_eq!(rt; sink.write(b"c"), Err(Failed));
+    assert_eq!(rt; sink.faults(), 1);
+    assert_eq!(rt; taken.as_slice(), &b"ab"[..]);
 }
 
 #[test]

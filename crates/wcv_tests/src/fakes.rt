@@ -1,4 +1,4 @@
-// A reader and a writer that take few bytes a call and fail once.
+// Readers and writers that take few bytes a call and fail once, or are interrupted first.
 use std::io;
 use std::io::{Read, Write};
 
@@ -46,5 +46,40 @@ impl Write for BreaksOnce<'_> {
 
     fn flush(&mut self) -> io::Result<()> {
         Ok(())
+    }
+}
+
+// Says so many times that the call was interrupted, and then does what the reader or the writer within does.
+#[derive(Drop)]
+pub struct Interrupts<T> {
+    pub times: u64,
+    pub within: T,
+}
+
+impl<T> Interrupts<T> {
+    fn next(&mut self) -> io::Result<()> {
+        if self.times == 0 {
+            return Ok(());
+        }
+        self.times -= 1;
+        Err(io::ErrorKind::Interrupted.into())
+    }
+}
+
+impl<R: Read> Read for Interrupts<R> {
+    fn read(&mut self, into: &mut [u8]) -> io::Result<usize> {
+        self.next()?;
+        self.within.read(into)
+    }
+}
+
+impl<W: Write> Write for Interrupts<W> {
+    fn write(&mut self, from: &[u8]) -> io::Result<usize> {
+        self.next()?;
+        self.within.write(from)
+    }
+
+    fn flush(&mut self) -> io::Result<()> {
+        self.within.flush()
     }
 }
