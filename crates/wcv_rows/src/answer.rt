@@ -30,13 +30,40 @@ fn code_of(alloc: Global, words: &Words, source: &mut MemorySource, sink: &mut M
     run(alloc, words, source, sink).code()
 }
 
-/// The status that a run ends with, as a line, and the text that it writes.
-pub fn answer(alloc: Global, question: Question<'_>) -> Result<String, AllocError> {
+/// The status that a run on these bytes ends with, as a line, and the text that it writes.
+fn answer_on(alloc: Global, question: &Question<'_>, bytes: Vec<u8>) -> Result<String, AllocError> {
     let words = words_of(alloc, question.words())?;
     let reads = numbers_of(alloc, question.reads())?;
     let mut sink = MemorySink::new(alloc, numbers_of(alloc, question.writes())?);
-    let mut source = MemorySource::new(question.into_bytes(), reads);
+    let mut source = MemorySource::new(bytes, reads);
     let code = code_of(alloc, &words, &mut source, &mut sink);
     let text = String::from_utf8_lossy(alloc, sink.taken())?;
     format!(in alloc; "{code}\n{text}")
+}
+
+/// The answer that comes of no bytes and of each other proper beginning of these, or else what another one comes
+/// of.
+fn answer_on_beginnings(
+    alloc: Global,
+    question: &Question<'_>,
+    bytes: &[u8],
+) -> Result<String, AllocError> {
+    let answer = answer_on(alloc, question, Vec::new(alloc))?;
+    for len in 1..bytes.len() {
+        let beginning = bytes.get(..len).unwrap_or(bytes).to_vec(alloc)?;
+        let other = answer_on(alloc, question, beginning)?;
+        if other != answer {
+            return format!(in alloc; "of the first {len} bytes: {other}");
+        }
+    }
+    Ok(answer)
+}
+
+/// The status and the text that come of the listing, or of its proper beginnings, where these are asked for.
+pub fn answer(alloc: Global, question: &mut Question<'_>) -> Result<String, AllocError> {
+    let bytes = question.take_bytes(alloc);
+    if question.is_cut() {
+        return answer_on_beginnings(alloc, question, &bytes);
+    }
+    answer_on(alloc, question, bytes)
 }

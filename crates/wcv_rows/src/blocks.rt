@@ -14,7 +14,7 @@ fn answer_lines(alloc: Global, lines: &str, due: &str) -> Result<(String, String
     }
     question.finish()?;
     let offset = question.offset(alloc, due)?;
-    Ok((answer(alloc, question)?, offset))
+    Ok((answer(alloc, &mut question)?, offset))
 }
 
 /// Runs a row of these lines, and tells by its title and what it asks if another answer comes than the one that

@@ -43,11 +43,18 @@ fn accepted(alloc: Global, counts: &str, lines: &str) -> Result<String, AllocErr
     Ok(text)
 }
 
-/// The whole answer where it is due as it stands: that on a valid root, or a status and a text.
+/// The whole answer where it is due as it stands: that on a valid root, that on bytes that are no listing, or a
+/// status and a text.
 pub fn whole_answer(alloc: Global, due: &str) -> Result<Option<String>, AllocError> {
     let (first, lines) = due.split_once('\n').unwrap_or((due, ""));
     if let Some(counts) = first.strip_prefix("accepted") {
         return Ok(Some(accepted(alloc, counts.trim_start(), lines)?));
+    }
+    if first == "NotJson" {
+        return Ok(Some(String::from_str(alloc, "3\nbad listing: not JSON\n")?));
+    }
+    if let Some(at) = first.strip_prefix("BadShape at ") {
+        return Ok(Some(format!(in alloc; "3\nbad listing at {at}\n")?));
     }
     match first.strip_prefix("status ") {
         Some(code) if lines.is_empty() => Ok(Some(format!(in alloc; "{code}\n")?)),

@@ -1,15 +1,17 @@
 // What a row asks.
 use std::alloc::{AllocError, Global};
+use std::mem::replace;
 
 /// How a listing begins.
 const HEAD: &str = "{\"version\":1,\"items\":[";
 
-/// The words of a run, the listing, and which reads and writes fail.
+/// The words of a run, the listing, whether its beginnings are asked for, and which reads and writes fail.
 #[derive(Drop)]
 pub struct Question<'a> {
     words: &'a str,
     text: String,
     is_whole: bool,
+    is_cut: bool,
     features: &'a str,
     end: &'a str,
     items: u64,
@@ -25,6 +27,7 @@ impl<'a> Question<'a> {
             words: "validate",
             text: String::new(alloc),
             is_whole: false,
+            is_cut: false,
             features: "",
             end: "99",
             items: 0,
@@ -44,6 +47,7 @@ impl<'a> Question<'a> {
             "end" => self.end = rest,
             "reads" => self.reads = rest,
             "writes" => self.writes = rest,
+            "beginnings" => self.is_cut = true,
             "listing" => return self.push_text(rest),
             _ => return self.push_item(word, rest),
         }
@@ -118,8 +122,13 @@ impl<'a> Question<'a> {
         }
     }
 
-    /// The bytes of the listing.
-    pub fn into_bytes(self) -> Vec<u8> {
-        self.text.into_bytes()
+    /// Whether each proper beginning of the listing is asked for, in place of the listing.
+    pub fn is_cut(&self) -> bool {
+        self.is_cut
+    }
+
+    /// The bytes of the listing, which it has no more then.
+    pub fn take_bytes(&mut self, alloc: Global) -> Vec<u8> {
+        replace(&mut self.text, String::new(alloc)).into_bytes()
     }
 }
