@@ -24,7 +24,7 @@ fn a_map_gives_its_pairs_in_order(rt: HostRuntime) -> Result<(), Fail> {
 #[test]
 fn messages_have_no_line_end(rt: HostRuntime) -> Result<(), Fail> {
     let excerpt = Excerpt("a\nb");
-    let error = Error::new(ErrorKind::Name, 9, format_args!("`{excerpt}` is no name"));
+    let error = Error::told(ErrorKind::Name, 9, format_args!("`{excerpt}` is no name"));
     let message = error.to_string(rt.alloc())?;
     assert_eq!(rt; message.as_str(), "`a\u{fffd}b` is no name");
     Ok(())

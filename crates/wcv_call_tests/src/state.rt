@@ -9,7 +9,7 @@ use std::alloc::Global;
 use std::test::Fail;
 use wcv_core::{
     AbstractHeap, CoreTypeId, Error, GlobalType, HeapType, MemoryType, OutOfMemory, RefType,
-    TableType, ValType, WasmFeatures,
+    Refusal, TableType, ValType, WasmFeatures,
 };
 use wcv_state::{ComponentKind, ComponentState, Space};
 use wcv_types::{
@@ -72,7 +72,7 @@ fn push_others(state: &mut ComponentState) -> Result<(), OutOfMemory>
 }
 
 // Whether an answer is that one.
-fn is<T: PartialEq + Drop>(found: Result<T, Error>, due: T) -> bool {
+fn is<T: PartialEq + Drop>(found: Result<T, Refusal<'_>>, due: T) -> bool {
     match found {
         Ok(found) => found == due,
         Err(_) => false,
@@ -80,21 +80,21 @@ fn is<T: PartialEq + Drop>(found: Result<T, Error>, due: T) -> bool {
 }
 
 // Whether it is the memory that was pushed, the table, and the global.
-fn is_memory(found: Result<MemoryType, Error>) -> bool {
+fn is_memory(found: Result<MemoryType, Refusal<'_>>) -> bool {
     match found {
         Ok(ty) => ty.initial == MEMORY.initial && ty.maximum == MEMORY.maximum,
         Err(_) => false,
     }
 }
 
-fn is_table(found: Result<TableType, Error>) -> bool {
+fn is_table(found: Result<TableType, Refusal<'_>>) -> bool {
     match found {
         Ok(ty) => ty.initial == TABLE.initial && ty.maximum == TABLE.maximum,
         Err(_) => false,
     }
 }
 
-fn is_global(found: Result<GlobalType, Error>) -> bool {
+fn is_global(found: Result<GlobalType, Refusal<'_>>) -> bool {
     match found {
         Ok(ty) => ty.mutable == GLOBAL.mutable,
         Err(_) => false,

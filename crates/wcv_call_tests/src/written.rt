@@ -72,7 +72,7 @@ fn last_index(state: &ComponentState) -> Result<u32, Error> {
     let last = state.space_len(Space::Types).saturating_sub(1);
     match u32::try_from(last) {
         Ok(index) => Ok(index),
-        Err(_) => Err(Error::new(ErrorKind::Limit, 0, "too many types")),
+        Err(_) => Err(Error::told(ErrorKind::Limit, 0, "too many types")),
     }
 }
 
@@ -85,7 +85,7 @@ fn last_type(state: &ComponentState, types: &TypeAlloc) -> Result<ComponentValTy
     let index = last_index(state)?;
     match state.defined_type_at(index, 0) {
         Ok(id) => Ok(ComponentValType::Ty(id)),
-        Err(error) => Err(error),
+        Err(error) => Err(Error::from(error)),
     }
 }
 
