@@ -4,14 +4,16 @@ import json
 PRIMITIVES = "bool s8 u8 s16 u16 s32 u32 s64 u64 f32 f64 char string".split()
 
 
-def write_listing(file, items, separators=None):
-    """Writes the items, one a line, until there are no more, and returns how many there were."""
+def write_listing(file, items, separators=None, features=()):
+    """Writes the items, one a line, until there are no more, and returns how many there were. Where no features
+    are given none are named."""
     count = 0
     with open(file, "w", encoding="ascii") as out:
         out.write('{"version": 1, "items": [\n')
         for count, item in enumerate(items, 1):
             out.write((",\n" if count > 1 else "") + json.dumps({"at": 8 + 23 * count, **item}, separators=separators))
-        out.write(f'\n], "end": {31 + 23 * count}}}\n')
+        named = f', "features": {json.dumps(features)}' if features else ""
+        out.write(f'\n], "end": {31 + 23 * count}{named}}}\n')
     return count
 
 
@@ -296,3 +298,47 @@ def core_modules(limit):
         yield item
     for k in range(min(count, 900)):
         yield {"import": {"name": words_name("module", k), "type": {"module": k}}}
+
+
+def exported_resources(limit):
+    """Resources that are defined, each with its export behind it: at the end of the component each of them is
+    looked for among the exports. The largest listing keeps below the limits on types."""
+
+    def make(k):
+        index = k // 2 * 2
+        if k % 2 == 0:
+            return {"type": {"resource": {"rep": "i32"}}}
+        return {"export": {"name": words_name("exported", index), "sort": "type", "index": index}}
+
+    yield from bounded(limit, make)
+
+
+ACCESSORS = ["cm-accessors"]  # the feature that getters and setters need
+
+
+def setters(cases):
+    """What makes a variant of so many cases, a getter that gives it and a setter that takes it under another
+    identity, and then both in turn, each pair under a name of its own: each setter is compared with its getter.
+    The largest listing keeps below the limit on a component's size."""
+    first = (
+        defined({"variant": [[f"c{k}"] for k in range(cases)]}),
+        {"import": {"name": "one", "type": {"eq": 0}}},
+        {"import": {"name": "other", "type": {"eq": 0}}},
+        func_type([], 1),
+        func_type([["value", 2]], None),
+    )
+
+    def make(k):
+        if k < len(first):
+            return first[k]
+        pair, is_setter = divmod(k - len(first), 2)
+        return import_of(f"[set]m{pair}", 4) if is_setter else import_of(f"[get]m{pair}", 3)
+
+    return lambda limit: bounded(limit, make)
+
+
+def imported_again(limit):
+    """A record with a name of half of the bytes, and imports of it under further names, each of which is one more
+    type: the report has each of them with all of its name."""
+    name = "a" * min(limit // 2, 100_000)
+    yield from bounded(limit, lambda k: {"import": {"name": f"t{k}", "type": {"eq": 0}}} if k else defined({"record": [[name, "u8"]]}))

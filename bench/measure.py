@@ -3,11 +3,14 @@
 
     bench/measure.py [RUNS] [TABLE ..]
 
-The tables are `small`, `front`, `long`, `nested`, `types`, `resources`, `names` and `core`, all of them if none
-is named. Times are the smallest of RUNS runs, 5 if not given, in which the programs that are compared take
-turns: what else the machine does can only add to them. Peak memory is the largest resident size of one more
-run. Where valgrind is there, the instructions of one run are counted too: they do not depend on what else the
-machine does.
+The tables are `overview`, `small`, `front`, `long`, `nested`, `types`, `resources`, `names`, `core`, `ends`,
+`setters` and `reports`, all of them if none is named. Times are the smallest of RUNS runs, 5 if not given, in
+which the programs that are compared take turns: what else the machine does can only add to them. Peak memory is
+the largest resident size of one more run, in which the bytes that it writes are counted too. Where valgrind is
+there, the instructions of one run are counted: they do not depend on what else the machine does. Memory and
+instructions are told for each byte of the listing as well.
+
+`overview` is one row for each kind of items, the first table of docs/PERFORMANCE.md.
 """
 import os
 import re
@@ -40,11 +43,15 @@ def run_once(words, file):
 
 
 def peak_memory(words, file):
-    """The peak memory of one run, in bytes. A child of this program would begin with the memory of this one,
-    so a small program starts it: GNU time."""
-    with open(file, "rb") as given:
-        ran = subprocess.run(["/usr/bin/time", "-f", "%M", *words], stdin=given, capture_output=True, check=True)
-    return int(ran.stderr) * 1024
+    """The peak memory of one run and what it writes, in bytes. A child of this program would begin with the
+    memory of this one, so a small program starts it: GNU time."""
+    timed = ["/usr/bin/time", "-f", "%M", *words]
+    with open(file, "rb") as given, subprocess.Popen(timed, stdin=given, stdout=subprocess.PIPE, stderr=subprocess.PIPE) as ran:
+        written = sum(map(len, iter(lambda: ran.stdout.read(1 << 20), b"")))
+        peak = int(ran.stderr.read()) * 1024
+    if ran.returncode:
+        sys.exit(f"{words[0]} ended with {ran.returncode} on {file}")
+    return peak, written
 
 
 def count_instructions(words, file, room):
@@ -53,39 +60,46 @@ def count_instructions(words, file, room):
         return None
     how = ["valgrind", "--tool=callgrind", f"--callgrind-out-file={room}/out"]
     with open(file, "rb") as given:
-        ran = subprocess.run([*how, *words], stdin=given, capture_output=True, text=True, check=True)
+        ran = subprocess.run([*how, *words], stdin=given, stdout=subprocess.DEVNULL, stderr=subprocess.PIPE, text=True, check=True)
     return int(re.search(r"Collected : (\d+)", ran.stderr)[1])
 
 
 def measure(programs, file, runs):
-    """The least times that each of the programs takes on the file, and its peak memory."""
+    """The least times that each of the programs takes on the file, its peak memory, and what it writes."""
     taken = [[] for _ in programs]
     for _ in range(runs):
         for program, rows in zip(programs, taken):
             rows.append(run_once(program, file))
-    return [[*map(min, zip(*rows)), peak_memory(program, file)] for program, rows in zip(programs, taken)]
+    return [[*map(min, zip(*rows)), *peak_memory(program, file)] for program, rows in zip(programs, taken)]
 
 
-def print_table(first, programs, listings, runs, separators=None):
+def cells(row, counted, size):
+    """The figures of one program on a listing of so many bytes, as texts."""
+    peak = f"{row[3] / 1e6:.0f} MB, {row[3] / size:.1f} a byte"
+    instructions = f"{counted / 1e6:.0f} million, {counted / size:.0f} a byte" if counted else ""
+    return [f"{row[0]:.3f} s", f"{row[1]:.3f} s", f"{row[2]:.3f} s", peak, instructions]
+
+
+def print_table(first, programs, listings, runs, separators=None, features=()):
     """One row for each listing and program, with the ratios to the first program."""
-    print(f"\n| {first} | Program | Wall | User | User and system | Peak | Instructions |")
-    print("|---|---|---|---|---|---|---|")
+    print(f"\n| {first} | Program | Wall | User | User and system | Peak | Instructions | Written |")
+    print("|---|---|---|---|---|---|---|---|")
     with tempfile.TemporaryDirectory() as room:
         file = f"{room}/listing.json"
         for name, items, is_counted in listings:
-            count = make_listings.write_listing(file, items, separators)
+            count = make_listings.write_listing(file, items, separators, features)
             size = os.path.getsize(file)
             base = None
             for (program, words), row in zip(programs, measure([it[1] for it in programs], file, runs)):
+                *row, written = row
                 counted = count_instructions(words, file, room) if is_counted else None
                 base = base or (*row, counted)
-                units = [f"{row[0]:.3f} s", f"{row[1]:.3f} s", f"{row[2]:.3f} s", f"{row[3] / 1e6:.0f} MB"]
-                units.append(f"{counted / 1e6:.0f} million" if counted else "")
+                units = cells(row, counted, size)
                 if words != programs[0][1]:
                     ratios = [a and b and f" ({a / b:.2f})" or "" for a, b in zip((*row, counted), base)]
                     units = [unit + ratio for unit, ratio in zip(units, ratios)]
                 what = f"{name}: {size:,} bytes, {count:,} items" if words == programs[0][1] else ""
-                print(f"| {what} | {program} | {' | '.join(units)} |", flush=True)
+                print(f"| {what} | {program} | {' | '.join(units)} | {written:,} bytes |", flush=True)
 
 
 SIZES = (1, 8, 64)
@@ -155,7 +169,62 @@ def core(runs):
     print_table("Listing of core types", ALL, rows, runs)
 
 
+MIDDLE = (1, 4, 16)  # megabytes, where a time that grows with the square of the bytes would still end
+
+
+def by_middle(make):
+    return [(f"{n} MB", make(n * 1_000_000), n == 1) for n in MIDDLE]
+
+
+def ends(runs):
+    print_table("Listing of resources that are defined and exported", ALL, by_middle(make_listings.exported_resources), runs)
+
+
+def setters(runs):
+    first = "Listing of setters and getters of a variant of 20,000 cases"
+    print_table(first, ALL, by_middle(make_listings.setters(20_000)), runs, features=make_listings.ACCESSORS)
+
+
+def reports(runs):
+    sizes = [(f"{n} KB", make_listings.imported_again(n * 1_000), True) for n in (20, 50, 100)]
+    print_table("Listing of a long type that is imported again", ALL, sizes, runs)
+
+
+KINDS = (
+    ("functions", make_listings.ordinary),
+    ("tuples that name the type before twice", make_listings.twice),
+    ("records of 3 fields", lambda n: make_listings.records(n, 3)),
+    ("records of 10,000 fields", lambda n: make_listings.records(n, 10_000)),
+    ("resources", make_listings.resources),
+    ("names of interfaces", make_listings.interfaces),
+    ("module types", make_listings.core_modules),
+    ("groups of core types, all different", make_listings.core_different),
+)
+
+
+def overview(runs):
+    """One row for each kind of items: the instructions at 1 MB for each byte, and at 8 MB the time of the
+    processor times that of the bare parse, and the peak memory in bytes for each byte."""
+    programs = [words for _, words in ALL]
+    heads = ["Items", *(f"Instructions, {it}" for it, _ in ALL)]
+    heads += [f"{what}, {it}" for what in ("Time", "Memory") for it, _ in ALL[1:]]
+    print(f"\n| {' | '.join(heads)} |")
+    print("|---" * len(heads) + "|")
+    with tempfile.TemporaryDirectory() as room:
+        file = f"{room}/listing.json"
+        for name, make in KINDS:
+            make_listings.write_listing(file, make(1_000_000))
+            counts = [count_instructions(words, file, room) for words in programs]
+            told = [f"{count / os.path.getsize(file):.0f}" if count else "" for count in counts]
+            make_listings.write_listing(file, make(8_000_000))
+            rows = measure(programs, file, runs)
+            told += [f"{row[2] / rows[0][2]:.2f}" for row in rows[1:]]
+            told += [f"{row[3] / os.path.getsize(file):.1f}" for row in rows[1:]]
+            print(f"| {name} | {' | '.join(told)} |", flush=True)
+
+
 TABLES = {
+    "overview": overview,
     "small": small,
     "front": front,
     "long": long,
@@ -164,6 +233,9 @@ TABLES = {
     "resources": resources,
     "names": names,
     "core": core,
+    "ends": ends,
+    "setters": setters,
+    "reports": reports,
 }
 
 
