@@ -16,7 +16,8 @@ use Rattle.wcv_types.specs.Tree.{Text, Extern_name, Sort, is_nothing, is_type, n
 use Rattle.wcv_types.proofs.Identity.{same_under, identity-same}
 use Rattle.wcv_types.proofs.Lists.{map-map}
 use Rattle.wcv_names.specs.Externs as externs
-use Rattle.wcv_names.specs.ResourceNames.{Reference, Resource_names, same_reference, is_text, is_named_so}
+use Rattle.wcv_names.specs.ResourceNames.{Reference, Resource_names, same_reference, is_named_so}
+use Rattle.wcv_names.specs.TextSet.{is_text}
 use Rattle.wcv_names.specs.Rules.{is_own, is_borrow, if_ok, is_left_out, Params, params, gives, takes_self, rest, is_empty, is_single, is_used_so, function_fits, fits, by_name, getter_in, gotten, first_type, taken, is_given, is_paired_by, is_paired, follows}
 use Rattle.wcv_names.specs.SameValues.{alike}
 use Rattle.wcv_names.specs.WholeNames.{is_bad_name, lacks_feature}

@@ -1,6 +1,6 @@
 -- An entry joins a list, or is refused.
 use Rattle.std.proofs.Common.{◌≡◌, ◌⊎◌, ℕ, List, [], ◌∷◌, ◌++◌, Bool, true, false, Option, Some, inl, inr, refl, sym, ap, ◌∙◌, subst}
-use Rattle.std.specs.Prelude.{not}
+use Rattle.std.specs.Prelude.{not, is_some}
 use Rattle.std.proofs.lemmas.List.{map-append}
 use Rattle.wcv_core.specs.Checks.{Checks, Cause, IsFree, MemoryOrCausedBy}
 use Rattle.wcv_core.specs.Label.{is_among}
@@ -26,15 +26,8 @@ use Rattle.wcv_names.specs.WholeNames.{is_bad_name, lacks_feature, IsNameFault, 
 key_there : (s : List Text) (names : List Text) (n : Text) (f : Form) → HasKeys s names → Some f ≡ form_of n → is_among (key_text_of f) s ≡ conflicts names n
 key_there s names n f h e = h (key_text_of f) ∙ ap (λ (o : Option Form). has_key o (keys_in names)) e
 
-not_is : (a b : Bool) → a ≡ not b → (a ≡ true → b ≡ false) × (a ≡ false → b ≡ true)
-not_is a true h = (λ e. let k : true ≡ false = sym e ∙ h in cc k, λ e. refl)
-not_is a false h = (λ e. refl, λ e. let k : false ≡ true = sym e ∙ h in cc k)
-
-pub key_new : (s : List Text) (names : List Text) (n : Text) (f : Form) (added : Bool) → HasKeys s names → Some f ≡ form_of n → added ≡ not (is_among (key_text_of f) s) → added ≡ true → conflicts names n ≡ false
-key_new s names n f added h e a k = sym (key_there s names n f h e) ∙ (not_is added (is_among (key_text_of f) s) a).0 k
-
-pub key_taken : (s : List Text) (names : List Text) (n : Text) (f : Form) (added : Bool) → HasKeys s names → Some f ≡ form_of n → added ≡ not (is_among (key_text_of f) s) → added ≡ false → conflicts names n ≡ true
-key_taken s names n f added h e a k = sym (key_there s names n f h e) ∙ (not_is added (is_among (key_text_of f) s) a).1 k
+pub key_stands : (s : List Text) (names : List Text) (n : Text) (f : Form) (place : Option ℕ) → HasKeys s names → Some f ≡ form_of n → is_some place ≡ is_among (key_text_of f) s → conflicts names n ≡ is_some place
+key_stands s names n f place h e a = sym (a ∙ key_there s names n f h e)
 
 -- the names of entries by ids are those of their trees
 pub names_same : (ts : List Type_tree) (es : List (Text × ComponentItem)) → entry_names (entry_trees ts es) ≡ names_in es

@@ -93,12 +93,14 @@ impl ComponentNameContext {
             Err(error) => return Err(error),
         };
         self.check_member(&form, text, kind, ty, kind_names, items, types, offset)?;
-        let added = kind_names.insert_key_of(&form, self.allocator())?;
-        if !added {
-            return Err(conflict(text, &form, kind, items, self.allocator(), offset));
+        let stood = kind_names.insert_key_of(&form, self.allocator())?;
+        match stood {
+            Some(position) => Err(conflict(text, kind, kind_names, items, position, offset)),
+            None => {
+                *info = measured(*info, ty, types, offset)?;
+                Ok(())
+            }
         }
-        *info = measured(*info, ty, types, offset)?;
-        Ok(())
     }
 
     /// An entity joins a list under a whole name, as `check_extern` says. After a refusal the list is as it

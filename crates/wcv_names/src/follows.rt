@@ -74,7 +74,7 @@ fn first_item<'a>(
     ensures { option_copied result ≡ lookup (bytes_eq name.now) items.now }
 {
     if names.len() == items.len() {
-        if let Some(place) = names.find(key) {
+        if let Some(place) = names.find(key.as_str()) {
             if let Some(entry) = items.get_index(place) {
                 if name.as_str() == entry.0.as_str() {
                     return Some(&entry.1);
@@ -130,8 +130,7 @@ impl ComponentNameContext {
         match func_part(ty) {
             Some(id) => {
                 let func = func_of(types, id);
-                let fits = self.function_fits(kind, func, types)?;
-                if !fits {
+                if !self.function_fits(kind, func, types) {
                     return Ok(false);
                 }
                 let paired = is_paired(kind, func, names, items, types, self.allocator())?;

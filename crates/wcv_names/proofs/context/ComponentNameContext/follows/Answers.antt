@@ -10,15 +10,15 @@ use Rattle.wcv_names.proofs.context.ComponentNameContext.follows.Goals as goal
 pub func_of-func-requires : goal.func_of-func-requires
 func_of-func-requires c = entity_func c.args.types.now c.args.ty.now c.in-Some.id c.requires.entity (sym c.func_part.ensures ∙ c.in-Some.is)
 
-pub returns-then-not-fits : goal.returns-then-not-fits
-returns-then-not-fits c =
+pub returns-then-not-function_fits : goal.returns-then-not-function_fits
+returns-then-not-function_fits c =
     func_not c.args.types.now c.args.ty.now (names_of c.args.self.now) (entry_trees (trees c.args.types.now.nodes) c.args.items.now) (kind_view c.args.kind.now)
-    c.in-Some.id c.func_of-func.result.now (sym c.func_part.ensures ∙ c.in-Some.is) c.func_of-func.ensures.tree (sym c.in_ok-fits-in-Some.ensures ∙ c.if-not-fits.true)
+    c.in-Some.id c.func_of-func.result.now (sym c.func_part.ensures ∙ c.in-Some.is) c.func_of-func.ensures.tree (sym c.function_fits.ensures ∙ c.if-not-function_fits.true)
 
 pub returns-in_ok-paired-in-Some : goal.returns-in_ok-paired-in-Some
 returns-in_ok-paired-in-Some c =
     func_yes c.args.types.now c.args.ty.now (names_of c.args.self.now) (entry_trees (trees c.args.types.now.nodes) c.args.items.now) (kind_view c.args.kind.now)
-    c.in-Some.id c.func_of-func.result.now c.in_ok-paired-in-Some.paired (sym c.func_part.ensures ∙ c.in-Some.is) c.func_of-func.ensures.tree (sym c.in_ok-fits-in-Some.ensures ∙ c.if-not-fits.false) c.in_ok-paired-in-Some.ensures
+    c.in-Some.id c.func_of-func.result.now c.in_ok-paired-in-Some.paired (sym c.func_part.ensures ∙ c.in-Some.is) c.func_of-func.ensures.tree (sym c.function_fits.ensures ∙ c.if-not-function_fits.false) c.in_ok-paired-in-Some.ensures
 
 pub returns-in-None : goal.returns-in-None
 returns-in-None c =
