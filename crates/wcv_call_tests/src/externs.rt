@@ -1,5 +1,5 @@
 // Which names a value, an instance and a component may have, and how such entries count.
-ghost use Rattle.std.specs.Prelude.{All, IfOk, OnOk};
+ghost use Rattle.std.specs.Prelude.{◌≡◌, All, IfOk, OnOk};
 ghost use Rattle.wcv_call_tests.specs.Sorts.{AreOf};
 ghost use Rattle.wcv_names.specs.FuncTrees.{names_in};
 ghost use Rattle.wcv_names.specs.KeySet.{HasKeys};
@@ -148,18 +148,19 @@ fn enter(
     context: &ComponentNameContext,
     name: &ComponentExternName,
     ty: &ComponentEntityType,
-    types: &TypeAlloc,
+    types: &mut TypeAlloc,
     offset: u64,
     keys: &mut NameSet,
     items: &mut ItemMap,
     info: &mut TypeInfo,
     features: &WasmFeatures,
 ) -> Result<(), Error>
-    requires entity { EntityStands types.now ty.now }
-    requires items { All (EntryStands types.now) items.old }
+    requires entity { EntityStands types.old ty.now }
+    requires items { All (EntryStands types.old) items.old }
     requires keys { HasKeys keys.old (names_in items.old) }
-    ensures items { OnOk result (All (EntryStands types.now) items.new) }
+    ensures items { OnOk result (All (EntryStands types.old) items.new) }
     ensures keys { OnOk result (HasKeys keys.new (names_in items.new)) }
+    ensures types { types.new ≡ types.old }
 {
     context.validate_extern(
         name,
@@ -178,17 +179,18 @@ fn enter(
 fn entered(
     context: &ComponentNameContext,
     row: &Row<'_>,
-    types: &TypeAlloc,
+    types: &mut TypeAlloc,
     ids: Sorts,
     keys: &mut NameSet,
     items: &mut ItemMap,
     info: &mut TypeInfo,
 ) -> Result<Result<(), Error>, Fail>
-    requires ids { AreOf types.now ids }
-    requires items { All (EntryStands types.now) items.old }
+    requires ids { AreOf types.old ids }
+    requires items { All (EntryStands types.old) items.old }
     requires keys { HasKeys keys.old (names_in items.old) }
-    ensures items { IfOk result (λ r. OnOk r (All (EntryStands types.now) items.new)) }
+    ensures items { IfOk result (λ r. OnOk r (All (EntryStands types.old) items.new)) }
     ensures keys { IfOk result (λ r. OnOk r (HasKeys keys.new (names_in items.new))) }
+    ensures types { types.new ≡ types.old }
 {
     let mut offset: u64 = 0;
     let ty = of_letter(row.letter, types, ids);
@@ -213,8 +215,8 @@ fn entered(
 }
 
 /// So in a list with no entry: what the whole is then.
-fn joined(row: &Row<'_>, types: &TypeAlloc, ids: Sorts) -> Result<Result<TypeInfo, Error>, Fail>
-    requires { AreOf types.now ids }
+fn joined(row: &Row<'_>, types: &mut TypeAlloc, ids: Sorts) -> Result<Result<TypeInfo, Error>, Fail>
+    requires { AreOf types.old ids }
 {
     let mut keys = NameSet::new(types.allocator());
     let mut items = ItemMap::new(types.allocator());
@@ -228,8 +230,8 @@ fn joined(row: &Row<'_>, types: &TypeAlloc, ids: Sorts) -> Result<Result<TypeInf
 
 // So over types of each sort.
 fn found(alloc: Global, row: &Row<'_>) -> Result<Result<TypeInfo, Error>, Fail> {
-    let (types, ids) = of_each_sort(alloc)?;
-    joined(row, &types, ids)
+    let (mut types, ids) = of_each_sort(alloc)?;
+    joined(row, &mut types, ids)
 }
 
 // What becomes of the row.
@@ -313,17 +315,18 @@ fn for_letter(
     context: &ComponentNameContext,
     letter: char,
     names: &str,
-    types: &TypeAlloc,
+    types: &mut TypeAlloc,
     ids: Sorts,
     keys: &mut NameSet,
     items: &mut ItemMap,
     info: &mut TypeInfo,
 ) -> Result<(), Fail>
-    requires ids { AreOf types.now ids }
-    requires items { All (EntryStands types.now) items.old }
+    requires ids { AreOf types.old ids }
+    requires items { All (EntryStands types.old) items.old }
     requires keys { HasKeys keys.old (names_in items.old) }
-    ensures items { OnOk result (All (EntryStands types.now) items.new) }
+    ensures items { OnOk result (All (EntryStands types.old) items.new) }
     ensures keys { OnOk result (HasKeys keys.new (names_in items.new)) }
+    ensures types { types.new ≡ types.old }
 {
     let row = Row {
         letter,
@@ -338,9 +341,10 @@ fn for_letter(
 }
 
 /// An entity of each sort.
-pub fn of_all(types: &TypeAlloc, ids: Sorts) -> Result<ItemMap, Fail>
-    requires { AreOf types.now ids }
-    ensures { IfOk result (All (EntryStands types.now)) }
+pub fn of_all(types: &mut TypeAlloc, ids: Sorts) -> Result<ItemMap, Fail>
+    requires { AreOf types.old ids }
+    ensures entries { IfOk result (All (EntryStands types.old)) }
+    ensures types { types.new ≡ types.old }
 {
     let mut keys = NameSet::new(types.allocator());
     let mut items = ItemMap::new(types.allocator());

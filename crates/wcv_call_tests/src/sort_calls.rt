@@ -156,8 +156,10 @@ const U8: ComponentValType = ComponentValType::Primitive(PrimitiveValType::U8);
 
 #[test]
 fn value_types_are_equal(rt: HostRuntime) -> Result<(), Fail> {
-    let types = TypeAlloc::new(rt.alloc(), WasmFeatures::all());
-    assert!(rt; types.val_type_eq(&U32, &U32) && !types.val_type_eq(&U32, &U8));
+    let mut types = TypeAlloc::new(rt.alloc(), WasmFeatures::all());
+    let same = types.val_type_eq(&U32, &U32)?;
+    let other = types.val_type_eq(&U32, &U8)?;
+    assert!(rt; same && !other);
     Ok(())
 }
 

@@ -27,10 +27,11 @@ fn importing(alloc: Global, types: &TypeAlloc, imports: ItemMap) -> ComponentTyp
 }
 
 /// Its text over an entity of each sort.
-fn text_of(alloc: Global, types: &TypeAlloc, ids: Sorts) -> Result<String, Fail>
-    requires { AreOf types.now ids }
+fn text_of(alloc: Global, types: &mut TypeAlloc, ids: Sorts) -> Result<String, Fail>
+    requires { AreOf types.old ids }
 {
-    let ty = importing(alloc, types, of_all(types, ids)?);
+    let items = of_all(types, ids)?;
+    let ty = importing(alloc, types, items);
     let mut text = String::new(alloc);
     push_type(alloc, &mut text, types, &ty)?;
     Ok(text)
@@ -46,15 +47,15 @@ import "c" component 2
 
 #[test]
 fn types_of_each_sort_have_their_text(rt: HostRuntime) -> Result<(), Fail> {
-    let (types, ids) = of_each_sort(rt.alloc())?;
-    let text = text_of(rt.alloc(), &types, ids)?;
+    let (mut types, ids) = of_each_sort(rt.alloc())?;
+    let text = text_of(rt.alloc(), &mut types, ids)?;
     assert_eq!(rt; text.as_str(), TEXT);
     Ok(())
 }
 
 /// Whether the first path to the resource leads through the instance.
-fn path_leads(types: &TypeAlloc, ids: Sorts) -> Result<bool, Fail>
-    requires { AreOf types.now ids }
+fn path_leads(types: &mut TypeAlloc, ids: Sorts) -> Result<bool, Fail>
+    requires { AreOf types.old ids }
 {
     let items = of_all(types, ids)?;
     let mut set = ResourceSet::new(types.allocator());
@@ -69,7 +70,8 @@ fn path_leads(types: &TypeAlloc, ids: Sorts) -> Result<bool, Fail>
 
 #[test]
 fn a_path_leads_through_an_instance(rt: HostRuntime) -> Result<(), Fail> {
-    let (types, ids) = of_each_sort(rt.alloc())?;
-    assert!(rt; path_leads(&types, ids)?);
+    let (mut types, ids) = of_each_sort(rt.alloc())?;
+    let leads = path_leads(&mut types, ids)?;
+    assert!(rt; leads);
     Ok(())
 }

@@ -60,26 +60,27 @@ impl ComponentNameContext {
     /// size and the depth those of the entity; after a refusal they may have it or not. Refuses as `Name`
     /// and `Feature` what the name itself may not be, as `MethodName` an entity that does not look as the
     /// name says, as `Conflict` a key that is taken, as `Limit` what becomes too large.
-    #[tactic(auto, using(crate::proofs::Entering::by_name, crate::proofs::Entering::by_member, crate::proofs::Entering::by_size, crate::proofs::Entering::by_memory))]
+    #[tactic(auto, using(crate::proofs::Entering::by_name, crate::proofs::Entering::by_member, crate::proofs::Entering::by_size_later, crate::proofs::Entering::by_memory))]
     pub fn check_extern(
         &self,
         name: &ComponentExternName,
         kind: ExternKind,
         ty: &ComponentEntityType,
-        types: &TypeAlloc,
+        types: &mut TypeAlloc,
         offset: u64,
         kind_names: &mut NameSet,
         items: &ItemMap,
         info: &mut TypeInfo,
         features: &WasmFeatures,
     ) -> Result<(), Error>
-        requires entity { EntityStands types.now ty.now }
-        requires items { All (EntryStands types.now) items.now }
+        requires entity { EntityStands types.old ty.now }
+        requires items { All (EntryStands types.old) items.now }
         requires keys { HasKeys kind_names.old (names_in items.now) }
-        ensures ok { OnOk result (IsFree (extern_checks (names_of self.now) features.now (entry_trees (trees types.now.nodes) items.now) info.old (extern_name name.now) (entity_tree (trees types.now.nodes) ty.now))) }
+        ensures ok { OnOk result (IsFree (extern_checks (names_of self.now) features.now (entry_trees (trees types.old.nodes) items.now) info.old (extern_name name.now) (entity_tree (trees types.old.nodes) ty.now))) }
         ensures keys { OnOk result (HasKeys kind_names.new (names_in items.now ++ name.now.name ∷ [])) }
-        ensures info { OnOk result (info.new ≡ with_entry info.old (entity_tree (trees types.now.nodes) ty.now)) }
-        ensures err { IfErr result (MemoryOrCausedBy (extern_checks (names_of self.now) features.now (entry_trees (trees types.now.nodes) items.now) info.old (extern_name name.now) (entity_tree (trees types.now.nodes) ty.now)) offset) }
+        ensures info { OnOk result (info.new ≡ with_entry info.old (entity_tree (trees types.old.nodes) ty.now)) }
+        ensures err { IfErr result (MemoryOrCausedBy (extern_checks (names_of self.now) features.now (entry_trees (trees types.old.nodes) items.now) info.old (extern_name name.now) (entity_tree (trees types.old.nodes) ty.now)) offset) }
+        ensures types { types.new ≡ types.old }
     {
         let text = name.name.as_str();
         let form = match check_whole_name(
@@ -109,22 +110,23 @@ impl ComponentNameContext {
         name: &ComponentExternName,
         kind: ExternKind,
         ty: &ComponentEntityType,
-        types: &TypeAlloc,
+        types: &mut TypeAlloc,
         offset: u64,
         kind_names: &mut NameSet,
         items: &mut ItemMap,
         info: &mut TypeInfo,
         features: &WasmFeatures,
     ) -> Result<(), Error>
-        requires entity { EntityStands types.now ty.now }
-        requires items { All (EntryStands types.now) items.old }
+        requires entity { EntityStands types.old ty.now }
+        requires items { All (EntryStands types.old) items.old }
         requires keys { HasKeys kind_names.old (names_in items.old) }
-        ensures ok { OnOk result (IsFree (extern_checks (names_of self.now) features.now (entry_trees (trees types.now.nodes) items.old) info.old (extern_name name.now) (entity_tree (trees types.now.nodes) ty.now))) }
+        ensures ok { OnOk result (IsFree (extern_checks (names_of self.now) features.now (entry_trees (trees types.old.nodes) items.old) info.old (extern_name name.now) (entity_tree (trees types.old.nodes) ty.now))) }
         ensures joined { OnOk result (items.new ≡ items.old ++ entry_of name.now ty.now ∷ []) }
         ensures keys { OnOk result (HasKeys kind_names.new (names_in items.new)) }
-        ensures info { OnOk result (info.new ≡ with_entry info.old (entity_tree (trees types.now.nodes) ty.now)) }
-        ensures err { IfErr result (MemoryOrCausedBy (extern_checks (names_of self.now) features.now (entry_trees (trees types.now.nodes) items.old) info.old (extern_name name.now) (entity_tree (trees types.now.nodes) ty.now)) offset) }
+        ensures info { OnOk result (info.new ≡ with_entry info.old (entity_tree (trees types.old.nodes) ty.now)) }
+        ensures err { IfErr result (MemoryOrCausedBy (extern_checks (names_of self.now) features.now (entry_trees (trees types.old.nodes) items.old) info.old (extern_name name.now) (entity_tree (trees types.old.nodes) ty.now)) offset) }
         ensures kept { OnErr result (items.new ≡ items.old) }
+        ensures types { types.new ≡ types.old }
     {
         self.check_extern(
             name, kind, ty, types, offset, kind_names, items, info, features,

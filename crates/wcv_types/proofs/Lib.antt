@@ -51,5 +51,8 @@ pub mod Finding
 pub mod NamedBySet
 pub mod NamedContents
 pub mod SameTypes
+pub mod ShapeNumbers
+pub mod ShapeCodes
+pub mod ShapeTables
 pub mod EntryParts
 pub mod NamedExports
