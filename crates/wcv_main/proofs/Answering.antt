@@ -15,7 +15,7 @@ use Rattle.wcv_state.proofs.EndChecks.{end_has_type}
 use Rattle.wcv_link.specs.Valid.{around_root, ValidTo, Refused}
 use Rattle.wcv_link.proofs.Decided.{valid_or_refused}
 use Rattle.wcv_main.specs.Pump.{AppendsPrefix}
-use Rattle.wcv_main.specs.Answers.{IsAnswer, IsOfListing, MayStandIn, Answers, Cuts, Finishes}
+use Rattle.wcv_main.specs.Answers.{IsAnswer, MayStandIn, Answers, Cuts, Ends, Finishes}
 use Rattle.wcv_main.proofs.Known.{appends_nothing}
 
 -- something is always due
@@ -45,16 +45,6 @@ no_stand_in : (s : Status) → IsAnswer s → MayStandIn s → ⊥
 no_stand_in s is (inl e) = subst IsAnswer e is
 no_stand_in s is (inr e) = subst IsAnswer e is
 
-pub of_listing_answers : (s : Status) → IsOfListing s → IsAnswer s
-of_listing_answers status.Done h = h
-of_listing_answers status.Refused h = h
-of_listing_answers status.Words h = absurd h
-of_listing_answers status.Listing h = h
-of_listing_answers status.TooLong h = h
-of_listing_answers status.ReadFault h = absurd h
-of_listing_answers status.WriteFault h = absurd h
-of_listing_answers status.Memory h = absurd h
-
 -- where the text that was written is the one that is due
 module _ (words : List (List ℕ)) (left old new : Option (List ℕ)) (result s : Status) (text : List ℕ) (before now : ℕ) (answer : IsAnswer s) where
   abbrev IsDue : Option Due → Type 0
@@ -66,7 +56,8 @@ module _ (words : List (List ℕ)) (left old new : Option (List ℕ)) (result s 
       answers_told : (told : Option Due) → IsDue told → Finishes result s old new text before now → IsAnswer result → IfSome told (λ due. (t : List ℕ) × IsExpected due result t × Appends old new t)
       answers_told None due done is = tt
       answers_told (Some d) due (inl w) is = (text, subst (λ r. IsExpected d r text) (sym w.0) due, w.1)
-      answers_told (Some d) due (inr w) is = absurd (subst IsAnswer w.0 is)
+      answers_told (Some d) due (inr (inl w)) is = absurd (subst IsAnswer w.0 is)
+      answers_told (Some d) due (inr (inr w)) is = absurd (subst IsAnswer w.0 is)
 
   pub cuts_after : IfSome (due_over words left) (λ due. IsExpected due s text) → Finishes result s old new text before now → Cuts words left result old new
   cuts_after due done may = cuts_told (due_over words left) due done may
@@ -74,9 +65,10 @@ module _ (words : List (List ℕ)) (left old new : Option (List ℕ)) (result s 
       cuts_told : (told : Option Due) → IsDue told → Finishes result s old new text before now → MayStandIn result → IfSome told (λ due. (d : Status) × (t : List ℕ) × IsExpected due d t × AppendsPrefix old new t)
       cuts_told None due done may = tt
       cuts_told (Some d) due (inl w) may = absurd (no_stand_in s answer (subst MayStandIn w.0 may))
-      cuts_told (Some d) due (inr w) may = (s, text, due, w.1)
+      cuts_told (Some d) due (inr (inl w)) may = (s, text, due, w.1)
+      cuts_told (Some d) due (inr (inr w)) may = (s, text, due, w.1)
 
-long_due : (bytes : List ℕ) → max_listing < length bytes → due_of_bytes bytes ≡ too_long
+pub long_due : (bytes : List ℕ) → max_listing < length bytes → due_of_bytes bytes ≡ too_long
 long_due bytes long = grind (arith, nat_tests)
 
 -- What is due is the same for the bytes that were read as for all that were left.
