@@ -1,22 +1,8 @@
 // How value types lie in memory, and what stands in them.
-use crate::states::{Question, answer_words};
-use crate::table::{Answers, hold};
-use crate::written::{last_written, written};
-use std::alloc::{AllocError, Global};
-use std::fmt::Write;
-use std::test::Fail;
-use wcv_core::Error;
-use wcv_state::ComponentState;
-use wcv_syntax::Item;
-use wcv_types::{AbiInfo, TypeAlloc};
 
-// A resource, its owning and its borrowing handle, which have the indices 0 to 2.
-const HANDLES: &str =
-    r#"type {"resource":{"rep":"i32"}} ; type {"defined":{"own":0}} ; type {"defined":{"borrow":0}}"#;
-
-// Defined types behind them, and of the last one the size and the alignment with 32-bit and with 64-bit pointers, and
-// what stands in it. `*N*PART*` is N parts, in which the position stands for `#`.
-const ROWS: &str = r#""bool" => 1 1 1 1
+/// Defined types behind a resource and its owning and its borrowing handle, which have the indices 0 to 2: of the last
+/// one the size and the alignment with 32-bit and with 64-bit pointers, and what stands in it.
+pub const LAYOUTS: &str = r#""bool" => 1 1 1 1
 "u8" => 1 1 1 1
 "s16" => 2 2 2 2
 "u32" => 4 4 4 4
@@ -91,79 +77,3 @@ const ROWS: &str = r#""bool" => 1 1 1 1
 {"list":"u8"} ; {"stream":3} => 4 4 4 4 handle
 {"future":null} ; {"list":3} => 8 4 16 8 pointer handle
 {"stream":"string"} ; {"tuple":[3,"string"]} => 12 4 24 8 pointer handle"#;
-
-// The text with as many parts as it asks for.
-fn repeated(alloc: Global, text: &str) -> Result<String, Fail> {
-    let (before, rest) = text.split_once('*').unwrap_or((text, "0**"));
-    let mut line = String::from_str(alloc, before)?;
-    let (count, rest) = rest.split_once('*').ok_or("a count has no end")?;
-    let (part, behind) = rest.split_once('*').ok_or("a part has no end")?;
-    let (head, tail) = part.split_once('#').unwrap_or((part, ""));
-    let count: usize = count.parse()?;
-    for k in 0..count {
-        let comma = if k == 0 { "" } else { "," };
-        write!(line, "{comma}{head}{k}{tail}")?;
-    }
-    line.push_str(behind)?;
-    Ok(line)
-}
-
-// The items of a row.
-pub fn items(alloc: Global, row: &str) -> Result<Vec<Item>, Fail> {
-    let mut text = String::from_str(alloc, HANDLES)?;
-    for body in row.split(" ; ") {
-        let body = repeated(alloc, body)?;
-        write!(text, " ; type {{\"defined\":{body}}}")?;
-    }
-    written(alloc, text.as_str())
-}
-
-// The numbers of a layout, and a word for each mark.
-fn layout_words(alloc: Global, abi: AbiInfo) -> Result<String, AllocError> {
-    let mut words = format!(in alloc;
-        "{} {} {} {}",
-        abi.size32, abi.align32, abi.size64, abi.align64
-    )?;
-    for (mark, word) in [
-        (abi.contains_ptr, " pointer"),
-        (abi.contains_handle, " handle"),
-        (abi.contains_borrow, " borrow"),
-    ] {
-        if mark {
-            words.push_str(word)?;
-        }
-    }
-    Ok(words)
-}
-
-// The layout of the last type.
-#[derive(Drop)]
-struct LayoutOf {
-    items: Vec<Item>,
-}
-
-impl Question for LayoutOf {
-    fn answer(
-        self,
-        alloc: Global,
-        states: &mut Vec<ComponentState>,
-        types: &mut TypeAlloc,
-    ) -> Result<String, Error> {
-        let ty = last_written(self.items, states.as_mut_slice(), types)?;
-        Ok(layout_words(alloc, types.abi_info(&ty))?)
-    }
-}
-
-struct Layouts;
-
-impl Answers for Layouts {
-    fn answer(&self, alloc: Global, asked: &str) -> Result<String, Fail> {
-        let items = items(alloc, asked)?;
-        answer_words(alloc, LayoutOf { items })
-    }
-}
-
-#[test]
-fn value_types_have_their_layout(rt: HostRuntime) -> Result<(), Fail> {
-    hold(rt.alloc(), ROWS, &Layouts)
-}

@@ -5,13 +5,11 @@
 #[cfg(test)]
 mod base;
 #[cfg(test)]
+mod cases;
+#[cfg(test)]
 mod core_types;
 #[cfg(test)]
-mod externs;
-#[cfg(test)]
-mod free;
-#[cfg(test)]
-mod items;
+mod joining;
 #[cfg(test)]
 mod layouts;
 #[cfg(test)]
@@ -21,19 +19,8 @@ mod modules;
 #[cfg(test)]
 mod names;
 #[cfg(test)]
-mod sizes;
-#[cfg(test)]
 mod sort_calls;
+#[cfg(test)]
 mod sorts;
 #[cfg(test)]
-mod stacks;
-#[cfg(test)]
 mod state;
-#[cfg(test)]
-mod states;
-#[cfg(test)]
-mod table;
-#[cfg(test)]
-mod text;
-#[cfg(test)]
-mod written;

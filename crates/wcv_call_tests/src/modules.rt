@@ -1,73 +1,58 @@
-// What a core module is while its declarations are read.
-use crate::core_types::group;
+// A module that is made call by call, and joins a state.
+ghost use Rattle.std.specs.Prelude.{◌≡◌, IfOk};
+ghost use Rattle.wcv_decls.specs.Stack.{IsOpen};
+ghost use Rattle.wcv_module.specs.Kept.{IsCounted};
+
+use crate::lists::MEMORY;
 use bitflags::Flags;
 use std::alloc::Global;
-use std::test::Fail;
-use wcv_core::{ErrorKind, MemoryType, Text, WasmFeatures};
+use wcv_core::{Error, Text, WasmFeatures};
+use wcv_decls::Declare;
 use wcv_module::{Module, NoOuter};
-use wcv_syntax::{Import, ModuleTypeDeclaration, TypeRef};
+use wcv_state::ComponentState;
+use wcv_syntax::{Import, TypeRef};
 use wcv_types::TypeAlloc;
 
-pub const MEMORY: MemoryType = MemoryType {
-    initial: 1,
-    maximum: None,
-    memory64: false,
-    shared: false,
-    page_size_log2: 16,
-};
-
-// A function type and another name for it, a memory that is imported, and a function that is exported.
-fn declarations(alloc: Global) -> Result<Vec<ModuleTypeDeclaration>, Fail> {
-    let mut decls = Vec::new(alloc);
-    decls.push(ModuleTypeDeclaration::Ty(group(alloc)?))?;
-    decls.push(ModuleTypeDeclaration::OuterAlias { count: 0, index: 0 })?;
-    decls.push(ModuleTypeDeclaration::Import(Import {
+/// A module that imports a memory.
+fn importing(alloc: Global, types: &TypeAlloc) -> Result<Module, Error>
+    ensures { IfOk result (λ made. IsCounted types.now.core made) }
+{
+    let import = Import {
         module: Text::new(alloc, "m")?,
         name: Text::new(alloc, "n")?,
         ty: TypeRef::Memory(MEMORY),
-    }))?;
-    decls.push(ModuleTypeDeclaration::Export {
-        name: Text::new(alloc, "f")?,
-        ty: TypeRef::Func(1),
-    })?;
-    Ok(decls)
+    };
+    let mut made = Module::new(alloc, WasmFeatures::all());
+    match made.add_import(import, types.core_types(), 0) {
+        Ok(()) => Ok(made),
+        Err(error) => Err(error),
+    }
 }
 
-/// The module of these declarations, with nothing around it.
-#[tactic(auto, using(crate::proofs::Known::none_around))]
-fn declared(alloc: Global, types: &mut TypeAlloc) -> Result<Module, Fail> {
-    let decls = declarations(alloc)?;
-    let made = Module::declare(alloc, WasmFeatures::all(), decls, &NoOuter, types, 0);
-    Ok(made.ok().ok_or("no module")?)
-}
-
-/// How many types, imports and exports it has, and how large it is.
-fn counts(made: &Module) -> (usize, usize, usize, u64) {
-    (
+// How many types, imports and exports a module has, its size, and whether something is open around it.
+fn counted(alloc: Global, made: &Module) -> Result<String, Error> {
+    let imports = made.imports_for_module_type(9)?;
+    let is_open = made.outer_type_at(&NoOuter, 1, 0, 9).is_ok();
+    Ok(format!(in alloc;
+        "{} {} {} {} {}",
         made.types().len(),
-        made.imports().len(),
+        made.imports().len().min(imports.len()),
         made.exports().len(),
         made.size(),
-    )
+        usize::from(is_open)
+    )?)
 }
 
-#[test]
-fn declarations_make_a_module(rt: HostRuntime) -> Result<(), Fail> {
-    let mut types = TypeAlloc::new(rt.alloc(), WasmFeatures::all());
-    let made = declared(rt.alloc(), &mut types)?;
-    assert!(rt; counts(&made) == (2, 1, 1, 3));
-    assert!(rt;
-        made.imports_for_module_type(9)
-            .ok()
-            .ok_or("no imports")?
-            .len()
-            == 1
-    );
-    match made.outer_type_at(&NoOuter, 1, 0, 9) {
-        Ok(_) => Err("nothing is open around a module".into()),
-        Err(error) => {
-            assert!(rt; error.kind() == ErrorKind::OutOfBounds && error.offset() == 9);
-            Ok(())
-        }
-    }
+/// So of one that joins a state.
+pub fn join_module(
+    alloc: Global,
+    state: &mut ComponentState,
+    types: &mut TypeAlloc,
+) -> Result<String, Error>
+    requires { IsOpen types.old state.old }
+{
+    let made = importing(alloc, types)?;
+    let counts = counted(alloc, &made)?;
+    state.add_core_module(made, types, 7)?;
+    Ok(counts)
 }

@@ -1,87 +1,37 @@
-// Calls of the arena over an instance, a component and a core instance.
-ghost use Rattle.std.specs.Prelude.{◌≡◌, ◌<◌, IfOk, OnOk};
-ghost use Rattle.wcv_call_tests.specs.Sorts.{AreOf};
+// Calls of the arena over an instance, a component and a core instance, and their text.
+ghost use Rattle.std.specs.Prelude.{◌≡◌, ◌<◌};
 ghost use Rattle.wcv_types.specs.Entities.{any_part};
-ghost use Rattle.wcv_types.specs.Standing.{KeepsTrees, Stands};
+ghost use Rattle.wcv_types.specs.Standing.{Stands};
 ghost use Rattle.wcv_types.specs.declared.ids.Part.TheVariants as part;
 
-use crate::sorts::{Sorts, of_each_sort};
+use crate::sorts::{U32, add_all, one_entry};
 use bitflags::Flags;
-use std::alloc::Global;
+use std::alloc::AllocError;
 use std::fmt::Write;
 use std::marker::Brand;
 use std::sync::ledger::{Blank, Ledger};
 use std::test::Fail;
-use wcv_core::{OutOfMemory, PrimitiveValType, WasmFeatures};
+use wcv_core::{Error, OutOfMemory, WasmFeatures};
+use wcv_text::push_type;
 use wcv_types::{
-    ComponentAnyTypeId, ComponentFuncType, ComponentFuncTypeId, ComponentInstanceTypeId,
-    ComponentTypeId, ComponentValType, CoreInstanceTypeKind, NodeSort, NodeStore, Part,
-    ResourceSet, Steps, TypeAlloc, TypeInfo, TypeSet, TypeSort,
+    ComponentAnyTypeId, ComponentCoreInstanceTypeId, ComponentEntityType, ComponentInstanceTypeId,
+    ComponentType, ComponentTypeId, CoreInstanceTypeKind, ItemMap, NodeSort, NodeStore, Part,
+    Paths, ResourceId, ResourceSet, Steps, TypeAlloc, TypeInfo, TypeSet, TypeSort,
 };
 
-// A type in words: its sort and its place, or of a reference the resource and the stamp.
-fn part_words(alloc: Global, part: Part) -> Result<String, Fail> {
-    let (sort, index) = match part {
-        Part::Defined(id) => ("defined", id.index),
-        Part::Func(id) => ("func", id.index),
-        Part::Instance(id) => ("instance", id.index),
-        Part::Component(id) => ("component", id.index),
-        Part::Module(id) => ("module", id.index),
-        Part::CoreInstance(id) => ("core-instance", id.index),
-        Part::Core(id) => ("core", id.index),
-        Part::Resource(id) => ("resource", id.stamp),
-    };
-    Ok(format!(in alloc; "{sort} {index}")?)
-}
-
-/// A node with its size, its depth and its parts.
-fn node<S: NodeSort>(alloc: Global, types: &TypeAlloc, id: S) -> Result<String, Fail>
+/// The size and the depth of a node, how many parts it has, and whether the first one is of the sort of resources.
+fn node<S: NodeSort>(types: &TypeAlloc, id: S) -> (u32, u32, usize, bool)
     requires { Stands types.now (S.as_part id) }
 {
     let info = id.info(types);
-    let name = part_words(alloc, id.part())?;
-    let mut line = format!(in alloc; "{name}: {} {}", info.size, info.depth)?;
-    for k in 0..id.part_count(types) {
-        let part = part_words(alloc, id.part_at(types, k))?;
-        write!(line, " {part}")?;
+    let count = id.part_count(types);
+    if count == 0 {
+        return (info.size, info.depth, 0, false);
     }
-    Ok(line)
-}
-
-/// Of each sort a node.
-fn nodes(alloc: Global, types: &TypeAlloc, ids: Sorts) -> Result<String, Fail>
-    requires { AreOf types.now ids }
-{
-    let instance = node(alloc, types, ids.instance)?;
-    let component = node(alloc, types, ids.component)?;
-    let made = node(alloc, types, ids.made)?;
-    Ok(format!(in alloc; "{instance}\n{component}\n{made}")?)
-}
-
-const NODES: &str = "\
-instance 0: 2 2 resource 0 resource 0
-component 1: 3 3 instance 0
-core-instance 2: 1 1";
-
-#[test]
-fn nodes_have_sizes_depths_and_parts(rt: HostRuntime) -> Result<(), Fail> {
-    let (types, ids) = of_each_sort(rt.alloc())?;
-    let found = nodes(rt.alloc(), &types, ids)?;
-    assert_eq!(rt; found.as_str(), NODES);
-    Ok(())
-}
-
-/// How many exports the types have.
-fn shapes(types: &TypeAlloc, ids: Sorts) -> [usize; 3]
-    requires { AreOf types.now ids }
-{
-    let made = match &types.get(ids.made).kind {
-        CoreInstanceTypeKind::Instantiated(_) => 9,
-        CoreInstanceTypeKind::Exports(exports) => exports.len(),
-    };
-    let instance = types.get(ids.instance).exports.len();
-    let component = types.get(ids.component).exports.len();
-    [instance, component, made]
+    match id.part_at(types, 0) {
+        Part::Resource(_) => (info.size, info.depth, count, true),
+        _ => (info.size, info.depth, count, false),
+    }
 }
 
 /// How many exports an instance has, by a view that is counted.
@@ -95,144 +45,134 @@ fn viewed<L: Ledger>(types: &TypeAlloc, id: ComponentInstanceTypeId, blank: Blan
     types.view(id, &mut steps).exports.len()
 }
 
-/// So in a count of its own.
-fn viewed_once(types: &TypeAlloc, ids: Sorts) -> usize
-    requires { AreOf types.now ids }
+/// What the types are read as.
+fn read(
+    text: &mut String,
+    types: &TypeAlloc,
+    instance: ComponentInstanceTypeId,
+    component: ComponentTypeId,
+    made: ComponentCoreInstanceTypeId,
+) -> Result<(), AllocError>
+    requires instance { Stands types.now (part.Instance instance) }
+    requires component { Stands types.now (part.Component component) }
+    requires made { Stands types.now (part.CoreInstance made) }
 {
-    viewed::<Brand>(types, ids.instance, Blank::new(1))
+    let (size, depth, parts, of_resource) = node(types, instance);
+    let exports = viewed::<Brand>(types, instance, Blank::new(1));
+    write!(
+        text,
+        "instance {size} {depth} {parts} {of_resource} {exports}\n"
+    )?;
+    let (size, depth, parts, of_resource) = node(types, component);
+    let imports = types.get(component).imports.len();
+    write!(
+        text,
+        "component {size} {depth} {parts} {of_resource} {imports}\n"
+    )?;
+    let (size, depth, parts, of_resource) = node(types, made);
+    let exports = match &types.get(made).kind {
+        CoreInstanceTypeKind::Instantiated(_) => 9,
+        CoreInstanceTypeKind::Exports(exports) => exports.len(),
+    };
+    write!(
+        text,
+        "core instance {size} {depth} {parts} {of_resource} {exports}\n"
+    )
 }
 
-#[test]
-fn nodes_are_read(rt: HostRuntime) -> Result<(), Fail> {
-    let (types, ids) = of_each_sort(rt.alloc())?;
-    assert!(rt; shapes(&types, ids) == [1, 1, 0]);
-    assert!(rt; viewed_once(&types, ids) == 1);
-    Ok(())
-}
-
-/// The one resource that is free in a type.
-fn free_in(types: &TypeAlloc, id: ComponentAnyTypeId) -> Result<(usize, bool), Fail>
+/// How many resources are free in a type, and whether its contents are named by the empty set.
+fn free(types: &TypeAlloc, id: ComponentAnyTypeId) -> Result<(usize, bool), OutOfMemory>
     requires { Stands types.now (any_part id) }
 {
     let mut free = ResourceSet::new(types.allocator());
     types.free_variables_any_type_id(id, &mut free)?;
-    match free.get_index(0) {
-        Some(id) => Ok((free.len(), id.index == 0)),
-        None => Ok((0, false)),
+    let named = types.all_valtypes_named(&id, &TypeSet::new(types.allocator()))?;
+    Ok((free.len(), named))
+}
+
+/// How long the first path to the first resource is, which leads through the instance.
+fn path_length(types: &TypeAlloc, id: ComponentInstanceTypeId) -> Result<usize, Error>
+    requires { Stands types.now (part.Instance id) }
+{
+    let items = one_entry("i", ComponentEntityType::Instance(id), types)?;
+    let mut set = ResourceSet::new(types.allocator());
+    let resource = ResourceId { index: 0 };
+    set.push(resource)?;
+    let paths = types.explicit_resource_paths(&items, &set)?;
+    match paths.get(&resource) {
+        Some(place) => Ok(place.positions().len()),
+        None => Ok(0),
     }
 }
 
-/// Whether the contents of a type are named by the empty set.
-fn named(types: &TypeAlloc, id: ComponentAnyTypeId) -> Result<bool, OutOfMemory>
-    requires { Stands types.now (any_part id) }
+/// The text of a component that imports the component.
+fn push_text(text: &mut String, types: &TypeAlloc, id: ComponentTypeId) -> Result<(), Error>
+    requires { Stands types.now (part.Component id) }
 {
-    types.all_valtypes_named(&id, &TypeSet::new(types.allocator()))
-}
-
-/// Of an instance and a component what is free in them, and whether their contents are named.
-fn asked(types: &TypeAlloc, ids: Sorts) -> Result<[(usize, bool, bool); 2], Fail>
-    requires { AreOf types.now ids }
-{
-    let instance = ComponentAnyTypeId::Instance(ids.instance);
-    let component = ComponentAnyTypeId::Component(ids.component);
-    let (first, is_first) = free_in(types, instance)?;
-    let (second, is_second) = free_in(types, component)?;
-    Ok([
-        (first, is_first, named(types, instance)?),
-        (second, is_second, named(types, component)?),
-    ])
-}
-
-#[test]
-fn resources_are_free_and_contents_named(rt: HostRuntime) -> Result<(), Fail> {
-    let (types, ids) = of_each_sort(rt.alloc())?;
-    assert!(rt; asked(&types, ids)? == [(1, true, true), (1, true, true)]);
-    Ok(())
-}
-
-const U32: ComponentValType = ComponentValType::Primitive(PrimitiveValType::U32);
-
-const U8: ComponentValType = ComponentValType::Primitive(PrimitiveValType::U8);
-
-#[test]
-fn value_types_are_equal(rt: HostRuntime) -> Result<(), Fail> {
-    let types = TypeAlloc::new(rt.alloc(), WasmFeatures::all());
-    assert!(rt; types.val_type_eq(&U32, &U32) && !types.val_type_eq(&U32, &U8));
-    Ok(())
-}
-
-/// Whether nothing has to be named in a function type and in a value type.
-#[tactic(auto, using(wcv_types::proofs::Fitting::fits_plain))]
-fn plain(alloc: Global, types: &mut TypeAlloc) -> Result<[bool; 2], OutOfMemory> {
-    let shape = ComponentFuncType {
-        async_: true,
-        info: TypeInfo { size: 2, depth: 2 },
-        params: Vec::new(alloc),
-        result: Some(U32),
+    let alloc = types.allocator();
+    let ty = ComponentType {
+        info: TypeInfo { size: 1, depth: 1 },
+        imports: one_entry("c", ComponentEntityType::Component(id), types)?,
+        exports: ItemMap::new(alloc),
+        imported_resources: Paths::new(alloc),
+        defined_resources: Paths::new(alloc),
     };
-    let id: ComponentFuncTypeId = types.push_ty(shape)?;
-    Ok([types.is_plain_func(id), types.is_plain_value(&U32)])
-}
-
-#[test]
-fn numbers_need_no_name(rt: HostRuntime) -> Result<(), Fail> {
-    let mut types = TypeAlloc::new(rt.alloc(), WasmFeatures::all());
-    assert!(rt; plain(rt.alloc(), &mut types)? == [true, true]);
+    push_type(alloc, text, types, &ty)?;
     Ok(())
 }
 
-/// The same type under a new identity.
-fn again(types: &mut TypeAlloc, id: ComponentAnyTypeId) -> Result<ComponentAnyTypeId, OutOfMemory>
-    requires { Stands types.old (any_part id) }
-    ensures made { IfOk result (λ made. Stands types.new (any_part made)) }
-    ensures stay { OnOk result (KeepsTrees types.old types.new) }
+/// Whether the types get new identities, and a reference that is built again without parts stays as it is.
+fn renewed(
+    types: &mut TypeAlloc,
+    instance: ComponentInstanceTypeId,
+    component: ComponentTypeId,
+) -> Result<bool, OutOfMemory>
+    requires instance { Stands types.old (part.Instance instance) }
+    requires component { Stands types.old (part.Component component) }
 {
-    types.with_unique(id)
-}
-
-/// The place of an instance under a new identity, and how many exports it has.
-fn instance_again(types: &mut TypeAlloc, id: ComponentInstanceTypeId) -> Result<(u64, usize), Fail>
-    requires { Stands types.old (part.Instance id) }
-{
-    match again(types, ComponentAnyTypeId::Instance(id))? {
-        ComponentAnyTypeId::Instance(id) => Ok((id.index, types.get(id).exports.len())),
-        _ => Err("an instance is none".into()),
-    }
-}
-
-/// So of a component.
-fn component_again(types: &mut TypeAlloc, id: ComponentTypeId) -> Result<(u64, usize), Fail>
-    requires { Stands types.old (part.Component id) }
-{
-    match again(types, ComponentAnyTypeId::Component(id))? {
-        ComponentAnyTypeId::Component(id) => Ok((id.index, types.get(id).exports.len())),
-        _ => Err("a component is none".into()),
-    }
-}
-
-#[test]
-fn types_get_new_identities(rt: HostRuntime) -> Result<(), Fail> {
-    let (mut types, ids) = of_each_sort(rt.alloc())?;
-    assert!(rt; instance_again(&mut types, ids.instance)? == (3, 1));
-    let (mut types, ids) = of_each_sort(rt.alloc())?;
-    assert!(rt; component_again(&mut types, ids.component)? == (3, 1));
-    Ok(())
-}
-
-/// Whether a reference that is built again without parts stays as it is.
-fn resource_rebuilt(types: &mut TypeAlloc) -> Result<bool, OutOfMemory> {
+    let instance = types.with_unique(ComponentAnyTypeId::Instance(instance))?;
+    let component = types.with_unique(ComponentAnyTypeId::Component(component))?;
     let id = types.alloc_resource_id()?;
     let parts = types.no_parts();
     let made = types.rebuild(id, &parts)?;
-    Ok(made == id)
+    Ok(
+        made == id
+            && instance == ComponentAnyTypeId::Instance(ComponentInstanceTypeId { index: 3 })
+            && component == ComponentAnyTypeId::Component(ComponentTypeId { index: 4 }),
+    )
 }
 
+/// All of this.
+fn told(text: &mut String, types: &mut TypeAlloc) -> Result<bool, Error> {
+    let (instance, component, made) = add_all(types)?;
+    read(text, types, instance, component, made)?;
+    let (first, is_named) = free(types, ComponentAnyTypeId::Instance(instance))?;
+    let (second, is_second_named) = free(types, ComponentAnyTypeId::Component(component))?;
+    let path = path_length(types, instance)?;
+    write!(
+        text,
+        "free {first} {is_named}, {second} {is_second_named}, path {path}\n"
+    )?;
+    push_text(text, types, component)?;
+    Ok(renewed(types, instance, component)? && types.val_type_eq(&U32, &U32))
+}
+
+const TOLD: &str = r#"instance 2 2 2 true 1
+component 4 3 1 false 1
+core instance 1 1 0 false 0
+free 1 true, 1 true, path 2
+0: resource r0
+1: instance {export "r" type 0 of 0}
+2: component {import "v" value u32, export "i" instance 1 implements "a:b/c@1.2" suffix ".3" id "e"}
+import "c" component 2
+"#;
+
 #[test]
-fn a_reference_has_no_parts(rt: HostRuntime) -> Result<(), Fail> {
+fn types_of_each_sort_are_read(rt: HostRuntime) -> Result<(), Fail> {
     let mut types = TypeAlloc::new(rt.alloc(), WasmFeatures::all());
-    assert!(rt; resource_rebuilt(&mut types)?);
-    assert!(rt; types.resources_made() == 1);
-    let second = types.alloc_resource_id()?;
-    assert!(rt; (second.resource().index, second.stamp) == (1, 1));
+    let mut text = String::new(rt.alloc());
+    let is_renewed = told(&mut text, &mut types).ok().ok_or("a call is refused")?;
+    assert_eq!(rt; text.as_str(), TOLD);
+    assert!(rt; is_renewed && types.resources_made() == 2);
     Ok(())
 }

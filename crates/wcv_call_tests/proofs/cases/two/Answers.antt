@@ -2,7 +2,7 @@ use Rattle.std.proofs.Common.{subst, sym}
 use Rattle.std.specs.Prelude.{All}
 use Rattle.std.proofs.lemmas.List.Elements.{All-nil, All-push}
 use Rattle.wcv_decls.specs.Stack.{IsOpen}
-use Rattle.wcv_call_tests.proofs.states.two.Goals as goal
+use Rattle.wcv_call_tests.proofs.cases.two.Goals as goal
 
 pub returns-clause-open : goal.returns-clause-open
 returns-clause-open c = λ a.

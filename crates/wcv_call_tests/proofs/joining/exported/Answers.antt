@@ -1,6 +1,6 @@
 use Rattle.std.proofs.Common.{[], ap, ◌∙◌}
 use Rattle.wcv_state.specs.Contents.{Contents}
-use Rattle.wcv_call_tests.proofs.items.exported.Goals as goal
+use Rattle.wcv_call_tests.proofs.joining.exported.Goals as goal
 
 pub returns-in-Ok-clause-open : goal.returns-in-Ok-clause-open
 returns-in-Ok-clause-open c = record { live = ap (λ (s : Contents). s.spent) c.in-Ok.ensures.same ∙ c.requires.live; stands = c.in-Ok.ensures.keeps.stands }
