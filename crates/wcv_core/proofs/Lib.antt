@@ -15,6 +15,7 @@ pub mod Closing
 pub mod Pairing
 pub mod Within
 pub mod Ordered
+pub mod Older
 pub mod Joining
 pub mod ClosedForms
 pub mod Ranges

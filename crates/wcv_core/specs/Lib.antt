@@ -9,6 +9,7 @@ pub mod Names
 pub mod LabelSet
 pub mod Checks
 pub mod CoreForm
+pub mod CoreIds
 pub mod CoreCode
 pub mod CoreGroups
 pub mod CoreRows
