@@ -2,7 +2,7 @@
 use Rattle.std.proofs.Common.{◌≡◌, ℕ, ◌+◌, ◌<◌, ◌≤◌, List, ◌++◌, length, get_or, drop, sym, ◌∙◌, ap, append_assoc, append-nil}
 use Rattle.std.proofs.Math.ListN.{drop_of_length-le}
 use Rattle.std.proofs.lemmas.List.{drop_more}
-use Rattle.wcv_types.specs.CoreText.{all_ids}
+use Rattle.wcv_core.specs.CoreIds.{all_ids}
 
 -- one more
 pub next_ids : {A : Type 0} (f : A → List ℕ) (ids next all : List ℕ) (i : ℕ) (x : A) (xs : List A) → i < length xs → next ≡ ids ++ f (get_or xs i x) →

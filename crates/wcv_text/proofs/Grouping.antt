@@ -9,7 +9,8 @@ use Rattle.std.proofs.lemmas.Option.{get_or_from_slice_get, slice_get_within}
 use Rattle.wcv_core.specs.CoreForm.{Group}
 use Rattle.wcv_core.specs.CoreGroups.{place_from}
 use Rattle.wcv_core.specs.declared.core_types.CoreTypeId.{CoreTypeId}
-use Rattle.wcv_types.specs.CoreText.{group_text, ids_in_group, group_first, group_at, older_ids}
+use Rattle.wcv_core.specs.CoreIds.{ids_in_group}
+use Rattle.wcv_types.specs.CoreText.{group_text, group_first, group_at, older_ids}
 use Rattle.wcv_types.specs.Text.{Written, line_text, has_group, with_group, with_new_group, write_group, write_groups}
 use Rattle.wcv_types.specs.Tree.{Text}
 use Rattle.wcv_text.specs.Numbers.{written, Shows}
