@@ -17,3 +17,4 @@ pub mod SameRules
 pub mod SameSizes
 pub mod KeptForms
 pub mod SameChecks
+pub mod ClosedTrees

@@ -4,3 +4,4 @@ pub mod ClosedTable
 pub mod ClosedValue
 pub mod ClosedMatching
 pub mod ClosedForm
+pub mod ClosedTree

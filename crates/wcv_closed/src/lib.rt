@@ -5,6 +5,7 @@ mod closed_laws;
 mod form_laws;
 mod match_laws;
 mod table_laws;
+mod tree_laws;
 
 pub use closed_laws::{
     equal_closed_forms_are_one, groups_behind_change_no_closed_form, one_closed_form_for_each_type,
@@ -27,4 +28,8 @@ pub use table_laws::{
     a_group_has_one_closed_form_in_each_table,
     a_written_group_has_one_closed_form_over_both_tables, an_interned_group_has_its_closed_form,
     interning_finds_what_has_the_closed_form, interning_keeps_the_table,
+};
+pub use tree_laws::{
+    equal_closed_trees_are_one, groups_behind_change_no_closed_tree,
+    renaming_over_one_table_is_renaming_by_ids,
 };
