@@ -93,9 +93,6 @@ rules_new gs hs g i n a h f l =
 pub limit_free : (gs : List Group) (g : Group) (n : ℕ) → id_of gs g ≡ None → n ≡ length g → IsFree (too_many max_entries (total gs + n)) → IsFree (limit_checks gs g)
 limit_free gs g n a l f = subst IsFree (limit_new gs g n a l) f
 
-pub limit_caused : {M : Type 0} (gs : List Group) (g : Group) (n offset : ℕ) (e : Error M) → id_of gs g ≡ None → n ≡ length g → CausedBy (too_many max_entries (total gs + n)) offset e → MemoryOrCausedBy (limit_checks gs g) offset e
-limit_caused gs g n offset e a l c = inr (subst (λ (cs : Checks). CausedBy cs offset e) (limit_new gs g n a l) c)
-
 pub rules_free : (gs hs : List Group) (g : Group) (i n : ℕ) → id_of gs g ≡ None → hs ≡ gs ++ g ∷ [] → i ≡ total gs → n ≡ length g
     → IsFree (too_many max_entries (total gs + n)) → IsFree (all_checks (type_checks hs) (range_with_len i n)) → IsFree (rule_checks gs g)
 rules_free gs hs g i n a h f l r c =
