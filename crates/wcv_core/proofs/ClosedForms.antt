@@ -18,6 +18,7 @@ use Rattle.wcv_core.specs.declared.core_types.ValType.{ValType}
 use Rattle.wcv_core.specs.declared.core_types.ValType.TheVariants as val
 use Rattle.wcv_core.specs.declared.features.WasmFeatures.{WasmFeatures}
 use Rattle.wcv_core.proofs.Causes.{free_left, free_right}
+use Rattle.wcv_core.proofs.Older.{supers_older}
 use Rattle.wcv_core.proofs.Ordered.{order-closed}
 use Rattle.wcv_core.proofs.Rowing.{length-map}
 use Rattle.wcv_core.proofs.Within.{mapped_of_all}
@@ -104,12 +105,13 @@ module _ (n len : ℕ) (es : List Core_entry) (known : All (IsKnown n) es) where
   group_closed : (w : Group) → len ≡ length w → 0 < length w → IsFree (all_checks (index_checks n es len) w) → IsFree (order_checks 0 (closed_group es w)) → IsClosed n (closed_group es w)
   group_closed w l s f o =
       let m : length (closed_group es w) ≡ length w = length-map (closed_sub es) w in
+      let forms : All (λ (x : SubForm). IsFormWithin n len x.inner) (closed_group es w) =
+      mapped_of_all (λ (x : SubForm). IsFree (index_checks n es len x)) (λ (x : SubForm). IsFormWithin n len x.inner) (closed_sub es) w (λ x g. form_within x.inner (free_right (super_index_checks n es len x.supertype) (form_checks n es len x.inner) g)) (all_free (index_checks n es len) w f) in
       record {
         some = omega arith;
+        older = supers_older n len es known w len f forms;
         ordered = ordered 0 n w (omega arith) o f;
-        within =
-            subst (λ (j : ℕ). All (λ (x : SubForm). IsFormWithin n j x.inner) (closed_group es w)) (l ∙ sym m)
-            (mapped_of_all (λ (x : SubForm). IsFree (index_checks n es len x)) (λ (x : SubForm). IsFormWithin n len x.inner) (closed_sub es) w (λ x g. form_within x.inner (free_right (super_index_checks n es len x.supertype) (form_checks n es len x.inner) g)) (all_free (index_checks n es len) w f));
+        within = subst (λ (j : ℕ). All (λ (x : SubForm). IsFormWithin n j x.inner) (closed_group es w)) (l ∙ sym m) forms;
       }
 
 pub written_closed : (fs : WasmFeatures) (n : ℕ) (es : List Core_entry) (w : Group) → All (IsKnown n) es → 0 < length w → IsFree (written_checks fs n es w) → IsClosed n (closed_group es w)

@@ -15,9 +15,12 @@ pub mod Closing
 pub mod Pairing
 pub mod Within
 pub mod Ordered
+pub mod Older
 pub mod Joining
 pub mod ClosedForms
 pub mod Ranges
 pub mod TableLaws
 pub mod HeapWords
 pub mod Mixing
+pub mod Supertypes
+pub mod Comparing

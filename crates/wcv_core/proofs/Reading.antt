@@ -61,8 +61,11 @@ named-number heap_name.None = refl
 named-number heap_name.Exn = refl
 named-number heap_name.NoExn = refl
 
+pub number_told : (a b : AbstractHeap) → abstract_number a ≡ abstract_number b → a ≡ b
+number_told a b n = sym (named-number a) ∙ (ap named n ∙ named-number b)
+
 heap_same : (a b : HeapType) → heap_kind a ≡ heap_kind b → heap_number a ≡ heap_number b → a ≡ b
-heap_same (heap.Abstract a) (heap.Abstract b) k n = ap heap.Abstract (sym (named-number a) ∙ (ap named n ∙ named-number b))
+heap_same (heap.Abstract a) (heap.Abstract b) k n = ap heap.Abstract (number_told a b n)
 heap_same (heap.Index a) (heap.Index b) k n = ap heap.Index n
 heap_same (heap.Id a) (heap.Id b) k n = λ j. heap.Id (record { index = n j })
 heap_same (heap.Abstract a) (heap.Index b) k n = Prim.absurd (omega arith)

@@ -13,6 +13,7 @@ use Rattle.wcv_core.specs.declared.core_types.ValType.{ValType}
 use Rattle.wcv_core.specs.declared.core_types.ValType.TheVariants as val
 use Rattle.wcv_core.specs.CoreForm.{CompositeForm, func_form, struct_form, array_form, SubForm, Group}
 use Rattle.wcv_core.specs.CoreCode.{code_of}
+use Rattle.wcv_core.specs.CoreIds.{NamesOlder}
 
 -- how many types there are
 abbrev pub total : List Group → ℕ
@@ -83,9 +84,10 @@ IsFormWithin n len (func_form ps rs) = All (IsValWithin n len) ps × All (IsValW
 IsFormWithin n len (struct_form fs) = All (IsFieldWithin n len) fs
 IsFormWithin n len (array_form f) = IsFieldWithin n len f
 
--- a closed form whose first type is to have the id n
+-- a closed form whose first type is to have the id n. It names own types by positions, and older types alone by ids
 pub record IsClosed (n : ℕ) (g : Group) : Type 0 where
   pub some : 0 < length g
+  pub older : NamesOlder n g
   pub ordered : AreOrdered n n g
   pub within : All (λ (s : SubForm). IsFormWithin n (length g) s.inner) g
 

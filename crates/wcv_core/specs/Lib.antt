@@ -9,12 +9,14 @@ pub mod Names
 pub mod LabelSet
 pub mod Checks
 pub mod CoreForm
+pub mod CoreIds
 pub mod CoreCode
 pub mod CoreGroups
 pub mod CoreRows
 pub mod CoreTable
 pub mod CoreAbove
 pub mod CoreMatching
+pub mod CoreShown
 pub mod CoreSizes
 pub mod CoreWritten
 pub mod CoreFeatures

@@ -40,17 +40,20 @@ fn close_index<G: InternRecGroup>(
     if ((index - own) as u64) < len {
         return Ok(HeapType::Index(index - own));
     }
-    Err(Error::new(
-        ErrorKind::OutOfBounds,
-        site.offset,
-        Why::new(
-            "core type %1 is out of bounds: %2 stand before the group, which has %3 more",
-        ).numbers([index as u64, own as u64, len]),
-    ))
+    let why = Why::new(past_the_end(len)).numbers([index as u64, own as u64, len]);
+    Err(Error::new(ErrorKind::OutOfBounds, site.offset, why))
+}
+
+/// The words for an index past the end, in a group of that length or in none.
+fn past_the_end(len: u64) -> &'static str {
+    if len == 0 {
+        return "core type %1 is out of bounds: %2 types stand before it";
+    }
+    "core type %1 is out of bounds: %2 stand before the group, which has %3 more"
 }
 
 /// The heap in closed form.
-fn close_heap<G: InternRecGroup>(
+pub fn close_heap<G: InternRecGroup>(
     group: &G,
     site: Site,
     heap: HeapType,
@@ -85,7 +88,8 @@ pub fn closed_mark(heap: HeapType, mark: bool) -> bool
     }
 }
 
-fn close_val<G: InternRecGroup>(
+/// The value type in closed form.
+pub fn close_val<G: InternRecGroup>(
     group: &G,
     site: Site,
     ty: ValType,

@@ -57,7 +57,7 @@ impl CoreTypes {
     }
 
     /// How many types there are. In each table groups with one id are one group, no group stands twice, and a
-    /// group names its own types and older ones alone.
+    /// group names its own types by their positions, and older ones alone by ids.
     pub fn len(&self) -> usize
         ensures value { result ≡ total self.now }
         ensures apart { (g h : Group) (i : ℕ) → id_of self.now g ≡ Some i → id_of self.now h ≡ Some i → g ≡ h }

@@ -6,6 +6,7 @@ mod canonical;
 mod core_checks;
 mod core_closing;
 mod core_codes;
+mod core_display;
 mod core_features;
 mod core_laws;
 mod core_limits;
@@ -29,14 +30,16 @@ mod text;
 
 pub use append_only::{IndexMapAppendOnly, IntoIter, Iter};
 pub use canonical::canonicalize_and_intern_rec_group;
+pub use core_closing::{Site, close_heap, close_val, closed_mark};
 pub use core_features::{
     check_group_features, check_ref_features, check_val_features, missing_feature,
 };
 pub use core_laws::{
-    an_interned_group_is_found, equal_codes_are_of_equal_groups, equal_groups_have_one_id,
+    an_interned_group_is_found, declared_is_the_closure_of_supertypes,
+    depths_count_declared_supertypes, equal_codes_are_of_equal_groups, equal_groups_have_one_id,
     groups_with_a_common_id_are_equal, interning_again_changes_nothing,
     older_groups_keep_their_ids, older_types_keep_their_ids, types_stand_at_their_ids,
-    words_match_by_the_rules,
+    what_is_compared_by_codes_is_equal, words_match_by_the_rules,
 };
 pub use core_limits::check_group_limits;
 pub use core_table::CoreTypes;
