@@ -10,9 +10,10 @@ use Rattle.wcv_types.specs.Renewed.{NodeAgain}
 use Rattle.wcv_types.specs.Resources.{owned_by}
 use Rattle.wcv_types.specs.Standing.{Stands, GaveResource, core_items, Fits, AllFit, cut}
 use Rattle.wcv_types.specs.Tree.{Parts, node}
-use Rattle.wcv_types.specs.Unfold.{Type_tree, IsInfoOf, info_of, head_of, slots_of, slot_parts, parts_of, tree_of, trees}
+use Rattle.wcv_types.specs.Unfold.{Type_tree, IsInfoOf, info_of, place, head_of, slots_of, slot_parts, parts_of, tree_of, trees, tree_at, unfolded}
 use Rattle.wcv_types.specs.declared.arena.Node.{Node}
 use Rattle.wcv_types.specs.declared.arena.Node.TheVariants as n
+use Rattle.wcv_types.specs.declared.ids.Part.{Part}
 use Rattle.wcv_types.proofs.Grown.{all_fit_push, stands_more, gave_more, items_within, stated_more}
 use Rattle.wcv_types.proofs.Unfolding.{cut_extends, tree_in-node, tree_in-unfolds}
 
@@ -70,6 +71,10 @@ fits_again a k x f h =
       within = items_within (cut a k) a (core_items x) (cut_extends a k) old.within;
       stated = stated_more (cut a k) a x (cut_extends a k) old.parts old.within old.stated;
     }
+
+-- what a node of the arena owns is led to
+pub led_stands : (a : Arena) (q : Part) (x : Node) → Fits a x → tree_at a q ≡ unfolded a (place q) x → Led (tree_at a q)
+led_stands a q x f u = subst Led (sym u) (led_again x (place q) (length (trees a.nodes)) (slot_parts (trees a.nodes) (slots_of x)) f.led)
 
 -- ## The arena
 

@@ -82,4 +82,4 @@ module _ (a : Arena) (i : ComponentTypeId) (s : ComponentType) (qs : List Part) 
       b ≡ with_node a (n.Component t) → rank (p.Component made) ≡ suc (length a.nodes) → Stands b (p.Component made) → MadeAgain a b (p.Component i) qs (p.Component made)
   component_made b made t slots ins outs e last st =
       made_again a b (p.Component i) (p.Component made) qs (n.Component t) e last st refl (slots ∙ ap (λ (x : Option Node). refill (slots_if x) qs) (sym found))
-      ((λ j. component (number (length a.nodes)) (map resource_path (ins j)) (map resource_path (outs j))) ∙ ap (λ (z : Type_tree). anew (number (length a.nodes)) (head z)) (sym tree))
+      ((λ j. component (number (length a.nodes)) (map resource_path (ins j)) (map resource_path (outs j))) ∙ ap (λ (z : Type_tree). anew (number (length a.nodes)) (head z)) (sym tree)) refl

@@ -97,4 +97,4 @@ module _ (a : Arena) (i : ComponentCoreInstanceTypeId) (s : InstanceType) (qs : 
       b ≡ with_node a (n.CoreInstance t) → rank (p.CoreInstance made) ≡ suc (length a.nodes) → Stands b (p.CoreInstance made) → MadeAgain a b (p.CoreInstance i) qs (p.CoreInstance made)
   core_instance_made b made t slots large e last st =
       made_again a b (p.CoreInstance i) (p.CoreInstance made) qs (n.CoreInstance t) e last st refl (slots ∙ ap (λ (x : Option Node). refill (slots_if x) qs) (sym found))
-      (ap (λ (k : ℕ). core_instance (number (length a.nodes)) k) large ∙ ap (λ (z : Type_tree). anew (number (length a.nodes)) (head z)) (sym tree))
+      (ap (λ (k : ℕ). core_instance (number (length a.nodes)) k) large ∙ ap (λ (z : Type_tree). anew (number (length a.nodes)) (head z)) (sym tree)) refl

@@ -1,7 +1,6 @@
 -- A walk that finds the first paths to the resources of a set.
-use Rattle.std.proofs.Common.{◌≡◌, ℕ, zero, suc, ◌+◌, ◌<◌, ◌≤◌, List, [], ◌∷◌, ◌++◌, length, drop, drop-cons, get_or, refl, sym, ◌∙◌, ap, subst, add-one, append-nil, append_assoc, Bool, true, false, ◌||◌, ◌&&◌, cond, eqb, eq-eqb, Some, None, arith, inl, inr, ⊎_elim}
-use Rattle.std.specs.Prelude.{Option, All, not, slice_get}
-use Rattle.std.specs.Map.{lookup}
+use Rattle.std.proofs.Common.{◌≡◌, ℕ, zero, suc, ◌+◌, ◌<◌, List, [], ◌∷◌, ◌++◌, length, drop, drop-cons, get_or, refl, sym, ◌∙◌, ap, subst, add-one, append-nil, append_assoc, Bool, true, false, ◌&&◌, cond, eqb, eq-eqb, Some, None, arith, ⊎_elim}
+use Rattle.std.specs.Prelude.{Option, not, slice_get}
 use Rattle.std.specs.Option.{option_map}
 use Rattle.std.proofs.lemmas.Bool.{false≢true, eqb-true}
 use Rattle.std.proofs.lemmas.List.Elements.{All-nil, All-head, All-tail, All-push}

@@ -1,5 +1,5 @@
 -- Sets of resources, and what they gain.
-use Rattle.std.proofs.Common.{◌≡◌, ℕ, ◌+◌, List, [], ◌∷◌, ◌++◌, take, refl, sym, ◌∙◌, ap, subst, add-one, append-nil, append_assoc, inl, inr, ⊎_elim, Bool, true, false, ◌||◌, cond, eqb, Some, None, Bor}
+use Rattle.std.proofs.Common.{◌≡◌, ℕ, ◌+◌, ◌≤◌, List, [], ◌∷◌, ◌++◌, length, take, take_all, refl, sym, ◌∙◌, ap, subst, add-one, append-nil, append_assoc, inl, inr, ⊎_elim, Bool, true, false, ◌||◌, cond, eqb, Some, None, Bor}
 use Rattle.std.specs.Prelude.{◌⊎◌, map, slice_get, is_some, Option, option_copied}
 use Rattle.std.specs.Map.{lookup}
 use Rattle.std.proofs.lemmas.Bool.{false≢true}
@@ -87,6 +87,14 @@ gains_as P Q xs ys to back g = record {
   only = λ r m. ⊎_elim (λ (x : member r (resource_names xs) ≡ true). inl x) (λ (x : P r). inr (to r x)) (g.only r m);
 }
 
+-- all of a set
+pub gains_all : (P : Name → Type 0) (set xs ys : List ResourceId) → Gains P [] set → Gains (λ r. member r (resource_names set) ≡ true) xs ys → Gains P xs ys
+gains_all P set xs ys g h = gains_as (λ r. member r (resource_names set) ≡ true) P xs ys (λ r m. found r (g.only r m)) (λ r x. g.all r x) h
+  where
+    found : (r : Name) → (member r (resource_names []) ≡ true) ⊎ P r → P r
+    found r (inl x) = absurd (false≢true x)
+    found r (inr x) = x
+
 -- one behind the others
 at_end : (rs : List ResourceId) (q : ResourceId) (r : Name) → member r (resource_names (rs ++ q ∷ [])) ≡ (member r (resource_names rs) || same r (number q.index))
 at_end rs q r = names-append rs (q ∷ []) r ∙ ap (λ (b : Bool). member r (resource_names rs) || b) (or_false (same r (number q.index)))
@@ -144,6 +152,17 @@ module _ (owns : Name → Bool) where
       back r f =
           ⊎_elim (λ (x : member r (resource_names (take k inside)) ≡ true). inl (x, f.1)) (λ (x : same r (number q.index) ≡ true). inr (same-true r (number q.index) x, f.1))
           (or_split (member r (resource_names (take k inside))) (same r (number q.index)) (sym (split r) ∙ f.0))
+
+-- ## All of a set
+
+-- so where nothing is owned
+pub joined_next : (set : List ResourceId) (k : ℕ) (q : ResourceId) (xs ys zs : List ResourceId) → slice_get set k ≡ Some q → Gains (Outside (λ r. false) (take k set)) xs ys → zs ≡ with_resource ys q → Gains (Outside (λ r. false) (take (k + 1) set)) xs zs
+joined_next set k q xs ys zs e g w = outside_next (λ r. false) set k q xs ys zs e g (unowned_push (λ r. false) ys zs q refl w)
+
+pub joined : (set : List ResourceId) (k : ℕ) (xs ys : List ResourceId) → length set ≤ k → Gains (Outside (λ r. false) (take k set)) xs ys → Gains (λ r. member r (resource_names set) ≡ true) xs ys
+joined set k xs ys l g =
+    gains_as (Outside (λ r. false) set) (λ r. member r (resource_names set) ≡ true) xs ys (λ r m. m.0) (λ r m. (m, refl))
+    (subst (λ (rs : List ResourceId). Gains (Outside (λ r. false) rs) xs ys) (take_all k set l) g)
 
 -- ## What a component owns
 

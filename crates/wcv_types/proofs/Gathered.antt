@@ -1,14 +1,16 @@
 -- Free resources, gathered in a set.
 use Rattle.std.proofs.Common.{◌≡◌, ℕ, zero, suc, ◌+◌, ◌<◌, ◌≤◌, max, List, [], ◌∷◌, ◌++◌, length, take, take-suc, get_or, refl, sym, ◌∙◌, ap, subst, add-one, arith, inl, inr, ⊎_elim, Bool, true, false, cond, eqb}
-use Rattle.std.specs.Prelude.{◌⊎◌, All, Contains}
+use Rattle.std.specs.Prelude.{◌⊎◌, All, Contains, Some, is_some}
+use Rattle.std.specs.Map.{lookup}
 use Rattle.std.proofs.lemmas.Bool.{false≢true, eqb-true}
+use Rattle.std.proofs.lemmas.Option.{same_Some}
 use Rattle.std.proofs.lemmas.List.Elements.{All-nil, All-cons, All-head, All-tail, All-append, All-push, All-weaker, Contains-append_left, Contains-append_right, Contains-append_cases}
 use Rattle.wcv_core.specs.Names.{Name, number, member}
 use Rattle.wcv_types.specs.Arena.{Arena}
 use Rattle.wcv_types.specs.Entities.{entity_slot, entry_parts, entry_trees, EntryStands, SlotStands}
-use Rattle.wcv_types.specs.Gathering.{Continues, Gains, FreeAmong, FreeInSome, AllGathered}
+use Rattle.wcv_types.specs.Gathering.{Continues, Gains, FreeAmong, FreeInSome, AllGathered, AllKnown}
 use Rattle.wcv_types.specs.Resources.{owns, RefersTo, Free, FreeIn, mentions, mentions_in}
-use Rattle.wcv_types.specs.Sets.{has_place, with_place, with_resource, resource_names}
+use Rattle.wcv_types.specs.Sets.{has_place, with_place, with_set, with_resource, resource_names}
 use Rattle.wcv_types.specs.Standing.{Stands, StandsBefore, Unfolds}
 use Rattle.wcv_types.specs.Tree.{Text, resource, node, head, Parts, none, part}
 use Rattle.wcv_types.specs.Unfold.{Type_tree, Slot, leaf, at, both, core, rank, slot_refs, slot_tree, parts_at, trees, tree_at, tree_in}
@@ -45,6 +47,27 @@ module _ (a : Arena) where
       go : (b : Bool) → AllGathered a (cond b ks (ks ++ k ∷ [])) rs
       go true = h
       go false = All-push (Gathered rs) ks k h g
+
+-- ## Sets that are known
+
+module _ (a : Arena) where
+  abbrev Known : ℕ × List ResourceId → Type 0
+  Known k = Gains (λ r. Free r (tree_in (trees a.nodes) k.0)) [] k.1
+
+  pub known_gains : (ks : List (ℕ × List ResourceId)) (k : ℕ) (rs : List ResourceId) → AllKnown a ks → lookup (eqb k) ks ≡ Some rs → Gains (λ r. Free r (tree_in (trees a.nodes) k)) [] rs
+  known_gains [] k rs h e = cc
+  known_gains (x ∷ ks) k rs h e = go (eqb k x.0) refl e (λ f. known_gains ks k rs (All-tail Known x ks h) f)
+    where
+      go : (b : Bool) → eqb k x.0 ≡ b → cond b (Some x.1) (lookup (eqb k) ks) ≡ Some rs → (lookup (eqb k) ks ≡ Some rs → Known (k, rs)) → Known (k, rs)
+      go true i w f = subst Known (λ j. (sym (eqb-true k x.0 i) j, same_Some _ _ w j)) (All-head Known x ks h)
+      go false i w f = f w
+
+  pub known_put : (ks : List (ℕ × List ResourceId)) (k : ℕ) (rs : List ResourceId) → AllKnown a ks → Gains (λ r. Free r (tree_in (trees a.nodes) k)) [] rs → AllKnown a (with_set ks k rs)
+  known_put ks k rs h g = go (is_some (lookup (eqb k) ks))
+    where
+      go : (b : Bool) → AllKnown a (cond b ks (ks ++ (k, rs) ∷ []))
+      go true = h
+      go false = All-push Known ks (k, rs) h g
 
 -- ## Trees
 
@@ -114,7 +137,7 @@ module _ (a : Arena) where
       back : (r : Name) → Free r (tree_at a q) → FreeInSome a r (parts_at a q)
       back r f = ⊎_elim (λ (x : RefersTo r (head (tree_at a q))). absurd (w r x)) (λ (x : (owns (head (tree_at a q)) r ≡ false) × FreeInSome a r (parts_at a q)). x.1) (free_below a r q u f)
 
-  abbrev Outside : Part → List ResourceId → Name → Type 0
+  abbrev pub Outside : Part → List ResourceId → Name → Type 0
   Outside q inside r = (member r (resource_names inside) ≡ true) × (owns (head (tree_at a q)) r ≡ false)
 
   -- and without what it owns

@@ -55,4 +55,4 @@ module _ (a : Arena) (i : ComponentInstanceTypeId) (s : ComponentInstanceType) (
       b ≡ with_node a (n.Instance t) → rank (p.Instance made) ≡ suc (length a.nodes) → Stands b (p.Instance made) → MadeAgain a b (p.Instance i) qs (p.Instance made)
   instance_made b made t slots own e last st =
       made_again a b (p.Instance i) (p.Instance made) qs (n.Instance t) e last st refl (slots ∙ ap (λ (x : Option Node). refill (slots_if x) qs) (sym found))
-      (ap (λ (rs : List ResourceId). instance (number (length a.nodes)) (resource_names rs)) own ∙ ap (λ (z : Type_tree). anew (number (length a.nodes)) (head z)) (sym tree))
+      (ap (λ (rs : List ResourceId). instance (number (length a.nodes)) (resource_names rs)) own ∙ ap (λ (z : Type_tree). anew (number (length a.nodes)) (head z)) (sym tree)) refl

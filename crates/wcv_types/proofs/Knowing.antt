@@ -11,12 +11,11 @@ use Rattle.wcv_types.specs.Arena.{Arena}
 use Rattle.wcv_types.specs.Entities.{SlotStands}
 use Rattle.wcv_types.specs.Facts.{is_plain}
 use Rattle.wcv_types.specs.Identity.{Identity}
-use Rattle.wcv_types.specs.Named.{is_named, are_named, passes}
+use Rattle.wcv_types.specs.Named.{is_named, are_named}
 use Rattle.wcv_types.specs.Standing.{Stands}
-use Rattle.wcv_types.specs.Tree.{Text, Role, here, label, func, node, sort, is_func}
-use Rattle.wcv_types.specs.Unfold.{Type_tree, Slot, leaf, at, both, core, Slots, value_slot, option_slot, field_slots, value_parts, value_slots, handles, defined_slots, slot_refs, parts_in, slot_tree, slot_parts, tree_at, trees}
+use Rattle.wcv_types.specs.Tree.{Text, Role, here, label}
+use Rattle.wcv_types.specs.Unfold.{Type_tree, Slot, leaf, at, both, core, Slots, value_slot, option_slot, field_slots, value_parts, value_slots, handles, defined_slots, slot_refs, parts_in, slot_tree, slot_parts, trees}
 use Rattle.wcv_types.specs.declared.ids.AliasableResourceId.{AliasableResourceId}
-use Rattle.wcv_types.specs.declared.ids.ComponentFuncTypeId.{ComponentFuncTypeId}
 use Rattle.wcv_types.specs.declared.ids.Part.{Part}
 use Rattle.wcv_types.specs.declared.ids.Part.TheVariants as p
 use Rattle.wcv_types.specs.declared.shapes.ComponentDefinedType.{ComponentDefinedType}
@@ -54,14 +53,6 @@ pub value_plain : (a : Arena) (ty : Option ComponentValType) → SlotStands a (o
 value_plain a None s = refl
 value_plain a (Some (v.Primitive q)) s = refl
 value_plain a (Some (v.Ty i)) s = plain_value (slot_tree (trees a.nodes) (at (p.Defined i))) (sort_stands a (p.Defined i) s)
-
-plain_passes : (t : Type_tree) → sort t ≡ is_func → is_plain t ≡ passes [] t
-plain_passes (node (func i b) ps) e = refl
-plain_passes (node h ps) e = cc
-
--- a function is plain where it passes
-pub func_plain : (a : Arena) (i : ComponentFuncTypeId) → Stands a (p.Func i) → is_plain (tree_at a (p.Func i)) ≡ passes [] (tree_at a (p.Func i))
-func_plain a i s = plain_passes (tree_at a (p.Func i)) (sort_stands a (p.Func i) s)
 
 -- ## The value types that a defined type is made of
 

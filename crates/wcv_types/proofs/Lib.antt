@@ -23,7 +23,6 @@ pub mod Unfolding
 pub mod AddedAgain
 pub mod Slots
 pub mod Naming
-pub mod Fitting
 pub mod Aligning
 pub mod Sums
 pub mod Forming
@@ -51,5 +50,8 @@ pub mod Finding
 pub mod NamedBySet
 pub mod NamedContents
 pub mod SameTypes
+pub mod ShapeNumbers
+pub mod ShapeCodes
+pub mod ShapeTables
 pub mod EntryParts
 pub mod NamedExports

@@ -1,10 +1,10 @@
 -- Core modules and core instances that are made again.
-use Rattle.std.proofs.Common.{◌≡◌, suc, List, [], ◌∷◌, ◌++◌, length, refl, sym, ◌∙◌, ap, subst, false, Some}
+use Rattle.std.proofs.Common.{◌≡◌, suc, List, [], ◌∷◌, ◌++◌, length, refl, sym, ◌∙◌, ap, subst, arith, false, Some}
 use Rattle.std.specs.Prelude.{Option, slice_get}
 use Rattle.wcv_core.specs.Names.{number}
 use Rattle.wcv_core.specs.declared.core_types.EntityType.{EntityType}
 use Rattle.wcv_types.specs.Arena.{Arena}
-use Rattle.wcv_types.specs.Rebuild.{refill, anew, MadeAgain}
+use Rattle.wcv_types.specs.Rebuild.{refill, anew, types_in, MadeAgain}
 use Rattle.wcv_types.specs.Resources.{mentions_in}
 use Rattle.wcv_types.specs.Standing.{Stands, Fits, with_node}
 use Rattle.wcv_types.specs.Tree.{Text, core_module, head}
@@ -16,6 +16,7 @@ use Rattle.wcv_types.specs.declared.ids.ComponentCoreModuleTypeId.{ComponentCore
 use Rattle.wcv_types.specs.declared.ids.Part.{Part}
 use Rattle.wcv_types.specs.declared.ids.Part.TheVariants as p
 use Rattle.wcv_types.specs.declared.info.TypeInfo.{TypeInfo}
+use Rattle.wcv_types.proofs.Grown.{is_last}
 use Rattle.wcv_types.proofs.Rebuilding.{made_again}
 
 -- ## Items have no parts
@@ -73,8 +74,11 @@ module_fits a s t i is es f =
     (record { parts = f.parts; info = record { size = f.info.size; depth = f.info.depth }; owned = f.owned; led = f.led; within = f.within; stated = f.stated })
 
 module _ (a b : Arena) (i made : ComponentCoreModuleTypeId) (s t : ModuleType) (qs : List Part) (found : slice_get a.nodes i.index ≡ Some (n.Module s)) (tree : tree_at a (p.Module i) ≡ unfolded a i.index (n.Module s)) where
-  pub module_made : t.info ≡ s.info → t.imports ≡ s.imports → t.exports ≡ s.exports → b ≡ with_node a (n.Module t) → rank (p.Module made) ≡ suc (length a.nodes) → Stands b (p.Module made) → MadeAgain a b (p.Module i) qs (p.Module made)
-  module_made info is es e last st =
+  pub module_made : t.info ≡ s.info → t.imports ≡ s.imports → t.exports ≡ s.exports → t.types.items ≡ s.types.items → b ≡ with_node a (n.Module t) → rank (p.Module made) ≡ suc (length a.nodes) → Stands b (p.Module made) → MadeAgain a b (p.Module i) qs (p.Module made)
+  module_made info is es types e last st =
+      let behind : suc made.index ≡ suc (length a.nodes) = last in
+      let stored : slice_get b.nodes made.index ≡ Some (n.Module t) = is_last a.nodes b.nodes (n.Module t) made.index (ap (λ (c : Arena). c.nodes) e) (omega (arith, behind)) in
       made_again a b (p.Module i) (p.Module made) qs (n.Module t) e last st refl
       ((λ j. core_import_slots (is j) ++ core_export_slots (es j)) ∙ sym (refill_items (module_slots s) qs (module_items s)) ∙ ap (λ (x : Option Node). refill (slots_if x) qs) (sym found))
       (ap (λ (x : TypeInfo). core_module (number (length a.nodes)) x.size) info ∙ ap (λ (z : Type_tree). anew (number (length a.nodes)) (head z)) (sym tree))
+      (ap types_in stored ∙ types ∙ ap types_in (sym found))

@@ -7,7 +7,7 @@ use Rattle.wcv_types.specs.FirstPath.{or_else, path_at, path_in, path_from, firs
 use Rattle.wcv_types.specs.Paths.{PathLeadsTo, ComesBefore, IsFirstPath}
 use Rattle.wcv_types.specs.Resources.{refers}
 use Rattle.wcv_types.specs.Tree.{Extern_name, nothing, primitive, resource, defined, func, instance, component, type_entity, core_module, core_instance, core_type, core_item, here, label, import, export, core_import, core_export, Tree, node, Parts, none, part, head, first_part, rest_parts, exports_in}
-use Rattle.wcv_types.proofs.FirstPath.{Reaches, leads-begins, no_first, no_later, no_path, path_at-none, path_in-none, first_path-leads, first_path-none}
+use Rattle.wcv_types.proofs.FirstPath.{Reaches, leads-begins, no_path, path_at-none, first_path-leads, first_path-none}
 use Rattle.wcv_types.proofs.Lists.{some-inj}
 
 abbrev Entry : Type 0

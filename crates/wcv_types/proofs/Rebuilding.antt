@@ -4,9 +4,9 @@ use Rattle.std.specs.Prelude.{Option, All, slice_get}
 use Rattle.wcv_core.specs.Names.{Name, number}
 use Rattle.wcv_types.specs.Tree.{Text, here, label, Head, defined, node, head}
 use Rattle.wcv_types.specs.Arena.{Arena}
-use Rattle.wcv_types.specs.Standing.{Stands, with_node}
+use Rattle.wcv_types.specs.Standing.{Stands, Extends, with_node}
 use Rattle.wcv_types.specs.Unfold.{Type_tree, Slot, leaf, at, both, core, Slots, rank, head_of, slots_of, slots_at, slots_if, slot_parts, parts_in, former_of, defined_slots, handle_parts, value_parts, value_slots, option_slot, value_slot, field_slots, trees, tree_at, unfolded}
-use Rattle.wcv_types.specs.Rebuild.{SameSorts, same_sort, FillsSlot, Fills, refill_slot, after_slot, refill, after, anew, slots_by, field_value, MadeAgain}
+use Rattle.wcv_types.specs.Rebuild.{SameSorts, same_sort, FillsSlot, Fills, refill_slot, after_slot, refill, after, anew, slots_by, field_value, given_types, MadeAgain}
 use Rattle.wcv_types.specs.declared.arena.Node.{Node}
 use Rattle.wcv_types.specs.declared.arena.Node.TheVariants as n
 use Rattle.wcv_types.specs.declared.ids.ComponentFuncTypeId.{ComponentFuncTypeId}
@@ -17,7 +17,7 @@ use Rattle.wcv_types.specs.declared.shapes.ComponentDefinedType.{ComponentDefine
 use Rattle.wcv_types.specs.declared.shapes.ComponentDefinedType.TheVariants as d
 use Rattle.wcv_types.specs.declared.shapes.ComponentFuncType.{ComponentFuncType}
 use Rattle.wcv_types.specs.declared.shapes.ComponentValType.{ComponentValType}
-use Rattle.wcv_types.proofs.Grown.{push_keeps, tree_at_last, length-trees}
+use Rattle.wcv_types.proofs.Grown.{extends_push, push_keeps, tree_at_last, length-trees}
 
 -- ## Parts of the same sorts
 
@@ -104,11 +104,12 @@ module _ (fs : Fields) (o : Option ComponentValType) (qs : List Part) where
 
 -- it is behind all others, and has these slots and that head
 pub made_again : (a b : Arena) (q made : Part) (qs : List Part) (y : Node) → b ≡ with_node a y → rank made ≡ suc (length a.nodes) → Stands b made → same_sort q made ≡ true →
-    slots_of y ≡ refill (slots_at a.nodes q) qs → head_of (length a.nodes) y ≡ anew (number (length a.nodes)) (head (tree_at a q)) → MadeAgain a b q qs made
-made_again a b q made qs y e last s sort slots h = record {
+    slots_of y ≡ refill (slots_at a.nodes q) qs → head_of (length a.nodes) y ≡ anew (number (length a.nodes)) (head (tree_at a q)) → given_types b made ≡ given_types a q → MadeAgain a b q qs made
+made_again a b q made qs y e last s sort slots h types = record {
   nodes = ap (λ (c : Arena). length c.nodes) e ∙ length-append a.nodes (y ∷ []) ∙ omega arith;
   resources = ap (λ (c : Arena). c.resources) e;
   stamps = ap (λ (c : Arena). c.stamps) e;
+  grown = subst (λ (c : Arena). Extends a c) (sym e) (extends_push a y);
   stay = push_keeps a b y e;
   stands = s;
   of_sort = sort;
@@ -116,16 +117,17 @@ made_again a b q made qs y e last s sort slots h = record {
   tree = tree_at_last a b y made e last ∙ ap (λ (k : ℕ). node (head_of k y) (slot_parts (trees a.nodes) (slots_of y))) (length-trees a.nodes) ∙
       ap (λ (z : Head Name Name). node z (slot_parts (trees a.nodes) (slots_of y))) h ∙
       ap (λ (ss : Slots). node (anew (number (length a.nodes)) (head (tree_at a q))) (slot_parts (trees a.nodes) ss)) slots;
+  types = types;
 }
 
 pub func_made : (a b : Arena) (i made : ComponentFuncTypeId) (s t : ComponentFuncType) (qs : List Part) → slice_get a.nodes i.index ≡ Some (n.Func s) → tree_at a (p.Func i) ≡ unfolded a i.index (n.Func s) →
     slots_of (n.Func t) ≡ refill (slots_of (n.Func s)) qs → t.async_ ≡ s.async_ → b ≡ with_node a (n.Func t) → rank (p.Func made) ≡ suc (length a.nodes) → Stands b (p.Func made) → MadeAgain a b (p.Func i) qs (p.Func made)
 func_made a b i made s t qs found tree slots mark e last st =
     made_again a b (p.Func i) (p.Func made) qs (n.Func t) e last st refl (slots ∙ ap (λ x. refill (slots_if x) qs) (sym found))
-    (ap (λ x. head_of (length a.nodes) (n.Func (record t { async_ = x }))) mark ∙ ap (λ (z : Type_tree). anew (number (length a.nodes)) (head z)) (sym tree))
+    (ap (λ x. head_of (length a.nodes) (n.Func (record t { async_ = x }))) mark ∙ ap (λ (z : Type_tree). anew (number (length a.nodes)) (head z)) (sym tree)) refl
 
 pub defined_made : (a b : Arena) (i made : ComponentDefinedTypeId) (s t : ComponentDefinedType) (qs : List Part) → slice_get a.nodes i.index ≡ Some (n.Defined s) → tree_at a (p.Defined i) ≡ unfolded a i.index (n.Defined s) →
     defined_slots t ≡ refill (defined_slots s) qs → former_of t ≡ former_of s → b ≡ with_node a (n.Defined t) → rank (p.Defined made) ≡ suc (length a.nodes) → Stands b (p.Defined made) → MadeAgain a b (p.Defined i) qs (p.Defined made)
 defined_made a b i made s t qs found tree slots form e last st =
     made_again a b (p.Defined i) (p.Defined made) qs (n.Defined t) e last st refl (slots ∙ ap (λ x. refill (slots_if x) qs) (sym found))
-    (ap (λ k. defined (number (length a.nodes)) k) form ∙ ap (λ (z : Type_tree). anew (number (length a.nodes)) (head z)) (sym tree))
+    (ap (λ k. defined (number (length a.nodes)) k) form ∙ ap (λ (z : Type_tree). anew (number (length a.nodes)) (head z)) (sym tree)) refl

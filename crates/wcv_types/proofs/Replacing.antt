@@ -66,7 +66,7 @@ or_right a b h = grind arith
 not_false : (a : Bool) → not a ≡ false → a ≡ true
 not_false a h = grind arith
 
-unmoved : (r : Name) (o : Option Name) → moved r o ≡ false → or_same r o ≡ r
+pub unmoved : (r : Name) (o : Option Name) → moved r o ≡ false → or_same r o ≡ r
 unmoved r None e = refl
 unmoved r (Some q) e = sym (same-true r q (not_false (same r q) e))
 

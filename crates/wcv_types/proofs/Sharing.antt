@@ -22,7 +22,7 @@ use Rattle.wcv_types.proofs.Grown.{last_node, node_before, length-trees, trees-p
 
 -- ## Lists
 
-still_there : {X : Type 0} (xs ys : List X) (k : ℕ) (x : X) → slice_get xs k ≡ Some x → slice_get (xs ++ ys) k ≡ Some x
+pub still_there : {X : Type 0} (xs ys : List X) (k : ℕ) (x : X) → slice_get xs k ≡ Some x → slice_get (xs ++ ys) k ≡ Some x
 still_there [] ys k x h = cc
 still_there (y ∷ xs) ys zero x h = h
 still_there (y ∷ xs) ys (suc k) x h = still_there xs ys k x h
@@ -73,6 +73,13 @@ pub node_is : (ks : List Known) (ps : List ℕ) (xs : List Node) (k p : ℕ) (x 
 node_is ks ps xs k p x e a w r r' =
     let h : slice_get ps k ≡ Some p = position_there ks ps xs k p e w r in
     ap (λ (ys : List Node). slice_get ys k) (sym e) ∙ slice_get-map (node_at ks) ps k ∙ ap (option_map (node_at ks)) h ∙ ap Some (node_there ks p x (shape_there ks ps k p x a h r'))
+
+node_at_place : (ks : List Known) (ps : List ℕ) (xs : List Node) (k p : ℕ) → nodes_at ks ps ≡ xs → k < length xs → p ≡ get_or ps k p → slice_get xs k ≡ Some (node_at ks p)
+node_at_place ks ps xs k p e w r = ap (λ (ys : List Node). slice_get ys k) (sym e) ∙ slice_get-map (node_at ks) ps k ∙ ap (option_map (node_at ks)) (position_there ks ps xs k p e w r)
+
+-- two places with one position
+pub shared_nodes : (ks : List Known) (ps : List ℕ) (xs : List Node) (j k p q : ℕ) → nodes_at ks ps ≡ xs → j < length xs → k < length xs → p ≡ get_or ps j p → q ≡ get_or ps k q → p ≡ q → slice_get xs j ≡ slice_get xs k
+shared_nodes ks ps xs j k p q e w u r s t = node_at_place ks ps xs j p e w r ∙ ap (λ (x : ℕ). Some (node_at ks x)) t ∙ sym (node_at_place ks ps xs k q e u s)
 
 -- and what is kept of it
 pub facts_are : (ks : List Known) (ps : List ℕ) (xs : List Node) (k p : ℕ) (x : Known) → nodes_at ks ps ≡ xs → AllKnown ks ps → k < length xs → p ≡ get_or ps k p → x ≡ get_or ks p x → IsFactsOf x.facts (tree_in (trees xs) k)

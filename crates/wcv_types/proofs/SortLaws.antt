@@ -88,7 +88,7 @@ module _ (a : Arena) (m : Replacement) where
   leaf_stays (Some q) = refl
 
   -- the parts that were put into the slots make the replaced parts
-  slots_become : (ss : Slots) (qs : List Part) → BecomesIn a m (parts_in ss) qs → slot_parts (trees a.nodes) (refill ss qs) ≡ replaced_in m (slot_parts (trees a.nodes) ss)
+  pub slots_become : (ss : Slots) (qs : List Part) → BecomesIn a m (parts_in ss) qs → slot_parts (trees a.nodes) (refill ss qs) ≡ replaced_in m (slot_parts (trees a.nodes) ss)
   slots_become [] qs b = refl
   slots_become ((k, leaf o) ∷ ss) qs b =
       let e : leaf_tree o ≡ replaced m (leaf_tree o) = leaf_stays o in

@@ -1,13 +1,9 @@
 -- Value types that are the same, identities aside: a named primitive is the primitive.
 use Rattle.std.specs.Prelude.{ℕ, List, [], Option, Some, None, ◌≡◌}
-use Rattle.std.specs.Option.{option_map}
 use Rattle.wcv_core.specs.Names.{Name}
 use Rattle.wcv_core.specs.declared.primitive.PrimitiveValType.{PrimitiveValType}
-use Rattle.wcv_types.specs.Seen.{Within, outer, seen}
-use Rattle.wcv_types.specs.NamedBySet.{handle_of}
-use Rattle.wcv_types.specs.Tree.{Text, Former, named, record_of, variant_of, list_of, map_of, tuple_of, option_of, result_of, own_of, borrow_of, future_of, stream_of, fixed_list_of, flags_of, enum_of, Role, here, label, defined, Tree, node, Parts}
-use Rattle.wcv_types.specs.Unfold.{leaf_tree}
-use Rattle.wcv_types.specs.declared.shapes.ComponentDefinedType.{ComponentDefinedType}
+use Rattle.wcv_types.specs.Seen.{outer, seen}
+use Rattle.wcv_types.specs.Tree.{Text, Former, named, record_of, variant_of, list_of, map_of, tuple_of, option_of, result_of, own_of, borrow_of, future_of, stream_of, fixed_list_of, flags_of, enum_of, Role, here, label, Tree}
 
 -- they look alike, where each resource is an atom
 abbrev pub Alike : Tree Name Name → Tree Name Name → Type 0
@@ -46,22 +42,7 @@ form_names (flags_of ns) = ns
 form_names (enum_of ns) = ns
 form_names k = []
 
--- ## What is compared
-
--- it looks like a node that is no named primitive
-abbrev pub LooksFormed : Tree Name Name → Type 0
-LooksFormed t = (k : Former) × (ps : Parts (Within Name) (Unit {0})) × (seen outer t ≡ node (defined tt k) ps)
-
--- what is found of a value type: that it looks like a primitive, or like what is left out, or that it does not
-pub record LeafIs (t : Tree Name Name) (o : Option (Option PrimitiveValType)) : Type 0 where
-  pub some : (l : Option PrimitiveValType) → o ≡ Some l → seen outer t ≡ seen outer (leaf_tree l)
-  pub none_is : o ≡ None → LooksFormed t
-
 -- the role of a part that has a label or not
 abbrev pub role_of : Option Text → Role
 role_of None = here
 role_of (Some l) = label l
-
--- the resource of a handle
-abbrev pub resource_of : ComponentDefinedType → Option ℕ
-resource_of s = option_map (λ r. r.resource.index) (handle_of s)

@@ -5,6 +5,7 @@ use Rattle.std.specs.List.{filter}
 use Rattle.wcv_core.specs.CoreFeatures.{heap_word}
 use Rattle.wcv_core.specs.CoreForm.{CompositeForm, func_form, struct_form, array_form, SubForm, Group}
 use Rattle.wcv_core.specs.CoreGroups.{place_from, types_of}
+use Rattle.wcv_core.specs.CoreIds.{heap_ids, val_ids, ids_in_group}
 use Rattle.wcv_core.specs.declared.core_types.EntityType.{EntityType}
 use Rattle.wcv_core.specs.declared.core_types.EntityType.TheVariants as entity
 use Rattle.wcv_core.specs.declared.core_types.FieldType.{FieldType}
@@ -105,42 +106,7 @@ item_text gs ks (entity.Memory m) =
     ++ mark_text m.memory64 (codes " 64") ++ mark_text m.shared (codes " shared")
 item_text gs ks (entity.Global g) = codes "global " ++ val_text gs ks g.content_type ++ mark_text g.mutable (codes " mut") ++ mark_text g.shared (codes " shared")
 
--- ## The types that are named, by their ids, in the order of the text
-
-abbrev pub all_ids : {A : Type 0} → (A → List ℕ) → List A → List ℕ
-all_ids f [] = []
-all_ids f (x ∷ xs) = f x ++ all_ids f xs
-
-abbrev pub heap_ids : HeapType → List ℕ
-heap_ids (heap.Id i) = i.index ∷ []
-heap_ids _ = []
-
-abbrev pub val_ids : ValType → List ℕ
-val_ids (val.Ref r) = heap_ids r.heap
-val_ids _ = []
-
-abbrev pub storage_ids : StorageType → List ℕ
-storage_ids (storage.Val v) = val_ids v
-storage_ids _ = []
-
-abbrev pub field_ids : FieldType → List ℕ
-field_ids f = storage_ids f.storage
-
-abbrev pub composite_ids : CompositeForm → List ℕ
-composite_ids (func_form ps rs) = all_ids val_ids ps ++ all_ids val_ids rs
-composite_ids (struct_form fs) = all_ids field_ids fs
-composite_ids (array_form f) = field_ids f
-
-abbrev pub super_ids : Option SuperType → List ℕ
-super_ids (Some (super.Id i)) = i.index ∷ []
-super_ids _ = []
-
-abbrev pub sub_ids : SubForm → List ℕ
-sub_ids s = super_ids s.supertype ++ composite_ids s.inner
-
-abbrev pub ids_in_group : Group → List ℕ
-ids_in_group g = all_ids sub_ids g
-
+-- the types that it names, by their ids, in the order of the text
 abbrev pub item_ids : EntityType → List ℕ
 item_ids (entity.Func t) = t.index ∷ []
 item_ids (entity.Tag t) = t.index ∷ []

@@ -31,3 +31,7 @@ FreeInSome a r qs = (q : Part) × Contains qs q × Free r (tree_at a q)
 -- what is free in each of the nodes at these places is in the set
 abbrev pub AllGathered : Arena → List ℕ → List ResourceId → Type 0
 AllGathered a ks rs = All (λ k. (r : Name) → Free r (tree_in (trees a.nodes) k) → member r (resource_names rs) ≡ true) ks
+
+-- these are the sets of what is free in the nodes at these places
+abbrev pub AllKnown : Arena → List (ℕ × List ResourceId) → Type 0
+AllKnown a ks = All (λ k. Gains (λ r. Free r (tree_in (trees a.nodes) k.0)) [] k.1) ks

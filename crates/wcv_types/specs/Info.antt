@@ -1,6 +1,6 @@
 -- The size and the depth that a node keeps.
 use Rattle.wcv_core.specs.Limits.{max_depth, max_size}
-use Rattle.std.specs.Prelude.{ℕ, suc, max, ◌+◌, ◌<◌, ◌≤◌, ◌⊎◌}
+use Rattle.std.specs.Prelude.{suc, max, ◌+◌, ◌<◌, ◌≤◌, ◌⊎◌}
 use Rattle.wcv_types.specs.declared.info.TypeInfo.{TypeInfo}
 
 -- those of a type with one more part

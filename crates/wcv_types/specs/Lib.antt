@@ -30,5 +30,6 @@ pub mod Given
 pub mod Gathering
 pub mod NamedBySet
 pub mod Alike
+pub mod ShapeNumbers
 pub mod CoreCalls
 pub mod ExplicitPaths

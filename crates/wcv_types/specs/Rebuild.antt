@@ -1,13 +1,16 @@
 -- A node that is made again with other parts.
-use Rattle.std.specs.Prelude.{ℕ, suc, List, [], ◌∷◌, ◌++◌, drop, length, map, Option, Some, Bool, true, false, eqb, All, ◌≡◌}
+use Rattle.std.specs.Prelude.{ℕ, suc, List, [], ◌∷◌, ◌++◌, drop, length, map, Option, Some, Bool, true, false, eqb, All, slice_get, ◌≡◌}
 use Rattle.wcv_core.specs.Names.{Name, number}
+use Rattle.wcv_core.specs.declared.core_types.CoreTypeId.{CoreTypeId}
 use Rattle.wcv_types.specs.Tree.{Text, Head, defined, func, instance, component, core_module, core_instance, Role, here, label, node, Parts, part, head}
 use Rattle.wcv_types.specs.Arena.{Arena}
 use Rattle.wcv_types.specs.Replacing.{Replacement, replaced}
 use Rattle.wcv_types.specs.Led.{Led}
 use Rattle.wcv_types.specs.Measure.{size}
-use Rattle.wcv_types.specs.Standing.{Stands, KeepsTrees}
+use Rattle.wcv_types.specs.Standing.{Stands, Extends, KeepsTrees}
 use Rattle.wcv_types.specs.Unfold.{capped, rank, Slot, leaf, at, both, core, Slots, slot_refs, slots_at, slot_parts, parts_at, trees, tree_at, value_slots}
+use Rattle.wcv_types.specs.declared.arena.Node.{Node}
+use Rattle.wcv_types.specs.declared.arena.Node.TheVariants as n
 use Rattle.wcv_types.specs.declared.ids.Part.{Part}
 use Rattle.wcv_types.specs.declared.ids.Part.TheVariants as p
 use Rattle.wcv_types.specs.declared.shapes.ComponentDefinedType.{ComponentDefinedType}
@@ -101,16 +104,27 @@ pub record Refits (a : Arena) (q : Part) (qs : List Part) : Type 0 where
   -- and what it states stays so
   pub counts : HeadCounts (head (tree_at a q)) (slot_parts (trees a.nodes) (refill (slots_at a.nodes q) qs))
 
+-- the core types that the declarations of a module gave: they are no part of its type
+abbrev pub types_in : Option Node → List CoreTypeId
+types_in (Some (n.Module s)) = s.types.items
+types_in _ = []
+
+abbrev pub given_types : Arena → Part → List CoreTypeId
+given_types a (p.Module i) = types_in (slice_get a.nodes i.index)
+given_types a q = []
+
 -- one more node: it has the head of q under its own identity, and these parts
 pub record MadeAgain (a b : Arena) (q : Part) (qs : List Part) (made : Part) : Type 0 where
   pub nodes : length b.nodes ≡ suc (length a.nodes)
   pub resources : b.resources ≡ a.resources
   pub stamps : b.stamps ≡ a.stamps
+  pub grown : Extends a b
   pub stay : KeepsTrees a b
   pub stands : Stands b made
   pub of_sort : same_sort q made ≡ true
   pub last : rank made ≡ suc (length a.nodes)
   pub tree : tree_at b made ≡ node (anew (number (length a.nodes)) (head (tree_at a q))) (slot_parts (trees a.nodes) (refill (slots_at a.nodes q) qs))
+  pub types : given_types b made ≡ given_types a q
 
 -- a resource reference and a core type have no parts, and stay
 abbrev pub Rebuilt : Arena → Arena → Part → List Part → Part → Type 0

@@ -1,6 +1,7 @@
 -- Sets of identities of types, and of resources.
-use Rattle.std.specs.Prelude.{ℕ, List, [], ◌∷◌, ◌++◌, map, Bool, false, cond, eqb, ◌&&◌, All}
+use Rattle.std.specs.Prelude.{ℕ, List, [], ◌∷◌, ◌++◌, map, Bool, false, cond, eqb, ◌&&◌, All, is_some}
 use Rattle.std.specs.List.{list_any}
+use Rattle.std.specs.Map.{lookup}
 use Rattle.wcv_types.specs.Arena.{Arena}
 use Rattle.wcv_types.specs.Entities.{any_part}
 use Rattle.wcv_types.specs.Identity.{Identity}
@@ -54,3 +55,7 @@ has_resource rs r = list_any (same_resource r) rs
 -- the set with that resource, which it may have already
 abbrev pub with_resource : List ResourceId → ResourceId → List ResourceId
 with_resource rs r = cond (has_resource rs r) rs (rs ++ r ∷ [])
+
+-- the sets of places with one more, which the place may have already
+abbrev pub with_set : List (ℕ × List ResourceId) → ℕ → List ResourceId → List (ℕ × List ResourceId)
+with_set fs k rs = cond (is_some (lookup (eqb k) fs)) fs (fs ++ (k, rs) ∷ [])

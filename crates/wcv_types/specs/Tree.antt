@@ -29,30 +29,30 @@ pub data Former : Type 0 where
   -- their names
   flags_of enum_of : List Text → Former
 
--- what a node is, without its parts
-pub data Head (R I : Type 0) : Type 0 where
+-- what a node is, without its parts. T is the type of names of core types, E that of what core modules import and export
+pub data Head_of (R I T E : Type 0) : Type 0 where
   -- stands where a payload, a result, or the type of a case is left out
-  nothing : Head R I
-  primitive : PrimitiveValType → Head R I
+  nothing : Head_of R I T E
+  primitive : PrimitiveValType → Head_of R I T E
   -- a resource reference: a resource and a stamp
-  resource : R → I → Head R I
-  defined : I → Former → Head R I
+  resource : R → I → Head_of R I T E
+  defined : I → Former → Head_of R I T E
   -- whether it is async
-  func : I → Bool → Head R I
+  func : I → Bool → Head_of R I T E
   -- its own resources
-  instance : I → List R → Head R I
+  instance : I → List R → Head_of R I T E
   -- its imported and its defined resources, each with its path
-  component : I → List (R × List ℕ) → List (R × List ℕ) → Head R I
+  component : I → List (R × List ℕ) → List (R × List ℕ) → Head_of R I T E
   -- a type entity: its parts are the created and the referenced node
-  type_entity : Head R I
+  type_entity : Head_of R I T E
   -- the type of a core module, and its size, since what a core function counts is read in the table of core types
-  core_module : I → ℕ → Head R I
+  core_module : I → ℕ → Head_of R I T E
   -- that of a core instance
-  core_instance : I → ℕ → Head R I
-  -- a core type, by its id in the table
-  core_type : ℕ → Head R I
+  core_instance : I → ℕ → Head_of R I T E
+  -- a core type
+  core_type : T → Head_of R I T E
   -- what a core module imports or exports
-  core_item : EntityType → Head R I
+  core_item : E → Head_of R I T E
 
 -- what a part is to its node
 pub data Role : Type 0 where
@@ -67,12 +67,23 @@ pub data Role : Type 0 where
 
 -- a node and its parts, each in its role
 mutual
-  pub data Tree (R I : Type 0) : Type 0 where
-    node : Head R I → Parts R I → Tree R I
+  pub data Tree_of (R I T E : Type 0) : Type 0 where
+    node : Head_of R I T E → Parts_of R I T E → Tree_of R I T E
 
-  pub data Parts (R I : Type 0) : Type 0 where
-    none : Parts R I
-    part : Role → Tree R I → Parts R I → Parts R I
+  pub data Parts_of (R I T E : Type 0) : Type 0 where
+    none : Parts_of R I T E
+    part : Role → Tree_of R I T E → Parts_of R I T E → Parts_of R I T E
+
+-- ## With ids of core types, in a table
+
+abbrev pub Head : Type 0 → Type 0 → Type 0
+Head R I = Head_of R I ℕ EntityType
+
+abbrev pub Tree : Type 0 → Type 0 → Type 0
+Tree R I = Tree_of R I ℕ EntityType
+
+abbrev pub Parts : Type 0 → Type 0 → Type 0
+Parts R I = Parts_of R I ℕ EntityType
 
 -- ## Trees by sort
 

@@ -4,10 +4,8 @@ ghost use Rattle.wcv_types.specs.Abi.{IsAbiOf};
 ghost use Rattle.wcv_types.specs.Entities.{SlotStands};
 ghost use Rattle.wcv_types.specs.Facts.{IsFactsOf};
 ghost use Rattle.wcv_types.specs.Given.{AllNamesGiven};
-ghost use Rattle.wcv_types.specs.Named.{is_named, passes};
 ghost use Rattle.wcv_types.specs.Renewed.{NodeAgain, with_stamp};
 ghost use Rattle.wcv_types.specs.Resources.{mentions};
-ghost use Rattle.wcv_types.specs.declared.ids.Part.TheVariants as part;
 ghost use Rattle.wcv_types.specs.Unfold.{place, rank, parts_of, slot_tree, tree_at, tree_in, tree_of, trees, unfolded, value_slot};
 ghost use Rattle.wcv_types.specs.Standing.{Stands, StandsBefore, Fits, KeepsTrees, with_node};
 
@@ -16,7 +14,7 @@ use crate::component_type::ComponentType;
 use crate::core_shapes::{InstanceType, ModuleType};
 use crate::defined_facts::value_facts;
 use crate::facts::Facts;
-use crate::ids::{AliasableResourceId, ComponentFuncTypeId, ResourceId};
+use crate::ids::{AliasableResourceId, ResourceId};
 use crate::instance_type::ComponentInstanceType;
 use crate::nodes::Nodes;
 use crate::shapes::{ComponentDefinedType, ComponentFuncType, ComponentValType};
@@ -170,24 +168,6 @@ impl TypeAlloc {
         ensures { IsAbiOf result (slot_tree (trees self.now.nodes) (value_slot ty.now)) }
     {
         value_facts(self, Some(*ty)).abi
-    }
-
-    /// Whether nothing in the value type has to be named by an import or an export. It takes no memory.
-    #[tactic(auto, using(crate::proofs::Knowing::value_plain))]
-    pub fn is_plain_value(&self, ty: &ComponentValType) -> bool
-        requires { SlotStands self.now (value_slot ty.now) }
-        ensures { result ≡ is_named [] (slot_tree (trees self.now.nodes) (value_slot ty.now)) }
-    {
-        value_facts(self, Some(*ty)).plain
-    }
-
-    /// Whether nothing in the parameters and the result of a function has to be. It takes no memory.
-    #[tactic(auto, using(crate::proofs::Knowing::func_plain))]
-    pub fn is_plain_func(&self, id: ComponentFuncTypeId) -> bool
-        requires { Stands self.now (part.Func id) }
-        ensures { result ≡ passes [] (tree_at self.now (part.Func id)) }
-    {
-        self.nodes.facts(id.index as usize).plain
     }
 
     /// The node.

@@ -1,13 +1,14 @@
 // The resources that are free in types.
-ghost use Rattle.std.specs.Prelude.{◌≡◌, ◌<◌, suc, [], All, MatchOption, IfOk, OnOk, OnErr};
+ghost use Rattle.std.specs.Prelude.{◌≡◌, ◌<◌, suc, true, false, [], All, MatchOption, IfOk, OnOk, OnErr};
 ghost use Rattle.wcv_types.specs.Entities.{any_part, entity_tree, entry_trees, EntityStands, EntryStands};
-ghost use Rattle.wcv_types.specs.Gathering.{Gains, Continues, FreeAmong, FreeInSome, AllGathered};
+ghost use Rattle.wcv_types.specs.Gathering.{Gains, Continues, FreeAmong, FreeInSome, AllGathered, AllKnown};
 ghost use Rattle.wcv_types.specs.Resources.{Free};
 ghost use Rattle.wcv_types.specs.Standing.{Stands, StandsBefore, Unfolds};
-ghost use Rattle.wcv_types.specs.Unfold.{parts_at, rank, tree_at, trees};
+ghost use Rattle.wcv_types.specs.Unfold.{parts_at, rank, tree_at, tree_in, trees};
 
 use crate::arena::TypeAlloc;
 use crate::entry_parts::{part_of_any, push_entity, push_entries};
+use crate::free_sets::FreeSets;
 use crate::ids::{ComponentAnyTypeId, Part};
 use crate::item_map::ItemMap;
 use crate::parts::Parts;
@@ -15,7 +16,7 @@ use crate::place_set::PlaceSet;
 use crate::resource_set::ResourceSet;
 use crate::shapes::ComponentEntityType;
 use crate::sorts::NodeSort;
-use crate::unowned::free_outside;
+use crate::unowned::{free_outside, join};
 use wcv_core::OutOfMemory;
 
 /// The place of a node. A resource reference and a core type are none.
@@ -75,17 +76,42 @@ fn free_in_leaf(types: &TypeAlloc, part: Part, free: &mut ResourceSet) -> Result
     }
 }
 
+/// What is free in the node at this place joins the set, where it is known. The answer is whether it is.
+fn join_known(
+    types: &TypeAlloc,
+    place: u64,
+    known: &FreeSets,
+    free: &mut ResourceSet,
+) -> Result<bool, OutOfMemory>
+    requires { AllKnown types.now known.now }
+    ensures known { IfOk result (λ b. b ≡ true → Gains (λ r. Free r (tree_in (trees types.now.nodes) place)) free.old free.new) }
+    ensures unknown { IfOk result (λ b. b ≡ false → free.new ≡ free.old) }
+    ensures err { OnErr result (Continues free.old free.new) }
+{
+    let _ = types;
+    match known.get(place) {
+        Some(set) => {
+            join(set, free)?;
+            Ok(true)
+        }
+        None => Ok(false),
+    }
+}
+
 /// What is free in the type joins the set, unless the type was seen. From then on it was.
 #[cycle(free_below)]
 fn free_in_part(
     types: &TypeAlloc,
     part: Part,
+    known: &mut FreeSets,
     seen: &mut PlaceSet,
     free: &mut ResourceSet,
 ) -> Result<(), OutOfMemory>
     requires stands { Stands types.now part }
+    requires known { AllKnown types.now known.old }
     requires gathered { AllGathered types.now seen.old free.old }
     ensures ok { OnOk result (Gains (λ r. Free r (tree_at types.now part)) free.old free.new) }
+    ensures known { OnOk result (AllKnown types.now known.new) }
     ensures gathered { OnOk result (AllGathered types.now seen.new free.new) }
     ensures err { OnErr result (Continues free.old free.new) }
 {
@@ -99,7 +125,7 @@ fn free_in_part(
     if seen.contains(place) {
         return Ok(());
     }
-    free_in_node(types, part, seen, free)?;
+    free_in_node(types, part, place, known, seen, free)?;
     seen.push(place)
 }
 
@@ -108,53 +134,89 @@ fn free_in_part(
 fn free_in_node(
     types: &TypeAlloc,
     part: Part,
+    place: u64,
+    known: &mut FreeSets,
     seen: &mut PlaceSet,
     free: &mut ResourceSet,
 ) -> Result<(), OutOfMemory>
-    requires node { 0 < rank part }
+    requires place { rank part ≡ suc place }
     requires stands { Stands types.now part }
+    requires known { AllKnown types.now known.old }
     requires gathered { AllGathered types.now seen.old free.old }
     ensures ok { OnOk result (Gains (λ r. Free r (tree_at types.now part)) free.old free.new) }
+    ensures known { OnOk result (AllKnown types.now known.new) }
     ensures gathered { OnOk result (AllGathered types.now seen.new free.new) }
     ensures err { OnErr result (Continues free.old free.new) }
 {
-    let parts = parts_of(types, part)?;
     match part {
-        Part::Instance(_) | Part::Component(_) => {
-            free_in_scope(types, part, parts.as_slice(), free)
+        Part::Instance(_) | Part::Component(_) => { free_in_scope(types, part, place, known, free) }
+        _ => {
+            let parts = parts_of(types, part)?;
+            free_in_list(types, parts.as_slice(), known, seen, free)
         }
-        _ => free_in_list(types, parts.as_slice(), seen, free),
     }
 }
 
-/// So of a node that may own resources, over its parts.
+/// So of a node that may own resources. Its parts are gone through once in a walk, and what is free in it is
+/// known from then on.
 #[cycle(free_below)]
 fn free_in_scope(
     types: &TypeAlloc,
     part: Part,
-    parts: &[Part],
+    place: u64,
+    known: &mut FreeSets,
     free: &mut ResourceSet,
 ) -> Result<(), OutOfMemory>
-    requires node { 0 < rank part }
+    requires place { rank part ≡ suc place }
     requires stands { Stands types.now part }
-    requires unfolds { Unfolds types.now part }
-    requires parts { parts.now ≡ parts_at types.now part }
+    requires known { AllKnown types.now known.old }
     ensures ok { OnOk result (Gains (λ r. Free r (tree_at types.now part)) free.old free.new) }
+    ensures known { OnOk result (AllKnown types.now known.new) }
     ensures err { OnErr result (Continues free.old free.new) }
 {
-    let inside = free_within(types, parts)?;
-    free_outside(types, part, &inside, free)
+    if join_known(types, place, known, free)? {
+        return Ok(());
+    }
+    let outside = free_in_owner(types, part, known)?;
+    join(&outside, free)?;
+    known.put(place, outside)
+}
+
+/// What is free in a node that may own resources, in a set of its own.
+#[cycle(free_below)]
+fn free_in_owner(
+    types: &TypeAlloc,
+    part: Part,
+    known: &mut FreeSets,
+) -> Result<ResourceSet, OutOfMemory>
+    requires node { 0 < rank part }
+    requires stands { Stands types.now part }
+    requires known { AllKnown types.now known.old }
+    ensures ok { IfOk result (λ outside. Gains (λ r. Free r (tree_at types.now part)) [] outside) }
+    ensures known { OnOk result (AllKnown types.now known.new) }
+{
+    let parts = parts_of(types, part)?;
+    let inside = free_within(types, parts.as_slice(), known)?;
+    let mut outside = ResourceSet::new(types.allocator());
+    free_outside(types, part, &inside, &mut outside)?;
+    Ok(outside)
 }
 
 /// What is free in one of the types, in a set of its own.
 #[cycle(free_below)]
-fn free_within(types: &TypeAlloc, parts: &[Part]) -> Result<ResourceSet, OutOfMemory>
-    requires { All (Stands types.now) parts.now }
-    ensures { IfOk result (λ inside. Gains (λ r. FreeInSome types.now r parts.now) [] inside) }
+fn free_within(
+    types: &TypeAlloc,
+    parts: &[Part],
+    known: &mut FreeSets,
+) -> Result<ResourceSet, OutOfMemory>
+    requires stand { All (Stands types.now) parts.now }
+    requires known { AllKnown types.now known.old }
+    ensures ok { IfOk result (λ inside. Gains (λ r. FreeInSome types.now r parts.now) [] inside) }
+    ensures known { OnOk result (AllKnown types.now known.new) }
 {
     let mut seen = PlaceSet::new(types.allocator());
     let mut inside = ResourceSet::new(types.allocator());
-    free_in_list(types, parts, &mut seen, &mut inside)?;
+    free_in_list(types, parts, known, &mut seen, &mut inside)?;
     Ok(inside)
 }
 
@@ -163,17 +225,20 @@ fn free_within(types: &TypeAlloc, parts: &[Part]) -> Result<ResourceSet, OutOfMe
 fn free_in_list(
     types: &TypeAlloc,
     parts: &[Part],
+    known: &mut FreeSets,
     seen: &mut PlaceSet,
     free: &mut ResourceSet,
 ) -> Result<(), OutOfMemory>
     requires stand { All (Stands types.now) parts.now }
+    requires known { AllKnown types.now known.old }
     requires gathered { AllGathered types.now seen.old free.old }
     ensures ok { OnOk result (Gains (λ r. FreeInSome types.now r parts.now) free.old free.new) }
+    ensures known { OnOk result (AllKnown types.now known.new) }
     ensures gathered { OnOk result (AllGathered types.now seen.new free.new) }
     ensures err { OnErr result (Continues free.old free.new) }
 {
     for part in parts {
-        free_in_part(types, *part, seen, free)?;
+        free_in_part(types, *part, known, seen, free)?;
     }
     Ok(())
 }
@@ -189,8 +254,9 @@ impl TypeAlloc {
         ensures ok { OnOk result (Gains (λ r. Free r (tree_at self.now (any_part id))) free.old free.new) }
         ensures err { OnErr result (Continues free.old free.new) }
     {
+        let mut known = FreeSets::new(self.allocator());
         let mut seen = PlaceSet::new(self.allocator());
-        free_in_part(self, part_of_any(id), &mut seen, free)
+        free_in_part(self, part_of_any(id), &mut known, &mut seen, free)
     }
 
     /// So do those that are free in the type of what is imported or exported.
@@ -205,8 +271,9 @@ impl TypeAlloc {
     {
         let mut parts = Parts::new(self.allocator());
         push_entity(*ty, &mut parts)?;
+        let mut known = FreeSets::new(self.allocator());
         let mut seen = PlaceSet::new(self.allocator());
-        free_in_list(self, parts.as_slice(), &mut seen, free)
+        free_in_list(self, parts.as_slice(), &mut known, &mut seen, free)
     }
 
     /// So do those of all items. It looks once at what a type is made of, however many items have the type.
@@ -221,7 +288,8 @@ impl TypeAlloc {
     {
         let mut parts = Parts::new(self.allocator());
         push_entries(items.as_slice(), &mut parts)?;
+        let mut known = FreeSets::new(self.allocator());
         let mut seen = PlaceSet::new(self.allocator());
-        free_in_list(self, parts.as_slice(), &mut seen, free)
+        free_in_list(self, parts.as_slice(), &mut known, &mut seen, free)
     }
 }

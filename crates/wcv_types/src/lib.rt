@@ -18,6 +18,7 @@ mod entry_facts;
 mod entry_parts;
 mod explicit_paths;
 mod facts;
+mod free_sets;
 mod free_variables;
 mod func_facts;
 mod func_sort;
@@ -38,6 +39,8 @@ mod refill;
 mod renew;
 mod resource_set;
 mod same_types;
+mod shape_codes;
+mod shape_numbers;
 mod shapes;
 mod sorts;
 mod store;
@@ -48,6 +51,7 @@ mod unowned;
 ghost use Rattle.std.specs.Prelude.{◌≡◌, ◌⊎◌, ℕ, List, Contains, true, false, Some, None};
 ghost use Rattle.wcv_core.specs.CoreForm.{Group};
 ghost use Rattle.wcv_core.specs.Names.{Name, number};
+ghost use Rattle.wcv_types.specs.Alike.{Alike};
 ghost use Rattle.wcv_types.specs.Arena.{Arena};
 ghost use Rattle.wcv_types.specs.Identity.{Identity, of_node};
 ghost use Rattle.wcv_types.specs.Measure.{size, depth};
@@ -59,6 +63,7 @@ ghost use Rattle.wcv_types.specs.Replacing.{Replacement, new_resource, changed, 
 ghost use Rattle.wcv_types.specs.Resources.{owns, RefersTo, Free, substitute, Admits};
 ghost use Rattle.wcv_types.specs.Seen.{Within, seen};
 ghost use Rattle.wcv_types.specs.Rebuild.{MadeAgain, BecomesIn};
+ghost use Rattle.wcv_types.specs.ShapeNumbers.{AreApart, Codes, shape_number};
 ghost use Rattle.wcv_types.specs.Standing.{identity_of, Unfolds};
 ghost use Rattle.wcv_types.specs.Text.{type_text};
 ghost use Rattle.wcv_types.specs.Tree.{Extern_name, Tree, head};
@@ -161,6 +166,11 @@ pub fn rebuilding_is_replacing()
 /// A rebuilding leaves a type as it is where nothing in it goes to another.
 pub fn unchanged_types_stay()
     ensures { (m : Replacement) (t : Tree Name Name) → GivesSame m t → changed m t ≡ false → replaced m t ≡ t }
+{}
+
+/// Where no two codes have one number, types whose shapes have numbers look alike exactly where these are equal.
+pub fn equal_numbers_are_equal_shapes()
+    ensures { (m : Codes) (s t : Tree Name Name) (a b : ℕ) → AreApart m → shape_number m s ≡ Some a → shape_number m t ≡ Some b → (a ≡ b → Alike s t) × (Alike s t → a ≡ b) }
 {}
 
 /// What is seen of a type looks at no identity.

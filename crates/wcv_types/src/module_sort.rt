@@ -32,6 +32,7 @@ fn module_again(alloc: Global, shape: &ModuleType) -> Result<ModuleType, OutOfMe
     ensures info { IfOk result (λ s. s.info ≡ shape.now.info) }
     ensures imports { IfOk result (λ s. s.imports ≡ shape.now.imports) }
     ensures exports { IfOk result (λ s. s.exports ≡ shape.now.exports) }
+    ensures types { IfOk result (λ s. s.types.items ≡ shape.now.types.items) }
 {
     Ok(ModuleType {
         info: shape.info,

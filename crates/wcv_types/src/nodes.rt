@@ -1,14 +1,17 @@
 // The nodes of an arena, each with what is kept of it.
-ghost use Rattle.std.specs.Prelude.{◌≡◌, ◌<◌, [], ◌∷◌, ◌++◌, length, slice_get, Some, OnOk, OnErr};
+ghost use Rattle.std.specs.Prelude.{◌≡◌, ◌<◌, [], ◌∷◌, ◌++◌, length, slice_get, true, Some, OnOk, OnErr};
 ghost use Rattle.wcv_types.specs.Facts.{IsFactsOf};
+ghost use Rattle.wcv_types.specs.ShapeNumbers.{Numbered};
 ghost use Rattle.wcv_types.specs.Unfold.{head_of, slots_of, slot_parts, tree_of, tree_in, trees};
 ghost use Rattle.wcv_types.specs.Tree as tree;
 ghost use Rattle.wcv_types.specs.declared.arena.Node.{Node};
 
 use crate::arena::Node;
 use crate::facts::Facts;
+use crate::shape_numbers::ShapeNumbers;
 use std::alloc::Global;
 use std::marker::Model;
+use std::mem::replace;
 use wcv_core::OutOfMemory;
 
 /// What a node is made of, and what is kept of it. Equal nodes share it.
@@ -24,18 +27,21 @@ pub struct Nodes {
     known: Vec<Known>,
     /// Of each node, where it stands among those.
     positions: Vec<usize>,
+    /// The numbers that their shapes were given.
+    numbers: ShapeNumbers,
 }
 
 impl Model for Nodes {
     ghost use Rattle.std.specs.Prelude.{List};
     ghost use Rattle.wcv_types.specs.Facts.{nodes_at, AllKnown};
+    ghost use Rattle.wcv_types.specs.ShapeNumbers.{Numbered};
     ghost use Rattle.wcv_types.specs.declared.arena.Node.{Node};
 
     ghost Value = { List Node };
 
     ghost view = { λ n. nodes_at n.known.items n.positions.items };
 
-    ghost invariant = { λ n. AllKnown n.known.items n.positions.items };
+    ghost invariant = { λ n. AllKnown n.known.items n.positions.items × Numbered (nodes_at n.known.items n.positions.items) n.numbers };
 }
 
 impl Nodes {
@@ -46,6 +52,7 @@ impl Nodes {
         Nodes {
             known: Vec::new(alloc),
             positions: Vec::new(alloc),
+            numbers: ShapeNumbers::new(alloc),
         }
     }
 
@@ -107,5 +114,41 @@ impl Nodes {
         ensures { IsFactsOf result (tree_in (trees self.now) place) }
     {
         self.known(place).facts
+    }
+
+    /// Where the node at that place stands among what nodes are made of.
+    pub fn position(&self, place: usize) -> u64
+        requires { place < length self.now }
+    {
+        self.positions[place] as u64
+    }
+
+    /// Whether two places share what their node is made of.
+    #[tactic(auto, using(crate::proofs::Sharing::shared_nodes))]
+    pub fn shares(&self, a: usize, b: usize) -> bool
+        requires a { a < length self.now }
+        requires b { b < length self.now }
+        ensures { result ≡ true → slice_get self.now a ≡ slice_get self.now b }
+    {
+        if self.positions[a] != self.positions[b] {
+            return false;
+        }
+        true
+    }
+
+    /// The numbers of shapes, which are not there until they are put back.
+    pub fn take_numbers(&mut self, alloc: Global) -> ShapeNumbers
+        ensures numbers { Numbered self.old result }
+        ensures same { self.new ≡ self.old }
+    {
+        replace(&mut self.numbers, ShapeNumbers::new(alloc))
+    }
+
+    /// The numbers of shapes are these from then on.
+    pub fn put_numbers(&mut self, numbers: ShapeNumbers)
+        requires { Numbered self.old numbers }
+        ensures { self.new ≡ self.old }
+    {
+        self.numbers = numbers;
     }
 }

@@ -1,8 +1,9 @@
 // Arenas whose every read is counted.
 ghost use Rattle.std.specs.Prelude.{◌≡◌, ◌+◌, ◌<◌, [], slice_get, Some, IfOk, OnErr};
+ghost use Rattle.wcv_types.specs.Led.{Led};
 ghost use Rattle.wcv_types.specs.Rebuild.{Refits, Rebuilt};
 ghost use Rattle.wcv_types.specs.Standing.{Stands, Unfolds};
-ghost use Rattle.wcv_types.specs.Unfold.{place, parts_at, parts_of};
+ghost use Rattle.wcv_types.specs.Unfold.{place, parts_at, parts_of, tree_at};
 
 use crate::arena::TypeAlloc;
 use crate::parts::Parts;
@@ -61,6 +62,7 @@ pub trait NodeStore {
         ensures found { slice_get (arena self.now).nodes (place (S.as_part id)) ≡ Some (S.as_node result.now) }
         ensures parts { parts_at (arena self.now) (S.as_part id) ≡ parts_of (S.as_node result.now) }
         ensures unfolds { Unfolds (arena self.now) (S.as_part id) }
+        ensures led { Led (tree_at (arena self.now) (S.as_part id)) }
         ensures counted { steps.new ≡ steps.old + 1 };
 
     /// The same type with other parts. It shows no node.
@@ -82,6 +84,7 @@ impl NodeStore for TypeAlloc {
 
     fn view<S: NodeSort, L: Ledger>(&self, id: S, steps: &mut Steps<L>) -> &S::Shape {
         steps.tick();
+        self.nodes_fit();
         S::node(self, id)
     }
 

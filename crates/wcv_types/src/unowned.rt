@@ -48,6 +48,20 @@ pub fn free_outside(
     Ok(())
 }
 
+/// The resources of a set join another.
+pub fn join(set: &ResourceSet, free: &mut ResourceSet) -> Result<(), OutOfMemory>
+    ensures ok { OnOk result (Gains (λ r. member r (resource_names set.now) ≡ true) free.old free.new) }
+    ensures err { OnErr result (Continues free.old free.new) }
+{
+    for k in 0..set.len() {
+        match set.get_index(k) {
+            Some(id) => free.push(*id)?,
+            None => unreachable!(),
+        }
+    }
+    Ok(())
+}
+
 /// A resource joins the set, unless the type owns it.
 fn push_unowned(
     types: &TypeAlloc,

@@ -1,6 +1,5 @@
-use Rattle.std.proofs.Common.{◌≡◌, ℕ, List, [], ◌∷◌, ◌++◌, sym, ◌∙◌, ap}
+use Rattle.std.proofs.Common.{ℕ, List, [], ◌∷◌, ◌++◌, sym, ◌∙◌, ap}
 use Rattle.std.proofs.lemmas.Result.{on_ok_weaker}
-use Rattle.wcv_types.specs.declared.ids.ResourceId.{ResourceId}
 use Rattle.wcv_types.proofs.Finding.{finds_one}
 use Rattle.wcv_types.proofs.explicit_paths.find_resource.Goals as goal
 

@@ -1,13 +1,14 @@
 use Rattle.std.proofs.Common.{rules, arith, ◌≡◌, ◌<◌, ◌≤◌, ℕ, List, [], length, take_all, sym, ◌∙◌, ap, subst, false}
 use Rattle.std.proofs.lemmas.Result.{on_ok_weaker}
 use Rattle.wcv_core.specs.Names.{Name}
-use Rattle.wcv_types.specs.Gathering.{Gains, FreeInSome, AllGathered}
+use Rattle.wcv_types.specs.Gathering.{Gains, FreeInSome, AllGathered, AllKnown}
 use Rattle.wcv_types.specs.Resources.{Free, mentions}
 use Rattle.wcv_types.specs.Unfold.{Type_tree, rank, parts_at, tree_at}
 use Rattle.wcv_types.specs.declared.ids.Part.{Part}
 use Rattle.wcv_types.specs.declared.ids.Part.TheVariants as p
+use Rattle.wcv_types.specs.declared.ids.ResourceId.{ResourceId}
 use Rattle.wcv_types.proofs.Gaining.{gains_held, gains_nothing}
-use Rattle.wcv_types.proofs.Gathered.{seen_gathered, gathered_kept, gathered_push, closed, node_tree, no_reference, owns_nothing, gains_node, gains_scope, gains_next, rank_within, parts_ready}
+use Rattle.wcv_types.proofs.Gathered.{seen_gathered, gathered_kept, gathered_push, closed, node_tree, no_reference, owns_nothing, gains_node, gains_scope, gains_next, Outside, known_put, rank_within, parts_ready}
 use Rattle.wcv_types.proofs.Grown.{stands_rank}
 use Rattle.wcv_types.proofs.free_variables.+free_below.Goals as goal
 
@@ -48,47 +49,59 @@ free_in_node-returns-in-Instance-clause-gathered t c =
 
 pub free_in_node-free_in_list-requires : goal.free_in_node-free_in_list-requires
 free_in_node-free_in_list-requires t c =
+    let some : 0 < rank c.args.part = omega (arith, c.requires.place) in
     let w =
-    parts_ready c.args.types.now (rank c.args.part) (parts_at c.args.types.now c.args.part) c.as_slice-in_default.result.now (c.as_slice-in_default.ensures ∙ c.in_ok-parts.ensures.parts) c.parts_of.ensures.unfolds.before c.requires.node in
-    (omega (arith, w.0, c.decreases), (w.1, c.requires.gathered))
+    parts_ready c.args.types.now (rank c.args.part) (parts_at c.args.types.now c.args.part) c.as_slice.result.now (c.as_slice.ensures ∙ c.in_ok-parts-in_default.ensures.parts) c.parts_of.ensures.unfolds.before some in
+    (omega (arith, w.0, c.decreases), (w.1, (c.requires.known, c.requires.gathered)))
 
-pub free_in_node-returns : goal.free_in_node-returns
-free_in_node-returns t c = record {
-  ok = on_ok_weaker c.free_in_list.result
-      (λ g. gains_node c.args.types.now c.args.part c.args.free.now c.free_in_list.new.free c.parts_of.ensures.unfolds (λ r. no_reference c.args.types.now c.args.part r c.requires.node c.requires.stands)
-      (λ r. owns_nothing c.args.types.now c.args.part r c.requires.stands c.in_default.not-Instance c.in_default.not-Component)
-      (subst (λ (qs : List Part). Gains (λ r. FreeInSome c.args.types.now r qs) c.args.free.now c.free_in_list.new.free) (c.as_slice-in_default.ensures ∙ c.in_ok-parts.ensures.parts) g))
-      c.free_in_list.ensures.ok;
-  gathered = c.free_in_list.ensures.gathered;
-  err = c.free_in_list.ensures.err;
-}
+pub free_in_node-returns-in_ok-parts-in_default : goal.free_in_node-returns-in_ok-parts-in_default
+free_in_node-returns-in_ok-parts-in_default t c =
+    let some : 0 < rank c.args.part = omega (arith, c.requires.place) in
+    record {
+      ok = on_ok_weaker c.free_in_list.result
+          (λ g. gains_node c.args.types.now c.args.part c.args.free.now c.free_in_list.new.free c.parts_of.ensures.unfolds (λ r. no_reference c.args.types.now c.args.part r some c.requires.stands)
+          (λ r. owns_nothing c.args.types.now c.args.part r c.requires.stands c.in_default.not-Instance c.in_default.not-Component)
+          (subst (λ (qs : List Part). Gains (λ r. FreeInSome c.args.types.now r qs) c.args.free.now c.free_in_list.new.free) (c.as_slice.ensures ∙ c.in_ok-parts-in_default.ensures.parts) g))
+          c.free_in_list.ensures.ok;
+      known = c.free_in_list.ensures.known;
+      gathered = c.free_in_list.ensures.gathered;
+      err = c.free_in_list.ensures.err;
+    }
 
 -- ## A node that may own resources
 
-pub free_in_scope-free_within-requires : goal.free_in_scope-free_within-requires
-free_in_scope-free_within-requires t c =
-    let w = parts_ready c.args.types.now (rank c.args.part) (parts_at c.args.types.now c.args.part) c.args.parts.now c.requires.parts c.requires.unfolds.before c.requires.node in
-    (omega (arith, w.0, c.decreases), w.1)
+pub free_in_owner-free_within-requires : goal.free_in_owner-free_within-requires
+free_in_owner-free_within-requires t c =
+    let w = parts_ready c.args.types.now (rank c.args.part) (parts_at c.args.types.now c.args.part) c.as_slice.result.now (c.as_slice.ensures ∙ c.in_ok-parts.ensures.parts) c.parts_of.ensures.unfolds.before c.requires.node in
+    (omega (arith, w.0, c.decreases), (w.1, c.requires.known))
 
-pub free_in_scope-returns-clause-ok : goal.free_in_scope-returns-clause-ok
-free_in_scope-returns-clause-ok t c =
-    on_ok_weaker c.free_outside.result
-    (λ g. gains_scope c.args.types.now c.args.part c.in_ok-inside.inside c.args.free.now c.free_outside.new.free c.requires.unfolds (λ r. no_reference c.args.types.now c.args.part r c.requires.node c.requires.stands)
-    (subst (λ (qs : List Part). Gains (λ r. FreeInSome c.args.types.now r qs) [] c.in_ok-inside.inside) c.requires.parts c.in_ok-inside.ensures) g)
-    c.free_outside.ensures.ok
+pub free_in_owner-returns-clause-ok : goal.free_in_owner-returns-clause-ok
+free_in_owner-returns-clause-ok t c =
+    gains_scope c.args.types.now c.args.part c.in_ok-inside.inside [] c.free_outside.new.free c.parts_of.ensures.unfolds (λ r. no_reference c.args.types.now c.args.part r c.requires.node c.requires.stands)
+    (subst (λ (qs : List Part). Gains (λ r. FreeInSome c.args.types.now r qs) [] c.in_ok-inside.inside) (c.as_slice.ensures ∙ c.in_ok-parts.ensures.parts) c.in_ok-inside.ensures.ok)
+    (subst (λ (rs : List ResourceId). Gains (Outside c.args.types.now c.args.part c.in_ok-inside.inside) rs c.free_outside.new.free) c.new-outside.ensures c.in_ok-free_outside.ensures.ok)
+
+pub free_in_scope-returns-clause-known : goal.free_in_scope-returns-clause-known
+free_in_scope-returns-clause-known t c =
+    on_ok_weaker c.put.result
+    (λ w. subst (AllKnown c.args.types.now) (sym w)
+    (known_put c.args.types.now c.free_in_owner.new.known c.args.place c.in_ok-outside.outside c.in_ok-outside.ensures.known
+    (subst (λ (x : Type_tree). Gains (λ r. Free r x) [] c.in_ok-outside.outside) (node_tree c.args.types.now c.args.part c.args.place c.requires.place) c.in_ok-outside.ensures.ok)))
+    c.put.ensures.ok
 
 -- ## Lists
 
 pub free_in_list-free_in_part-requires : goal.free_in_list-free_in_part-requires
 free_in_list-free_in_part-requires t c =
     let w : c.loop-part.part-index < length c.args.parts.now = search rules in
-    (omega (arith, rank_within c.args.parts.now c.loop-part.part-index (p.Defined (record { index = 0 })) w, c.decreases), (c.requires.stand c.loop-part.part-index (p.Defined (record { index = 0 })) w, c.loop-part.invariant.gathered))
+    (omega (arith, rank_within c.args.parts.now c.loop-part.part-index (p.Defined (record { index = 0 })) w, c.decreases), (c.requires.stand c.loop-part.part-index (p.Defined (record { index = 0 })) w, (c.loop-part.invariant.known, c.loop-part.invariant.gathered)))
 
 pub free_in_list-loop-part-preserved : goal.free_in_list-loop-part-preserved
 free_in_list-loop-part-preserved t c =
     let w : c.loop-part.part-index < length c.args.parts.now = search rules in
     record {
       gains = gains_next c.args.types.now c.args.parts.now c.loop-part.part-index (p.Defined (record { index = 0 })) c.args.free.now c.loop-part.free c.free_in_part.new.free w c.loop-part.invariant.gains c.in_ok-free_in_part.ensures.ok;
+      known = c.in_ok-free_in_part.ensures.known;
       gathered = c.in_ok-free_in_part.ensures.gathered;
     }
 

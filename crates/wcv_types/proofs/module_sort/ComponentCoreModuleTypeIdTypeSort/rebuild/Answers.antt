@@ -10,4 +10,4 @@ store-requires c =
 pub returns-clause-ok : goal.returns-clause-ok
 returns-clause-ok c =
     module_made _ _ c.args.self c.in_ok-made.made c.node.result.now c.in_ok-shape.shape c.args._parts.now c.node.ensures.found c.node.ensures.unfolds c.in_ok-shape.ensures.info c.in_ok-shape.ensures.imports c.in_ok-shape.ensures.exports
-    c.in_ok-made.ensures.added c.in_ok-made.ensures.last c.in_ok-made.ensures.stands
+    c.in_ok-shape.ensures.types c.in_ok-made.ensures.added c.in_ok-made.ensures.last c.in_ok-made.ensures.stands
