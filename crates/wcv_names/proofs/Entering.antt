@@ -11,10 +11,12 @@ use Rattle.wcv_core.specs.declared.features.WasmFeatures.{WasmFeatures}
 use Rattle.wcv_syntax.specs.ExternName.{Form}
 use Rattle.wcv_syntax.specs.FormOf.{form_of}
 use Rattle.wcv_types.specs.Tree.{Text, Extern_name}
-use Rattle.wcv_types.specs.Entities.{entry_trees}
-use Rattle.wcv_types.specs.Unfold.{Type_tree}
+use Rattle.wcv_types.specs.Arena.{Arena}
+use Rattle.wcv_types.specs.Entities.{entity_tree, entry_trees}
+use Rattle.wcv_types.specs.Unfold.{Type_tree, trees}
 use Rattle.wcv_types.specs.declared.info.TypeInfo.{TypeInfo}
 use Rattle.wcv_types.specs.declared.item_map.ComponentItem.{ComponentItem}
+use Rattle.wcv_types.specs.declared.shapes.ComponentEntityType.{ComponentEntityType}
 use Rattle.wcv_names.specs.FuncTrees.{names_in}
 use Rattle.wcv_names.specs.Externs.{is_instance_tree, has_key, conflicts, breaks_rule, entry_names, extern_checks, too_large_with}
 use Rattle.wcv_names.specs.KeySet.{HasKeys, key_text_of, keys_in}
@@ -23,18 +25,8 @@ use Rattle.wcv_names.specs.Rules.{Entries, follows}
 use Rattle.wcv_names.specs.WholeNames.{is_bad_name, lacks_feature, IsNameFault, NameRefused}
 
 -- whether the key is taken, by the set of keys
-key_there : (s : List Text) (names : List Text) (n : Text) (f : Form) → HasKeys s names → Some f ≡ form_of n → is_among (key_text_of f) s ≡ conflicts names n
-key_there s names n f h e = h (key_text_of f) ∙ ap (λ (o : Option Form). has_key o (keys_in names)) e
-
-not_is : (a b : Bool) → a ≡ not b → (a ≡ true → b ≡ false) × (a ≡ false → b ≡ true)
-not_is a true h = (λ e. let k : true ≡ false = sym e ∙ h in cc k, λ e. refl)
-not_is a false h = (λ e. refl, λ e. let k : false ≡ true = sym e ∙ h in cc k)
-
-pub key_new : (s : List Text) (names : List Text) (n : Text) (f : Form) (added : Bool) → HasKeys s names → Some f ≡ form_of n → added ≡ not (is_among (key_text_of f) s) → added ≡ true → conflicts names n ≡ false
-key_new s names n f added h e a k = sym (key_there s names n f h e) ∙ (not_is added (is_among (key_text_of f) s) a).0 k
-
-pub key_taken : (s : List Text) (names : List Text) (n : Text) (f : Form) (added : Bool) → HasKeys s names → Some f ≡ form_of n → added ≡ not (is_among (key_text_of f) s) → added ≡ false → conflicts names n ≡ true
-key_taken s names n f added h e a k = sym (key_there s names n f h e) ∙ (not_is added (is_among (key_text_of f) s) a).1 k
+pub key_stands : (s names : List Text) (n k : Text) (f : Form) (b : Bool) → HasKeys s names → Some f ≡ form_of n → k ≡ key_text_of f → b ≡ is_among k s → conflicts names n ≡ b
+key_stands s names n k f b h e w a = sym (a ∙ ap (λ (t : Text). is_among t s) w ∙ h (key_text_of f) ∙ ap (λ (o : Option Form). has_key o (keys_in names)) e)
 
 -- the names of entries by ids are those of their trees
 pub names_same : (ts : List Type_tree) (es : List (Text × ComponentItem)) → entry_names (entry_trees ts es) ≡ names_in es
@@ -83,6 +75,12 @@ module _ (ts : List Type_tree) (items : List (Text × ComponentItem)) (ns : Reso
 
   pub by_memory : {M : Type 0} (e : Error M) → error_kind e ≡ kind.OutOfMemory → MemoryOrCausedBy (extern_checks ns fs (entry_trees ts items) info n t) offset e
   by_memory e k = inl k
+
+-- so where the arena was handed on between
+pub by_size_later : {M : Type 0} (a b : Arena) (x : ComponentEntityType) (items : List (Text × ComponentItem)) (ns : Resource_names) (fs : WasmFeatures) (info : TypeInfo) (n : Extern_name) (offset : ℕ) (e : Error M) → a ≡ b →
+    MemoryOrCausedBy (too_large_with info (entity_tree (trees a.nodes) x)) offset e → MemoryOrCausedBy (extern_checks ns fs (entry_trees (trees b.nodes) items) info n (entity_tree (trees b.nodes) x)) offset e
+by_size_later a b x items ns fs info n offset e h w =
+    subst (λ (z : Arena). MemoryOrCausedBy (extern_checks ns fs (entry_trees (trees z.nodes) items) info n (entity_tree (trees z.nodes) x)) offset e) h (by_size (trees a.nodes) items ns fs info n (entity_tree (trees a.nodes) x) offset e w)
 
 -- the names with that of the entry
 pub keys_of_joined : (s : List Text) (es fs : List (Text × ComponentItem)) (e : Text × ComponentItem) → fs ≡ es ++ e ∷ [] → HasKeys s (names_in es ++ e.0 ∷ []) → HasKeys s (names_in fs)

@@ -29,11 +29,6 @@ use Rattle.wcv_names.proofs.Firsts.{first_tree}
 
 -- ## Getters and setters
 
-pub pair_free : (a : Access) (t : Type_tree) (o : Option Type_tree) → is_set a ≡ false → true ≡ is_paired_by a t o
-pair_free call t o h = refl
-pair_free get t o h = refl
-pair_free set t o h = cc h
-
 pub is_setter-set : (a : Access) → is_set a ≡ true → a ≡ set
 is_setter-set call h = cc h
 is_setter-set get h = cc h

@@ -1,3 +1,4 @@
+pub mod Texts
 pub mod ById
 pub mod ByNames
 pub mod Shaping

@@ -1,6 +1,6 @@
 -- A broken rule of a part is a broken rule of the whole name.
 use Rattle.std.proofs.Common.{◌≡◌, ℕ, Bool, true, false, not, cond, ◌||◌, ◌&&◌, ◌⊎◌, Option, Some, None, inl, inr, refl, sym, ap, ◌∙◌}
-use Rattle.std.specs.Prelude.{is_none}
+use Rattle.std.specs.Prelude.{is_none, is_some}
 use Rattle.std.proofs.lemmas.Bool.{or_left, or_right}
 use Rattle.wcv_core.specs.Refusal.{error_kind, error_offset}
 use Rattle.wcv_core.specs.declared.error.Error.{Error}
@@ -10,7 +10,7 @@ use Rattle.wcv_syntax.specs.ExternName.{Form, is_accessor, access_of}
 use Rattle.wcv_syntax.specs.FormOf.{form_of}
 use Rattle.wcv_syntax.specs.NameFaults.{has_accessors, fault_in, name_fault}
 use Rattle.wcv_types.specs.Tree.{Text, Extern_name}
-use Rattle.wcv_names.specs.WholeNames.{bad_suffix, bad_implements, bad_version, is_bad_name, lacks_accessors, lacks_canon_names, lacks_implements, lacks_feature, NameRefused}
+use Rattle.wcv_names.specs.WholeNames.{on_text, bad_suffix, bad_interface, says_more, has_implements, bad_implements, bad_version, is_bad_name, lacks_accessors, lacks_canon_names, lacks_implements, lacks_feature, NameRefused}
 
 module _ {M : Type 0} (inst : Bool) (fs : WasmFeatures) (n : Extern_name) (offset : ℕ) (e : Error M) (at : error_offset e ≡ offset) where
   pub by_name : error_kind e ≡ kind.Name → is_bad_name inst n ≡ true → NameRefused inst fs n offset e
@@ -39,6 +39,32 @@ module _ {M : Type 0} (inst : Bool) (fs : WasmFeatures) (n : Extern_name) (offse
 
   pub by_feature_implements : error_kind e ≡ kind.Feature → lacks_implements fs n ≡ true → NameRefused inst fs n offset e
   by_feature_implements k h = by_feature k (or_right (lacks_accessors fs (form_of n.name)) (lacks_canon_names fs n || lacks_implements fs n) (or_right (lacks_canon_names fs n) (lacks_implements fs n) h))
+
+-- what it says that it implements
+module _ (inst : Bool) (fs : WasmFeatures) (n : Extern_name) (f : Form) (t : Text) (form : Some f ≡ form_of n.name) (says : n.implements ≡ Some t) where
+  interface_is : bad_implements inst n ≡ bad_interface inst (Some f) t
+  interface_is = (λ j. on_text (bad_interface inst (sym form j)) (says j))
+
+  pub good_interface : bad_interface inst (Some f) t ≡ false → bad_implements inst n ≡ false
+  good_interface h = interface_is ∙ h
+
+  pub by_implemented : {M : Type 0} (offset : ℕ) (e : Error M) → error_kind e ≡ kind.Name → error_offset e ≡ offset → bad_interface inst (Some f) t ≡ true → NameRefused inst fs n offset e
+  by_implemented offset e k at h = by_implements inst fs n offset e at k (interface_is ∙ h)
+
+-- what needs the feature that is missing
+module _ (inst : Bool) (fs : WasmFeatures) (n : Extern_name) (lacks : has_implements fs ≡ false) where
+  pub lacks_nothing : says_more n ≡ false → lacks_implements fs n ≡ false
+  lacks_nothing h = ap (λ (b : Bool). b && not (has_implements fs)) h
+
+  pub says_nothing : says_more n ≡ false → bad_implements inst n ≡ false
+  says_nothing h = go n.implements h
+    where
+      go : (o : Option Text) → (is_some o || is_some n.external_id) ≡ false → on_text (bad_interface inst (form_of n.name)) o ≡ false
+      go None k = refl
+      go (Some t) k = cc k
+
+  pub by_more : {M : Type 0} (offset : ℕ) (e : Error M) → error_kind e ≡ kind.Feature → error_offset e ≡ offset → says_more n ≡ true → NameRefused inst fs n offset e
+  by_more offset e k at h = by_feature_implements inst fs n offset e at k ((λ j. h j && not (lacks j)))
 
 -- what the name alone is refused by
 module _ {M : Type 0} (inst : Bool) (fs : WasmFeatures) (n : Extern_name) (offset : ℕ) (e : Error M) where

@@ -1,8 +1,10 @@
 -- Why an entry may not join a list of imports or of exports.
 use Rattle.wcv_core.specs.Limits.{max_depth, max_size}
-use Rattle.std.specs.Prelude.{suc, max, ◌+◌, List, [], ◌∷◌, ◌++◌, map, Bool, true, false, not, Option, Some, None}
+use Rattle.std.specs.Prelude.{◌≡◌, ◌⊎◌, suc, max, ◌+◌, List, [], ◌∷◌, ◌++◌, map, Bool, true, false, not, Option, Some, None}
 use Rattle.wcv_core.specs.Checks.{Checks, too_many}
 use Rattle.wcv_core.specs.Label.{is_among}
+use Rattle.wcv_core.specs.Refusal.{error_kind}
+use Rattle.wcv_core.specs.declared.error.Error.{Error}
 use Rattle.wcv_core.specs.declared.error.ErrorKind.TheVariants as kind
 use Rattle.wcv_core.specs.declared.features.WasmFeatures.{WasmFeatures}
 use Rattle.wcv_syntax.specs.ExternName.{Form, Access, call, get, set}
@@ -14,7 +16,7 @@ use Rattle.wcv_types.specs.Unfold.{Type_tree}
 use Rattle.wcv_types.specs.declared.info.TypeInfo.{TypeInfo}
 use Rattle.wcv_types.specs.declared.item_map.ComponentItem.{ComponentItem}
 use Rattle.wcv_types.specs.declared.shapes.ComponentEntityType.{ComponentEntityType}
-use Rattle.wcv_names.specs.KeySet.{key_text_of, keys_in}
+use Rattle.wcv_names.specs.KeySet.{HasKeys, key_text_of, keys_in}
 use Rattle.wcv_names.specs.ResourceNames.{Resource_names}
 use Rattle.wcv_names.specs.Rules.{Entries, follows}
 use Rattle.wcv_names.specs.WholeNames.{is_bad_name, lacks_feature}
@@ -74,3 +76,7 @@ extern_checks ns fs es info n t = name_checks ns fs es n t ++ too_large_with inf
 -- the entry of an entity under a whole name
 abbrev pub entry_of : ComponentExternName → ComponentEntityType → Text × ComponentItem
 entry_of n x = (n.name, record { ty = x; implements = n.implements; version_suffix = n.version_suffix; external_id = n.external_id })
+
+-- after an error the keys, and the size and depth, are as they were; out of memory they may be those with the entry
+abbrev pub IsLeft : {M : Type 0} → List Text → List Text → TypeInfo → TypeInfo → List Text → Text → Type_tree → Error M → Type 0
+IsLeft ks ls info later names n t e = ((ls ≡ ks) × (later ≡ info)) ⊎ ((error_kind e ≡ kind.OutOfMemory) × HasKeys ls (names ++ n ∷ []) × (later ≡ with_entry info t))

@@ -1,7 +1,6 @@
 -- What a set of keys holds: the keys of names.
-use Rattle.std.specs.Prelude.{ℕ, List, [], ◌∷◌, map, ◌≡◌, Option, Some, None}
+use Rattle.std.specs.Prelude.{List, [], ◌∷◌, ◌≡◌, Option, Some, None}
 use Rattle.wcv_core.specs.Label.{is_among}
-use Rattle.wcv_core.specs.LabelSet.{Numbered, AreNumbered, texts}
 use Rattle.wcv_syntax.specs.ExternName.{Form}
 use Rattle.wcv_syntax.specs.FormOf.{form_of}
 use Rattle.wcv_syntax.specs.Keys.{key_of, key_text}
@@ -22,13 +21,3 @@ keys_in (t ∷ ts) = with_key (form_of t) (keys_in ts)
 -- the set has exactly the keys of these names
 abbrev pub HasKeys : List Text → List Text → Type 0
 HasKeys set names = (t : Text) → is_among t set ≡ is_among t (keys_in names)
-
--- ## Texts with places
-
--- the texts without their numbers and places
-abbrev pub placed : List (Numbered × ℕ) → List Text
-placed es = texts (map (λ e. e.0) es)
-
--- each text is behind its own number
-abbrev pub AllNumbered : List (Numbered × ℕ) → Type 0
-AllNumbered es = AreNumbered (map (λ e. e.0) es)

@@ -1,3 +1,4 @@
+pub mod TextSet
 pub mod ResourceNames
 pub mod SameItems
 pub mod SameValues

@@ -41,8 +41,11 @@ abbrev pub bad_suffix : Bool → Extern_name → Bool
 bad_suffix inst n = on_text (λ s. not inst || ((length s == 0) || not (is_some n.implements || is_interface (form_of n.name)))) n.version_suffix
 
 -- what is implemented stands at instances alone, beside a label with no mark, and is an interface
+abbrev pub bad_interface : Bool → Option Form → Text → Bool
+bad_interface inst name t = not inst || (not (is_bare name) || not (is_interface (form_of t)))
+
 abbrev pub bad_implements : Bool → Extern_name → Bool
-bad_implements inst n = on_text (λ t. not inst || (not (is_bare (form_of n.name)) || not (is_interface (form_of t)))) n.implements
+bad_implements inst n = on_text (bad_interface inst (form_of n.name)) n.implements
 
 -- the interface whose version is looked at: what is implemented, or else the name
 abbrev pub text_or : Option Text → Text → Text
@@ -71,8 +74,12 @@ lacks_accessors fs (Some f) = is_accessor (access_of f) && not (has_accessors fs
 abbrev pub lacks_canon_names : WasmFeatures → Extern_name → Bool
 lacks_canon_names fs n = is_some n.version_suffix && not (has_canon_names fs)
 
+-- it says what it implements, or has an id from outside
+abbrev pub says_more : Extern_name → Bool
+says_more n = is_some n.implements || is_some n.external_id
+
 abbrev pub lacks_implements : WasmFeatures → Extern_name → Bool
-lacks_implements fs n = (is_some n.implements || is_some n.external_id) && not (has_implements fs)
+lacks_implements fs n = says_more n && not (has_implements fs)
 
 -- a feature is missing that the name needs
 abbrev pub lacks_feature : WasmFeatures → Extern_name → Bool

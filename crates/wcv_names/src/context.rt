@@ -1,29 +1,32 @@
 // The names of resources.
-ghost use Rattle.std.specs.Prelude.{◌≡◌, ◌||◌, [], ◌∷◌, ◌++◌, ℕ, List, None, bytes_eq, OnOk, IfOk, OnErr};
+ghost use Rattle.std.specs.Prelude.{◌≡◌, ◌||◌, [], ◌∷◌, ◌++◌, ℕ, List, None, bytes_eq, OnOk, OnErr};
 ghost use Rattle.wcv_core.specs.Label.{is_among};
 ghost use Rattle.wcv_types.specs.Unfold.{reference};
 ghost use Rattle.wcv_names.specs.ResourceNames.{is_named_so, name_of, names_of, reference_of};
 
+use crate::text_set::TextSet;
 use std::alloc::Global;
 use std::marker::Model;
-use wcv_core::{IndexMapAppendOnly, LabelSet, OutOfMemory, Text};
+use wcv_core::{IndexMapAppendOnly, OutOfMemory};
 use wcv_types::AliasableResourceId;
 
-/// The names of resources in a list of imports or of exports. Contracts see each reference with its name,
-/// in order, and the names.
+/// The names of resources in a list of imports or of exports, each once, and of each reference the position of
+/// its name among them. Contracts see each reference with its name, in order, and the names.
 #[derive(Drop)]
 pub struct ComponentNameContext {
-    references: IndexMapAppendOnly<AliasableResourceId, Text>,
-    names: LabelSet,
+    places: IndexMapAppendOnly<AliasableResourceId, usize>,
+    names: TextSet,
     alloc: Global,
 }
 
 impl Model for ComponentNameContext {
-    ghost use Rattle.wcv_names.specs.ResourceNames.{Named_ids};
+    ghost use Rattle.wcv_names.specs.ResourceNames.{Named_ids, named_by, AllNamed};
 
     ghost Value = { Named_ids };
 
-    ghost view = { λ c. record { references = c.references; names = c.names } };
+    ghost view = { λ c. record { references = named_by c.names c.places; names = c.names } };
+
+    ghost invariant = { λ c. AllNamed c.names c.places };
 }
 
 impl ComponentNameContext {
@@ -32,8 +35,8 @@ impl ComponentNameContext {
         ensures { result ≡ record { references = []; names = [] } }
     {
         ComponentNameContext {
-            references: IndexMapAppendOnly::new(alloc),
-            names: LabelSet::new(alloc),
+            places: IndexMapAppendOnly::new(alloc),
+            names: TextSet::new(alloc),
             alloc,
         }
     }
@@ -50,27 +53,24 @@ impl ComponentNameContext {
         ensures names { OnOk result ((t : List ℕ) → is_among t self.new.names ≡ (bytes_eq t name.now || is_among t self.old.names)) }
         ensures err { OnErr result (self.new.references ≡ self.old.references) }
     {
-        let text = Text::new(self.alloc, name)?;
-        let key = String::from_str(self.alloc, name)?;
-        self.names.insert_text(key)?;
-        self.references.insert(id, text)
+        let place = self.names.place_of(name)?;
+        self.places.insert(id, place)
     }
 
     /// Whether the reference has the name.
     pub fn is_named(&self, id: &AliasableResourceId, name: &str) -> bool
         ensures { result ≡ is_named_so (names_of self.now) name.now (reference id.now) }
     {
-        match self.references.get(id) {
-            Some(text) => text.as_str() == name,
+        match self.places.get(id) {
+            Some(place) => self.names.is_at(*place, name),
             None => false,
         }
     }
 
     /// Whether some reference has the name.
-    pub fn has_name(&self, name: &str) -> Result<bool, OutOfMemory>
-        ensures { IfOk result (λ b. b ≡ is_among name.now self.now.names) }
+    pub fn has_name(&self, name: &str) -> bool
+        ensures { result ≡ is_among name.now self.now.names }
     {
-        let key = String::from_str(self.alloc, name)?;
-        Ok(self.names.has_text(key))
+        self.names.find(name).is_some()
     }
 }

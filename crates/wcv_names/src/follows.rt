@@ -13,7 +13,7 @@ ghost use Rattle.wcv_names.specs.KeySet.{HasKeys};
 ghost use Rattle.wcv_names.specs.ResourceNames.{names_of};
 ghost use Rattle.wcv_names.specs.Rules as rules;
 ghost use Rattle.wcv_names.specs.Rules.{follows};
-ghost use Rattle.wcv_names.specs.Shapes.{param_trees, FuncStands};
+ghost use Rattle.wcv_names.specs.Shapes.{option_tree, OptionStands};
 
 use crate::context::ComponentNameContext;
 use crate::functions::{func_of, func_part, gotten, taken};
@@ -22,7 +22,7 @@ use crate::wanted::Wanted;
 use std::alloc::Global;
 use wcv_core::{Error, ErrorKind, Excerpt, ExternKind, OutOfMemory, Text};
 use wcv_syntax::ComponentNameKind;
-use wcv_types::{ComponentEntityType, ComponentFuncType, ComponentItem, ItemMap, TypeAlloc};
+use wcv_types::{ComponentEntityType, ComponentItem, ComponentValType, ItemMap, TypeAlloc};
 
 fn is_setter(kind: &ComponentNameKind<'_>) -> bool
     ensures { result ≡ is_set (access_of (kind_view kind.now)) }
@@ -74,7 +74,7 @@ fn first_item<'a>(
     ensures { option_copied result ≡ lookup (bytes_eq name.now) items.now }
 {
     if names.len() == items.len() {
-        if let Some(place) = names.find(key) {
+        if let Some(place) = names.find(key.as_str()) {
             if let Some(entry) = items.get_index(place) {
                 if name.as_str() == entry.0.as_str() {
                     return Some(&entry.1);
@@ -85,19 +85,21 @@ fn first_item<'a>(
     items.get(name)
 }
 
-/// Whether a setter takes what the getter of the same spelling gives that stands before it.
+/// Whether a setter takes what the getter of the same spelling gives that stands before it. `wanted` is what it
+/// takes.
 fn is_paired(
     kind: &ComponentNameKind<'_>,
-    func: &ComponentFuncType,
+    wanted: Option<ComponentValType>,
     names: &NameSet,
     items: &ItemMap,
-    types: &TypeAlloc,
+    types: &mut TypeAlloc,
     alloc: Global,
 ) -> Result<bool, OutOfMemory>
-    requires func { FuncStands types.now func.now }
-    requires items { All (EntryStands types.now) items.now }
+    requires wanted { OptionStands types.old wanted }
+    requires items { All (EntryStands types.old) items.now }
     requires keys { HasKeys names.now (names_in items.now) }
-    ensures { IfOk result (λ b. b ≡ rules.is_paired_by (access_of (kind_view kind.now)) (rules.taken (kind_view kind.now) (param_trees types.now func.now.params.items)) (rules.getter_in (kind_view kind.now) (entry_trees (trees types.now.nodes) items.now))) }
+    ensures paired { IfOk result (λ b. b ≡ rules.is_paired_by (access_of (kind_view kind.now)) (option_tree types.old wanted) (rules.getter_in (kind_view kind.now) (entry_trees (trees types.old.nodes) items.now))) }
+    ensures types { types.new ≡ types.old }
 {
     if !is_setter(kind) {
         return Ok(true);
@@ -108,8 +110,8 @@ fn is_paired(
         Some(item) => gotten(&item.ty, types),
         None => return Ok(false),
     };
-    let wanted = taken(kind, func, types);
-    Ok(types.option_type_eq(wanted, given))
+    let same = types.option_type_eq(wanted, given)?;
+    Ok(same)
 }
 
 impl ComponentNameContext {
@@ -120,21 +122,22 @@ impl ComponentNameContext {
         ty: &ComponentEntityType,
         names: &NameSet,
         items: &ItemMap,
-        types: &TypeAlloc,
+        types: &mut TypeAlloc,
     ) -> Result<bool, OutOfMemory>
-        requires entity { EntityStands types.now ty.now }
-        requires items { All (EntryStands types.now) items.now }
+        requires entity { EntityStands types.old ty.now }
+        requires items { All (EntryStands types.old) items.now }
         requires keys { HasKeys names.now (names_in items.now) }
-        ensures { IfOk result (λ b. b ≡ follows (names_of self.now) (entry_trees (trees types.now.nodes) items.now) (kind_view kind.now) (entity_tree (trees types.now.nodes) ty.now)) }
+        ensures follows { IfOk result (λ b. b ≡ follows (names_of self.now) (entry_trees (trees types.old.nodes) items.now) (kind_view kind.now) (entity_tree (trees types.old.nodes) ty.now)) }
+        ensures types { types.new ≡ types.old }
     {
         match func_part(ty) {
             Some(id) => {
                 let func = func_of(types, id);
-                let fits = self.function_fits(kind, func, types)?;
-                if !fits {
+                if !self.function_fits(kind, func, types) {
                     return Ok(false);
                 }
-                let paired = is_paired(kind, func, names, items, types, self.allocator())?;
+                let wanted = taken(kind, func, types);
+                let paired = is_paired(kind, wanted, names, items, types, self.allocator())?;
                 Ok(paired)
             }
             None => Ok(is_free(kind)),
@@ -150,14 +153,15 @@ impl ComponentNameContext {
         ty: &ComponentEntityType,
         names: &NameSet,
         items: &ItemMap,
-        types: &TypeAlloc,
+        types: &mut TypeAlloc,
         offset: u64,
     ) -> Result<(), Error>
-        requires entity { EntityStands types.now ty.now }
-        requires items { All (EntryStands types.now) items.now }
+        requires entity { EntityStands types.old ty.now }
+        requires items { All (EntryStands types.old) items.now }
         requires keys { HasKeys names.now (names_in items.now) }
-        ensures ok { OnOk result (follows (names_of self.now) (entry_trees (trees types.now.nodes) items.now) (kind_view kind.now) (entity_tree (trees types.now.nodes) ty.now) ≡ true) }
-        ensures err { IfErr result (λ e. (error_kind e ≡ kinds.OutOfMemory) ⊎ ((error_kind e ≡ kinds.MethodName) × (error_offset e ≡ offset) × (follows (names_of self.now) (entry_trees (trees types.now.nodes) items.now) (kind_view kind.now) (entity_tree (trees types.now.nodes) ty.now) ≡ false))) }
+        ensures ok { OnOk result (follows (names_of self.now) (entry_trees (trees types.old.nodes) items.now) (kind_view kind.now) (entity_tree (trees types.old.nodes) ty.now) ≡ true) }
+        ensures err { IfErr result (λ e. (error_kind e ≡ kinds.OutOfMemory) ⊎ ((error_kind e ≡ kinds.MethodName) × (error_offset e ≡ offset) × (follows (names_of self.now) (entry_trees (trees types.old.nodes) items.now) (kind_view kind.now) (entity_tree (trees types.old.nodes) ty.now) ≡ false))) }
+        ensures types { types.new ≡ types.old }
     {
         if !self.follows(kind, ty, names, items, types)? {
             let word = list.desc();

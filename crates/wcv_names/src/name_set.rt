@@ -1,35 +1,30 @@
 // The keys of the names of one list.
-ghost use Rattle.std.specs.Prelude.{◌≡◌, ◌||◌, [], ◌∷◌, ◌++◌, ℕ, List, Some, length, not, bytes_eq, is_some, string_bytes, OnOk, OnErr, IfOk};
+ghost use Rattle.std.specs.Prelude.{◌≡◌, [], ◌∷◌, ◌++◌, false, length, bytes_eq, is_some, slice_get, option_copied, string_bytes, OnOk, OnErr};
 ghost use Rattle.std.specs.List.{IsDistinct};
 ghost use Rattle.wcv_core.specs.Label.{is_among};
-ghost use Rattle.wcv_syntax.specs.FormOf.{form_of};
-ghost use Rattle.wcv_syntax.specs.NameViews.{kind_view};
-ghost use Rattle.wcv_names.specs.KeySet.{HasKeys, key_text_of};
+ghost use Rattle.wcv_names.specs.KeySet.{HasKeys};
+ghost use Rattle.wcv_names.specs.TextSet.{with_text};
 
+use crate::text_set::TextSet;
 use std::alloc::Global;
-use std::collections::BTreeMap;
 use std::marker::Model;
-use wcv_core::{OutOfMemory, mix};
-use wcv_syntax::ComponentNameKind;
+use wcv_core::OutOfMemory;
 
-/// The keys of the names of one list, each once. Contracts see it as the list of their texts.
+/// The keys of the names of one list, each once, in the order in which they came. Contracts see it as the list
+/// of their texts.
 ///
-/// Each text stands behind the number that its bytes give, and has the place at which it came: that is where
-/// its name stands in a list that grew with the set.
+/// The position of a key is that of its name in a list that grew with the set.
 #[derive(Drop)]
 pub struct NameSet {
-    places: BTreeMap<(u64, String), usize>,
+    keys: TextSet,
 }
 
 impl Model for NameSet {
     ghost use Rattle.std.specs.Prelude.{ℕ, List};
-    ghost use Rattle.wcv_names.specs.KeySet.{AllNumbered, placed};
 
     ghost Value = { List (List ℕ) };
 
-    ghost view = { λ s. placed s.places.entries };
-
-    ghost invariant = { λ s. AllNumbered s.places.entries };
+    ghost view = { λ s. s.keys };
 }
 
 impl NameSet {
@@ -39,50 +34,55 @@ impl NameSet {
         ensures keys { HasKeys result [] }
     {
         NameSet {
-            places: BTreeMap::new(alloc),
+            keys: TextSet::new(alloc),
         }
     }
 
     /// How many keys there are. No two of them are one.
-    #[tactic(auto, using(crate::proofs::KeySets::texts_differ, crate::proofs::KeySets::as_many))]
     pub fn len(&self) -> usize
         ensures value { result ≡ length self.now }
         ensures unique { IsDistinct bytes_eq self.now }
     {
-        self.places.len()
+        self.keys.len()
     }
 
-    /// Adds a key. The answer is false exactly where the set has it already.
-    pub(crate) fn insert(&mut self, key: String) -> Result<bool, OutOfMemory>
-        ensures added { IfOk result (λ added. added ≡ not (is_among (string_bytes key) self.old)) }
-        ensures has { OnOk result ((t : List ℕ) → is_among t self.new ≡ (bytes_eq t (string_bytes key) || is_among t self.old)) }
+    /// Appends a key. A set that has it stays as it is.
+    pub fn push(&mut self, key: String) -> Result<(), OutOfMemory>
+        ensures ok { OnOk result (self.new ≡ with_text (string_bytes key) self.old) }
         ensures err { OnErr result (self.new ≡ self.old) }
     {
-        let number = mix(key.as_str());
-        let place = self.places.len();
-        let old = self.places.insert((number, key), place)?;
-        Ok(old.is_none())
+        self.keys.insert(key)?;
+        Ok(())
     }
 
-    /// Adds the key of a name of that form. The answer is false exactly where the set has it already.
-    pub(crate) fn insert_key_of(
-        &mut self,
-        kind: &ComponentNameKind<'_>,
-        alloc: Global,
-    ) -> Result<bool, OutOfMemory>
-        ensures added { IfOk result (λ added. added ≡ not (is_among (key_text_of (kind_view kind.now)) self.old)) }
-        ensures joins { OnOk result ((name : List ℕ) (names : List (List ℕ)) → Some (kind_view kind.now) ≡ form_of name → HasKeys self.old names → HasKeys self.new (names ++ name ∷ [])) }
+    /// The key at this position.
+    pub fn get_index(&self, k: usize) -> Option<&str>
+        ensures { option_copied result ≡ slice_get self.now k }
     {
-        let key = kind.key_text(alloc)?;
-        let added = self.insert(key)?;
-        Ok(added)
+        self.keys.get_index(k)
     }
 
-    /// The place of a key.
-    pub(crate) fn find(&self, key: String) -> Option<usize>
-        ensures { is_some result ≡ is_among (string_bytes key) self.now }
+    /// Whether the key is there.
+    pub fn contains(&self, key: &str) -> bool
+        ensures { result ≡ is_among key.now self.now }
     {
-        let number = mix(key.as_str());
-        self.places.get(&(number, key)).copied()
+        self.find(key).is_some()
+    }
+
+    /// Appends a key that is new.
+    pub(crate) fn append(&mut self, key: String) -> Result<(), OutOfMemory>
+        requires { is_among (string_bytes key) self.old ≡ false }
+        ensures ok { OnOk result (self.new ≡ self.old ++ string_bytes key ∷ []) }
+        ensures err { OnErr result (self.new ≡ self.old) }
+    {
+        self.keys.append(key)?;
+        Ok(())
+    }
+
+    /// The position of a key.
+    pub(crate) fn find(&self, key: &str) -> Option<usize>
+        ensures { is_some result ≡ is_among key.now self.now }
+    {
+        self.keys.find(key)
     }
 }

@@ -1,5 +1,5 @@
 // Functions, as names speak of them.
-ghost use Rattle.std.specs.Prelude.{◌≡◌, IfOk};
+ghost use Rattle.std.specs.Prelude.{◌≡◌};
 ghost use Rattle.wcv_syntax.specs.NameViews.{kind_view};
 ghost use Rattle.wcv_names.specs.ResourceNames.{names_of};
 ghost use Rattle.wcv_names.specs.Rules as rules;
@@ -8,7 +8,7 @@ ghost use Rattle.wcv_names.specs.Shapes.{option_tree, param_trees, FuncStands, P
 
 use crate::context::ComponentNameContext;
 use crate::values::{if_ok, is_left_out};
-use wcv_core::{OutOfMemory, Text};
+use wcv_core::Text;
 use wcv_syntax::ComponentNameKind;
 use wcv_types::{ComponentFuncType, ComponentValType, TypeAlloc};
 
@@ -74,37 +74,33 @@ impl ComponentNameContext {
         kind: &ComponentNameKind<'_>,
         func: &ComponentFuncType,
         types: &TypeAlloc,
-    ) -> Result<bool, OutOfMemory>
+    ) -> bool
         requires { FuncStands types.now func.now }
-        ensures { IfOk result (λ b. b ≡ rules.function_fits (names_of self.now) (kind_view kind.now) func.now.async_ (param_trees types.now func.now.params.items) (option_tree types.now func.now.result)) }
+        ensures { result ≡ rules.function_fits (names_of self.now) (kind_view kind.now) func.now.async_ (param_trees types.now func.now.params.items) (option_tree types.now func.now.result) }
     {
         let params = func.params.as_slice();
         let rest = behind_first(params);
         match kind {
-            ComponentNameKind::Label(_) | ComponentNameKind::Interface(_) => Ok(true),
-            ComponentNameKind::Getter(_) => Ok(is_getter(func, params, types)),
-            ComponentNameKind::Setter(_) => Ok(is_setter(func, params, types)),
+            ComponentNameKind::Label(_) | ComponentNameKind::Interface(_) => true,
+            ComponentNameKind::Getter(_) => is_getter(func, params, types),
+            ComponentNameKind::Setter(_) => is_setter(func, params, types),
             ComponentNameKind::Constructor(resource) => {
                 let made = if_ok(types, func.result);
-                Ok(!func.async_ && self.is_own(types, made, resource))
+                !func.async_ && self.is_own(types, made, resource)
             }
-            ComponentNameKind::Method(resource, _) => {
-                Ok(self.takes_self(params, types, resource))
-            }
+            ComponentNameKind::Method(resource, _) => self.takes_self(params, types, resource),
             ComponentNameKind::MethodGetter(resource, _) => {
-                Ok(self.takes_self(params, types, resource) && is_getter(func, rest, types))
+                self.takes_self(params, types, resource) && is_getter(func, rest, types)
             }
             ComponentNameKind::MethodSetter(resource, _) => {
-                Ok(self.takes_self(params, types, resource) && is_setter(func, rest, types))
+                self.takes_self(params, types, resource) && is_setter(func, rest, types)
             }
             ComponentNameKind::Static(resource, _) => self.has_name(resource),
             ComponentNameKind::StaticGetter(resource, _) => {
-                let has = self.has_name(resource)?;
-                Ok(has && is_getter(func, params, types))
+                self.has_name(resource) && is_getter(func, params, types)
             }
             ComponentNameKind::StaticSetter(resource, _) => {
-                let has = self.has_name(resource)?;
-                Ok(has && is_setter(func, params, types))
+                self.has_name(resource) && is_setter(func, params, types)
             }
         }
     }

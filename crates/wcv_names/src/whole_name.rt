@@ -98,31 +98,30 @@ fn check_suffix(
     Ok(())
 }
 
-/// Whether the name may say that it implements an interface, and have an id from outside.
-#[tactic(auto, using(crate::proofs::NameRules::by_implements, crate::proofs::NameRules::by_feature_implements))]
-fn check_implements(
-    name: &ComponentExternName,
+/// Whether the name has nothing beside it that needs the feature of names that implement an interface.
+fn check_plain(name: &ComponentExternName, offset: u64) -> Result<(), Error>
+    ensures ok { OnOk result (rules.says_more (extern_name name.now) ≡ false) }
+    ensures err { IfErr result (λ e. (error_kind e ≡ kinds.Feature) × (error_offset e ≡ offset) × (rules.says_more (extern_name name.now) ≡ true)) }
+{
+    if name.external_id.is_some() {
+        return Err(missing("cm-implements", "an external id", offset));
+    }
+    if name.implements.is_some() {
+        return Err(missing("cm-implements", "`implements`", offset));
+    }
+    Ok(())
+}
+
+/// Whether a name of that form may say that it implements what the text names.
+fn check_implemented(
+    text: &str,
     kind: &ComponentNameKind<'_>,
     is_instance: bool,
     offset: u64,
-    features: &WasmFeatures,
 ) -> Result<(), Error>
-    requires { Some (kind_view kind.now) ≡ form_of name.now.name }
-    ensures rule { OnOk result (rules.bad_implements is_instance (extern_name name.now) ≡ false) }
-    ensures feature { OnOk result (rules.lacks_implements features.now (extern_name name.now) ≡ false) }
-    ensures err { IfErr result (NameRefused is_instance features.now (extern_name name.now) offset) }
+    ensures ok { OnOk result (rules.bad_interface is_instance (Some (kind_view kind.now)) text.now ≡ false) }
+    ensures err { IfErr result (λ e. (error_kind e ≡ kinds.Name) × (error_offset e ≡ offset) × (rules.bad_interface is_instance (Some (kind_view kind.now)) text.now ≡ true)) }
 {
-    let has = features.contains(WasmFeatures::CM_IMPLEMENTS);
-    if name.external_id.is_some() && !has {
-        return Err(missing("cm-implements", "an external id", offset));
-    }
-    let text = match &name.implements {
-        Some(text) => text.as_str(),
-        None => return Ok(()),
-    };
-    if !has {
-        return Err(missing("cm-implements", "`implements`", offset));
-    }
     if !is_instance {
         return Err(bad_name(offset, "`implements` stands at instances alone"));
     }
@@ -143,6 +142,29 @@ fn check_implements(
                 ),
             ))
         }
+    }
+}
+
+/// Whether the name may say that it implements an interface, and have an id from outside.
+#[tactic(auto, using(crate::proofs::NameRules::by_implemented, crate::proofs::NameRules::by_more, crate::proofs::NameRules::good_interface, crate::proofs::NameRules::lacks_nothing, crate::proofs::NameRules::says_nothing))]
+fn check_implements(
+    name: &ComponentExternName,
+    kind: &ComponentNameKind<'_>,
+    is_instance: bool,
+    offset: u64,
+    features: &WasmFeatures,
+) -> Result<(), Error>
+    requires { Some (kind_view kind.now) ≡ form_of name.now.name }
+    ensures rule { OnOk result (rules.bad_implements is_instance (extern_name name.now) ≡ false) }
+    ensures feature { OnOk result (rules.lacks_implements features.now (extern_name name.now) ≡ false) }
+    ensures err { IfErr result (NameRefused is_instance features.now (extern_name name.now) offset) }
+{
+    if !features.contains(WasmFeatures::CM_IMPLEMENTS) {
+        return check_plain(name, offset);
+    }
+    match &name.implements {
+        Some(text) => check_implemented(text.as_str(), kind, is_instance, offset),
+        None => Ok(()),
     }
 }
 

@@ -1,11 +1,10 @@
-use Rattle.std.proofs.Common.{◌≡◌, Some, bytes_eq, option_copied, sym, ap, ◌∙◌}
+use Rattle.std.proofs.Common.{◌≡◌, Some, bytes_eq, option_copied, refl, sym, ap, ◌∙◌}
 use Rattle.std.specs.Map.{lookup}
 use Rattle.wcv_syntax.specs.ExternName.{Form, set, access_of}
 use Rattle.wcv_syntax.specs.NameViews.{kind_view}
 use Rattle.wcv_types.specs.Tree.{Text}
 use Rattle.wcv_types.specs.Unfold.{trees}
-use Rattle.wcv_names.specs.Rules.{taken}
-use Rattle.wcv_names.specs.Shapes.{option_tree, param_trees}
+use Rattle.wcv_names.specs.Shapes.{option_tree}
 use Rattle.wcv_names.proofs.Firsts.{first_stands}
 use Rattle.wcv_names.proofs.Following.{is_setter-set, pair_none, pair_some}
 use Rattle.wcv_names.proofs.follows.is_paired.Goals as goal
@@ -15,19 +14,19 @@ gotten-given-requires c =
     let found : Some c.in-Some.item.now ≡ lookup (bytes_eq c.in_ok-name.name) c.args.items.now = sym (ap option_copied c.in-Some.is) ∙ c.first_item.ensures in
     first_stands c.args.types.now c.in_ok-name.name c.args.items.now c.in-Some.item.now c.requires.items (sym found)
 
-pub returns-in-None : goal.returns-in-None
-returns-in-None c =
+pub returns-in-None-clause-paired : goal.returns-in-None-clause-paired
+returns-in-None-clause-paired c =
     let f : Form = kind_view c.args.kind.now in
     let sets : access_of f ≡ set = is_setter-set (access_of f) (sym c.is_setter.ensures ∙ c.if-not-is_setter.false) in
-    pair_none (trees c.args.types.now.nodes) f sets c.args.items.now (taken f (param_trees c.args.types.now c.args.func.now.params.items))
+    pair_none (trees c.args.types.now.nodes) f sets c.args.items.now (option_tree c.args.types.now c.args.wanted)
     (sym (ap option_copied c.in-None.is) ∙ c.first_item.ensures ∙ ap (λ (t : Text). lookup (bytes_eq t) c.args.items.now) c.in_ok-name.ensures)
 
-pub returns : goal.returns
-returns c =
+pub returns-clause-paired : goal.returns-clause-paired
+returns-clause-paired c =
     let f : Form = kind_view c.args.kind.now in
     let sets : access_of f ≡ set = is_setter-set (access_of f) (sym c.is_setter.ensures ∙ c.if-not-is_setter.false) in
     pair_some (trees c.args.types.now.nodes) f sets c.args.items.now c.in-Some.item.now
-    (option_tree c.args.types.now c.taken-wanted.result) (option_tree c.args.types.now c.gotten-given.result)
-    (taken f (param_trees c.args.types.now c.args.func.now.params.items)) c.option_type_eq.result
+    (option_tree c.args.types.now c.args.wanted) (option_tree c.args.types.now c.gotten-given.result)
+    (option_tree c.args.types.now c.args.wanted) c.in_ok-same.same
     (sym (ap option_copied c.in-Some.is) ∙ c.first_item.ensures ∙ ap (λ (t : Text). lookup (bytes_eq t) c.args.items.now) c.in_ok-name.ensures)
-    c.gotten-given.ensures.tree c.taken-wanted.ensures.tree c.option_type_eq.ensures
+    c.gotten-given.ensures.tree refl c.in_ok-same.ensures.same
