@@ -21,36 +21,7 @@ known_at n ts i t e a =
     let h : i < length (type_entries ts) = slice_get_within (type_entries ts) i (sub_entry t.index) f in
     subst (IsKnown n) (get_or_from_slice_get (type_entries ts) i (sub_entry t.index) module_entry f) (All-get_or (IsKnown n) (type_entries ts) i module_entry h a)
 
--- ## What is looked at in the types, so in their entries
-
-none_mapped : {A B : Type 0} (f : A → B) (o : Option A) → is_none (option_map f o) ≡ is_none o
-none_mapped f None = refl
-none_mapped f (Some x) = refl
-
-pub missing_entry : (ts : List CoreTypeId) (i : ℕ) → is_none (slice_get (type_entries ts) i) ≡ is_none (slice_get ts i)
-missing_entry ts i = ap is_none (slice_get-map type_entry ts i) ∙ none_mapped type_entry (slice_get ts i)
-
--- ## Indices in references
-
-pub index_closed : (ts : List CoreTypeId) (i : ℕ) (t : CoreTypeId) → slice_get ts i ≡ Some t → closed_heap (type_entries ts) (heap.Index i) ≡ heap.Id t
-index_closed ts i t e = ap (λ o. closed_index o (i - length (type_entries ts))) (entry_found ts i t e)
-
-lt_inside : (i n : ℕ) → i < n → not (nat_lt i (n + 0)) ≡ false
-lt_inside i n h = grind arith
-
-lt_past : (i n : ℕ) → n ≤ i → not (nat_lt i (n + 0)) ≡ true
-lt_past i n h = grind arith
-
-pub index_free : (n : ℕ) (ts : List CoreTypeId) (i : ℕ) (t : CoreTypeId) → slice_get ts i ≡ Some t → IsFree (heap_checks n (type_entries ts) 0 (heap.Index i))
-index_free n ts i t e =
-    let f : slice_get (type_entries ts) i ≡ Some (sub_entry t.index) = entry_found ts i t e in
-    (lt_inside i (length (type_entries ts)) (slice_get_within (type_entries ts) i (sub_entry t.index) f), (ap is_module f, tt))
-
 pub none_past : {A : Type 0} (xs : List A) (i : ℕ) → is_none (slice_get xs i) ≡ true → length xs ≤ i
 none_past [] i e = omega arith
 none_past (x ∷ xs) zero e = Prim.absurd (false≢true e)
 none_past (x ∷ xs) (suc i) e = omega (arith, none_past xs i e)
-
-pub index_cause : {M : Type 0} (n : ℕ) (ts : List CoreTypeId) (i offset : ℕ) (e : Error M) → CausedBy (missing (slice_get ts i)) offset e → CausedBy (heap_checks n (type_entries ts) 0 (heap.Index i)) offset e
-index_cause n ts i offset e (inl c, o) = (inl (c.0, lt_past i (length (type_entries ts)) (none_past (type_entries ts) i (missing_entry ts i ∙ c.1))), o)
-index_cause n ts i offset e (inr c, o) = absurd c

@@ -202,7 +202,7 @@ impl Module {
         ensures free { OnOk result (IsFree (ref_checks self.now.features core.now self.now.types ty.now)) }
         ensures err { IfErr result (CausedBy (ref_checks self.now.features core.now self.now.types ty.now) offset) }
     {
-        written(&self.features, self.types.as_slice(), core, ty, offset)
+        written(&self.features, self, core, ty, offset)
     }
 
     /// The type that the module is. It may join the arena.
@@ -212,6 +212,7 @@ impl Module {
         ensures size { result.info.size ≡ self.size }
         ensures imports { result.imports ≡ self.imports }
         ensures exports { result.exports ≡ self.exports }
+        ensures types { result.types.items ≡ self.types }
         ensures fits { Fits types.now (node.Module result) }
     {
         let _ = types;

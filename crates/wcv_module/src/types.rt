@@ -5,17 +5,19 @@ ghost use Rattle.wcv_core.specs.CoreForm.{composite_form};
 ghost use Rattle.wcv_core.specs.CoreGroups.{total, IsHeapWithin};
 ghost use Rattle.wcv_core.specs.CoreJoining.{then_checks};
 ghost use Rattle.wcv_core.specs.CoreMatching.{ref_shared, type_at};
-ghost use Rattle.wcv_core.specs.CoreWritten.{IsKnown, heap_checks, val_checks, closed_heap, closed_val};
+ghost use Rattle.wcv_core.specs.CoreWritten.{IsKnown, heap_checks};
 ghost use Rattle.wcv_module.specs.Kept.{IsEntityKnown};
 ghost use Rattle.wcv_syntax.specs.CoreItems as items;
+ghost use Rattle.wcv_syntax.specs.ModuleTypes.{module_entries};
 ghost use Rattle.wcv_syntax.specs.CoreItems.{type_entries, func_checks, tag_checks, closed_ref, element_checks, sharing_checks, table_checks, global_checks, ref_checks, closed_table, closed_global, entity_of, entity_size, form_size};
 
 use crate::features::{check_memory64, check_shared, check_tags};
+use crate::module::Module;
 use crate::sizes::{broken, check_memory, check_table_sizes};
 use wcv_core::{
     CompositeInnerType, CoreTypeId, CoreTypes, EntityType, Error, ErrorKind, GlobalType, HeapType,
-    RefType, Refusal, TableType, ValType, WasmFeatures, Why, check_ref_features,
-    check_val_features,
+    RefType, Refusal, Site, TableType, WasmFeatures, Why, check_ref_features, check_val_features,
+    close_heap, close_val, closed_mark,
 };
 use wcv_syntax::TypeRef;
 
@@ -102,89 +104,37 @@ fn tag_type_at(
     Ok(id)
 }
 
-/// The heap of an index in closed form.
-fn close_index(
-    types: &[CoreTypeId],
-    core: &CoreTypes,
-    index: u32,
-    offset: u64,
-) -> Result<HeapType, Refusal<'static>>
-    ensures ok { IfOk result (λ h. h ≡ closed_heap (type_entries types.now) (HeapType.Index index)) }
-    ensures free { OnOk result (IsFree (heap_checks (total core.now) (type_entries types.now) 0 (HeapType.Index index))) }
-    ensures err { IfErr result (CausedBy (heap_checks (total core.now) (type_entries types.now) 0 (HeapType.Index index)) offset) }
+/// Where types are put into closed form: over this table, and in no group.
+fn site(core: &CoreTypes, offset: u64) -> Site
+    ensures known { result.known ≡ total core.now }
+    ensures len { result.len ≡ 0 }
+    ensures offset { result.offset ≡ offset }
 {
-    let _ = core;
-    match type_id_at(types, index, offset) {
-        Ok(id) => Ok(HeapType::Id(id)),
-        Err(err) => Err(err),
-    }
-}
-
-/// The heap in closed form.
-fn close_heap(
-    types: &[CoreTypeId],
-    core: &CoreTypes,
-    heap: HeapType,
-    offset: u64,
-) -> Result<HeapType, Refusal<'static>>
-    ensures ok { IfOk result (λ h. h ≡ closed_heap (type_entries types.now) heap) }
-    ensures free { OnOk result (IsFree (heap_checks (total core.now) (type_entries types.now) 0 heap)) }
-    ensures err { IfErr result (CausedBy (heap_checks (total core.now) (type_entries types.now) 0 heap) offset) }
-{
-    match heap {
-        HeapType::Abstract(name) => Ok(HeapType::Abstract(name)),
-        HeapType::Index(index) => close_index(types, core, index, offset),
-        HeapType::Id(id) => {
-            if id.index < core.len() as u64 {
-                return Ok(HeapType::Id(id));
-            }
-            Err(Error::new(
-                ErrorKind::OutOfBounds,
-                offset,
-                Why::new("a core type is named by an id that is not of the table"),
-            ))
-        }
+    Site {
+        known: core.len() as u64,
+        len: 0,
+        offset,
     }
 }
 
 /// A reference type in closed form.
 fn close_ref(
-    types: &[CoreTypeId],
+    made: &Module,
     core: &CoreTypes,
     ty: RefType,
     offset: u64,
 ) -> Result<RefType, Refusal<'static>>
-    ensures ok { IfOk result (λ r. r ≡ closed_ref (type_entries types.now) ty) }
-    ensures free { OnOk result (IsFree (heap_checks (total core.now) (type_entries types.now) 0 ty.heap)) }
-    ensures err { IfErr result (CausedBy (heap_checks (total core.now) (type_entries types.now) 0 ty.heap) offset) }
+    ensures ok { IfOk result (λ r. r ≡ closed_ref (module_entries made.now) ty) }
+    ensures free { OnOk result (IsFree (heap_checks (total core.now) (module_entries made.now) 0 ty.heap)) }
+    ensures err { IfErr result (CausedBy (heap_checks (total core.now) (module_entries made.now) 0 ty.heap) offset) }
 {
-    let heap = close_heap(types, core, ty.heap, offset)?;
-    let shared = match ty.heap {
-        HeapType::Abstract(_) => ty.shared,
-        _ => false,
-    };
+    let shared = closed_mark(ty.heap, ty.shared);
+    let heap = close_heap(made, site(core, offset), ty.heap)?;
     Ok(RefType {
         nullable: ty.nullable,
         shared,
         heap,
     })
-}
-
-/// A value type in closed form.
-fn close_val(
-    types: &[CoreTypeId],
-    core: &CoreTypes,
-    ty: ValType,
-    offset: u64,
-) -> Result<ValType, Refusal<'static>>
-    ensures ok { IfOk result (λ v. v ≡ closed_val (type_entries types.now) ty) }
-    ensures free { OnOk result (IsFree (val_checks (total core.now) (type_entries types.now) 0 ty)) }
-    ensures err { IfErr result (CausedBy (val_checks (total core.now) (type_entries types.now) 0 ty) offset) }
-{
-    match ty {
-        ValType::Ref(r) => Ok(ValType::Ref(close_ref(types, core, r, offset)?)),
-        _ => Ok(ty),
-    }
 }
 
 /// Whether a reference is shared: by the type that it names, or by its own mark.
@@ -201,18 +151,18 @@ fn is_shared(core: &CoreTypes, ty: RefType) -> bool
 /// The elements of a table in closed form.
 fn close_element(
     features: &WasmFeatures,
-    types: &[CoreTypeId],
+    made: &Module,
     core: &CoreTypes,
     ty: &TableType,
     offset: u64,
 ) -> Result<RefType, Refusal<'static>>
-    requires { All (IsKnown (total core.now)) (type_entries types.now) }
-    ensures ok { IfOk result (λ r. r ≡ closed_ref (type_entries types.now) ty.now.element_type) }
-    ensures free { OnOk result (IsFree (then_checks (element_checks features.now core.now (type_entries types.now) ty.now.element_type) (sharing_checks core.now (type_entries types.now) ty.now))) }
-    ensures err { IfErr result (CausedBy (then_checks (element_checks features.now core.now (type_entries types.now) ty.now.element_type) (sharing_checks core.now (type_entries types.now) ty.now)) offset) }
+    requires { All (IsKnown (total core.now)) (module_entries made.now) }
+    ensures ok { IfOk result (λ r. r ≡ closed_ref (module_entries made.now) ty.now.element_type) }
+    ensures free { OnOk result (IsFree (then_checks (element_checks features.now core.now (module_entries made.now) ty.now.element_type) (sharing_checks core.now (module_entries made.now) ty.now))) }
+    ensures err { IfErr result (CausedBy (then_checks (element_checks features.now core.now (module_entries made.now) ty.now.element_type) (sharing_checks core.now (module_entries made.now) ty.now)) offset) }
 {
     check_ref_features(features, ty.element_type, offset)?;
-    let element = close_ref(types, core, ty.element_type, offset)?;
+    let element = close_ref(made, core, ty.element_type, offset)?;
     if ty.shared && !is_shared(core, element) {
         return Err(broken(
             Why::new("a shared table has elements that are not shared"),
@@ -225,21 +175,21 @@ fn close_element(
 /// A table type in closed form.
 fn close_table(
     features: &WasmFeatures,
-    types: &[CoreTypeId],
+    made: &Module,
     core: &CoreTypes,
     ty: &TableType,
     offset: u64,
 ) -> Result<TableType, Refusal<'static>>
-    requires { All (IsKnown (total core.now)) (type_entries types.now) }
-    ensures ok { IfOk result (λ t. t ≡ closed_table (type_entries types.now) ty.now) }
-    ensures free { OnOk result (IsFree (table_checks features.now core.now (type_entries types.now) ty.now)) }
-    ensures err { IfErr result (CausedBy (table_checks features.now core.now (type_entries types.now) ty.now) offset) }
+    requires { All (IsKnown (total core.now)) (module_entries made.now) }
+    ensures ok { IfOk result (λ t. t ≡ closed_table (module_entries made.now) ty.now) }
+    ensures free { OnOk result (IsFree (table_checks features.now core.now (module_entries made.now) ty.now)) }
+    ensures err { IfErr result (CausedBy (table_checks features.now core.now (module_entries made.now) ty.now) offset) }
 {
     let by = "a table with 64-bit indices";
     check_memory64(features, ty.table64, by, offset)?;
     check_shared(features, ty.shared, "a shared table", offset)?;
     check_table_sizes(ty, offset)?;
-    let element_type = close_element(features, types, core, ty, offset)?;
+    let element_type = close_element(features, made, core, ty, offset)?;
     Ok(TableType {
         element_type,
         initial: ty.initial,
@@ -252,18 +202,18 @@ fn close_table(
 /// A global type in closed form.
 fn close_global(
     features: &WasmFeatures,
-    types: &[CoreTypeId],
+    made: &Module,
     core: &CoreTypes,
     ty: &GlobalType,
     offset: u64,
 ) -> Result<GlobalType, Refusal<'static>>
-    ensures ok { IfOk result (λ g. g ≡ closed_global (type_entries types.now) ty.now) }
-    ensures free { OnOk result (IsFree (global_checks features.now core.now (type_entries types.now) ty.now)) }
-    ensures err { IfErr result (CausedBy (global_checks features.now core.now (type_entries types.now) ty.now) offset) }
+    ensures ok { IfOk result (λ g. g ≡ closed_global (module_entries made.now) ty.now) }
+    ensures free { OnOk result (IsFree (global_checks features.now core.now (module_entries made.now) ty.now)) }
+    ensures err { IfErr result (CausedBy (global_checks features.now core.now (module_entries made.now) ty.now) offset) }
 {
     check_shared(features, ty.shared, "a shared global", offset)?;
     check_val_features(features, ty.content_type, offset)?;
-    let content_type = close_val(types, core, ty.content_type, offset)?;
+    let content_type = close_val(made, site(core, offset), ty.content_type)?;
     Ok(GlobalType {
         content_type,
         mutable: ty.mutable,
@@ -274,28 +224,28 @@ fn close_global(
 /// What a written type comes to, over the types of a module.
 pub fn written(
     features: &WasmFeatures,
-    types: &[CoreTypeId],
+    made: &Module,
     core: &CoreTypes,
     ty: &TypeRef,
     offset: u64,
 ) -> Result<EntityType, Refusal<'static>>
-    requires { All (IsKnown (total core.now)) (type_entries types.now) }
-    ensures ok { IfOk result (λ e. entity_of types.now ty.now ≡ Some e) }
+    requires { All (IsKnown (total core.now)) (module_entries made.now) }
+    ensures ok { IfOk result (λ e. entity_of made.now.types ty.now ≡ Some e) }
     ensures known { IfOk result (IsEntityKnown (total core.now)) }
-    ensures free { OnOk result (IsFree (ref_checks features.now core.now types.now ty.now)) }
-    ensures err { IfErr result (CausedBy (ref_checks features.now core.now types.now ty.now) offset) }
+    ensures free { OnOk result (IsFree (ref_checks features.now core.now made.now.types ty.now)) }
+    ensures err { IfErr result (CausedBy (ref_checks features.now core.now made.now.types ty.now) offset) }
 {
     match ty {
         TypeRef::Func(index) => {
-            let id = func_type_at(types, core, *index, "a function", offset)?;
+            let id = func_type_at(made.types(), core, *index, "a function", offset)?;
             Ok(EntityType::Func(id))
         }
         TypeRef::Tag(index) => {
-            let id = tag_type_at(features, types, core, *index, offset)?;
+            let id = tag_type_at(features, made.types(), core, *index, offset)?;
             Ok(EntityType::Tag(id))
         }
         TypeRef::Table(ty) => {
-            let table = close_table(features, types, core, ty, offset)?;
+            let table = close_table(features, made, core, ty, offset)?;
             Ok(EntityType::Table(table))
         }
         TypeRef::Memory(ty) => {
@@ -303,7 +253,7 @@ pub fn written(
             Ok(EntityType::Memory(*ty))
         }
         TypeRef::Global(ty) => {
-            let global = close_global(features, types, core, ty, offset)?;
+            let global = close_global(features, made, core, ty, offset)?;
             Ok(EntityType::Global(global))
         }
     }
