@@ -1,130 +1,92 @@
--- Core types and core modules under a renaming; where there is no cause, they do something.
-use Rattle.wcv_core.specs.Limits.{max_instances}
-use Rattle.std.proofs.Common.{◌≡◌, ℕ, List, [], ◌∷◌, ◌++◌, map, length, refl, sym, ◌∙◌, ap, true, Some, None}
+-- Core types and core modules under a map of entries; where there is no cause, they do something.
+use Rattle.std.proofs.Common.{◌≡◌, ℕ, List, [], ◌∷◌, ◌++◌, map, length, refl, ◌∙◌, ap, Bool, true, false, cond, Some, None}
 use Rattle.std.specs.Prelude.{Option}
 use Rattle.std.specs.Option.{option_map}
+use Rattle.wcv_core.specs.Limits.{max_instances}
+use Rattle.wcv_core.specs.CoreForm.{Group}
 use Rattle.wcv_core.specs.CoreJoining.{group_checks, group_ids, grown}
 use Rattle.wcv_core.specs.CoreWritten.{Core_entry, closed_group}
-use Rattle.wcv_core.specs.Names.{Name, Place}
-use Rattle.wcv_core.proofs.Places.{under-refl}
-use Rattle.wcv_core.specs.declared.core_types.EntityType.{EntityType}
-use Rattle.wcv_syntax.specs.Model.{Text, Module_decl, Core_type_form, core_rec, core_module_type}
-use Rattle.wcv_syntax.specs.ModuleTypes.{Module_type, Made, empty_module, written_group, all_declared, module_checks, module_left}
-use Rattle.wcv_types.specs.Rename.{rename, rename_parts, rename_head}
-use Rattle.wcv_types.specs.Tree.{Head, nothing, core_module, core_item, node, none, part, core_import, core_export, core_imports, core_exports, Parts, sub_type}
-use Rattle.wcv_lower.specs.Checks.{IsFree, Counts, counts, no_type_room, no_core_type_room, full}
-use Rattle.wcv_lower.specs.Context.{Type_tree, Context, Scope, Core_space, core_types, core_modules}
-use Rattle.wcv_lower.specs.CoreItems.{head_entry, core_entry, core_entries, outer_entries, types_join, group_step, module_tree, module_joins, core_type_step, core_type_checks, core_module_step, core_module_checks, core_module_left}
-use Rattle.wcv_lower.specs.Names.{Names, introduced, Under, AreRenamed}
-use Rattle.wcv_lower.specs.Renamed.{Renaming, rename_context, rename_scope, rename_step}
+use Rattle.wcv_core.specs.declared.features.WasmFeatures.{WasmFeatures}
+use Rattle.wcv_syntax.specs.Model.{Module_decl, Core_type_form, core_rec, core_module_type}
+use Rattle.wcv_syntax.specs.ModuleTypes.{Made, empty_module, written_group, module_checks, module_left}
+use Rattle.wcv_lower.specs.Checks.{IsFree, no_type_room, no_core_type_room, full}
+use Rattle.wcv_lower.specs.Context.{Context, Stack, Core_space, core_types, core_modules, counts}
+use Rattle.wcv_lower.specs.CoreItems.{core_entries, outer_entries, is_closable, types_join, closed_step, group_step, module_made, module_joins, core_type_made, core_type_step, core_type_checks, core_module_made, core_module_step, core_module_checks, core_module_left}
+use Rattle.wcv_lower.specs.Mapped.{Map, Commutes, MakesSame, map_context, map_stack, map_node, map_step}
+use Rattle.wcv_lower.specs.Readers.{Reader, Maker, New_node, module_node}
 use Rattle.wcv_lower.specs.Step.{Step, core_appends, interns}
+use Rattle.wcv_lower.specs.Uses.{made_node, core_type_uses, core_module_uses}
 use Rattle.wcv_lower.proofs.Causes.{free_left}
-use Rattle.wcv_lower.proofs.Laws.{counts-renamed}
-use Rattle.wcv_lower.proofs.ModulesMade.{all_made}
+use Rattle.wcv_lower.proofs.Mapping.{counts-mapped}
+use Rattle.wcv_lower.proofs.ModulesMade.{closable, all_made}
+use Rattle.wcv_lower.proofs.ValueLaws.{mapped}
 
-module _ (f g : Name → Name) where
-  head_entry-renamed : (h : Head Name Name) → head_entry (rename_head f g h) ≡ head_entry h
-  head_entry-renamed nothing = refl
-  head_entry-renamed x = refl
+module _ {X Y : Reader} (m : Map X Y) {Known : X.Entry → Type 0} (law : Commutes m Known) where
+  entries_of-mapped : (xs : List X.Entry) → map Y.core_entry (map m.entry xs) ≡ map X.core_entry xs
+  entries_of-mapped [] = refl
+  entries_of-mapped (x ∷ xs) = λ j. law.core_entry x j ∷ entries_of-mapped xs j
 
-  core_entry-renamed : (t : Type_tree) → core_entry (rename f g t) ≡ core_entry t
-  core_entry-renamed (node h ps) = head_entry-renamed h
+  core_entries-mapped : (c : Context X) → core_entries (map_context m c) ≡ core_entries c
+  core_entries-mapped c = entries_of-mapped (c.core core_types)
 
-  entries_of-renamed : (ts : List Type_tree) → map core_entry (map (rename f g) ts) ≡ map core_entry ts
-  entries_of-renamed [] = refl
-  entries_of-renamed (t ∷ ts) =
-      let e : core_entry (rename f g t) ≡ core_entry t = core_entry-renamed t in
-      let e' : map core_entry (map (rename f g) ts) ≡ map core_entry ts = entries_of-renamed ts in
-      λ j. e j ∷ e' j
-
-  pub core_entries-renamed : (c : Context) → core_entries (rename_context f g c) ≡ core_entries c
-  core_entries-renamed c = entries_of-renamed (c.core core_types)
-
-  all_entries-renamed : (cs : List Context) → map core_entries (map (rename_context f g) cs) ≡ map core_entries cs
-  all_entries-renamed [] = refl
-  all_entries-renamed (c ∷ cs) =
-      let e : core_entries (rename_context f g c) ≡ core_entries c = core_entries-renamed c in
-      let e' : map core_entries (map (rename_context f g) cs) ≡ map core_entries cs = all_entries-renamed cs in
-      λ j. e j ∷ e' j
-
-  outer_entries-renamed : (sc : Scope) (c : Context) → outer_entries (rename_scope f g sc) (rename_context f g c) ≡ outer_entries sc c
-  outer_entries-renamed sc c =
-      let e : core_entries (rename_context f g c) ≡ core_entries c = core_entries-renamed c in
-      let e' : map core_entries (map (rename_context f g) sc.outer) ≡ map core_entries sc.outer = all_entries-renamed sc.outer in
-      λ j. e j ∷ e' j
+  outer_entries-mapped : (s : Stack X) → outer_entries (map_stack m s) ≡ outer_entries s
+  outer_entries-mapped s = λ j. core_entries-mapped s.top j ∷ go s.outer j
+    where
+      go : (cs : List (Context X)) → map core_entries (map (map_context m) cs) ≡ map core_entries cs
+      go [] = refl
+      go (c ∷ cs) = λ j. core_entries-mapped c j ∷ go cs j
 
   -- ## Steps
 
-  types_join-renamed : (is : List ℕ) → types_join is ≡ rename_step f g (types_join is)
-  types_join-renamed [] = refl
-  types_join-renamed (i ∷ is) = ap (λ (s : Step). core_appends core_types (sub_type i) ∷ s) (types_join-renamed is)
+  types_join-mapped : (is : List ℕ) → types_join Y is ≡ map_step m (types_join X is)
+  types_join-mapped [] = refl
+  types_join-mapped (i ∷ is) = λ j. core_appends core_types (law.core_type i j) ∷ types_join-mapped is j
 
-  exports-renamed : (es : List (Text × EntityType)) (rest : Parts Name Name) → rename_parts f g (core_exports es rest) ≡ core_exports es (rename_parts f g rest)
-  exports-renamed [] rest = refl
-  exports-renamed (e ∷ es) rest = ap (λ (ps : Parts Name Name). part (core_export e.0) (node (core_item e.1) none) ps) (exports-renamed es rest)
+  closed_step-mapped : (gs : List Group) (g : Group) → closed_step Y gs g ≡ map_step m (closed_step X gs g)
+  closed_step-mapped gs g = ap (λ p. interns (grown gs g) ∷ p) (types_join-mapped (group_ids gs g))
 
-  imports-renamed : (is : List ((Text × Text) × EntityType)) (rest : Parts Name Name) → rename_parts f g (core_imports is rest) ≡ core_imports is (rename_parts f g rest)
-  imports-renamed [] rest = refl
-  imports-renamed (i ∷ is) rest = ap (λ (ps : Parts Name Name). part (core_import i.0.0 i.0.1) (node (core_item i.1) none) ps) (imports-renamed is rest)
+  group_step-mapped : (s : Stack X) (w : Group) → group_step (map_stack m s) w ≡ option_map (map_step m) (group_step s w)
+  group_step-mapped s w =
+      (λ j. cond (is_closable s.groups (core_entries-mapped s.top j) w) (Some (closed_step-mapped s.groups (closed_group (core_entries-mapped s.top j) w) j)) None) ∙ go (is_closable s.groups (core_entries s.top) w)
+    where
+      go : (b : Bool) → cond b (Some (map_step m (closed_step X s.groups (closed_group (core_entries s.top) w)))) None ≡ option_map (map_step m) (cond b (Some (closed_step X s.groups (closed_group (core_entries s.top) w))) None)
+      go true = refl
+      go false = refl
 
-  pub module_tree-renamed : (i : Name) (m : Module_type) → rename f g (module_tree i m) ≡ module_tree (g i) m
-  module_tree-renamed i m =
-      ap (λ (ps : Parts Name Name). node (core_module (g i) m.size) ps)
-      (imports-renamed m.imports (core_exports m.exports none) ∙ ap (λ (ps : Parts Name Name). core_imports m.imports ps) (exports-renamed m.exports none))
+  module _ (k : Maker X) (l : Maker Y) where
+    made-mapped : (d : Core_space) (o p : Option Made) → p ≡ o → ((n : New_node X) → made_node o ≡ Some n → l.build (map_node m n) ≡ m.entry (k.build n)) → option_map (module_joins l d) p ≡ option_map (map_step m) (option_map (module_joins k d) o)
+    made-mapped d o p e u = ap (option_map (module_joins l d)) e ∙ go o u
+      where
+        go : (o : Option Made) → ((n : New_node X) → made_node o ≡ Some n → l.build (map_node m n) ≡ m.entry (k.build n)) → option_map (module_joins l d) o ≡ option_map (map_step m) (option_map (module_joins k d) o)
+        go None u = refl
+        go (Some s) u = ap (λ y. Some (interns s.0 ∷ core_appends d y ∷ [])) (u (module_node s.1) refl)
 
-  module_joins-renamed : (k : Core_space) (i : Name) (s : Made) → module_joins k (g i) s ≡ rename_step f g (module_joins k i s)
-  module_joins-renamed k i s = ap (λ (t : Type_tree). interns s.0 ∷ core_appends k t ∷ []) (sym (module_tree-renamed i s.1))
+    pub core_type_step-mapped : (fs : WasmFeatures) (s : Stack X) (t : Core_type_form) → MakesSame m Known k l (core_type_uses fs s t) → core_type_step fs l (map_stack m s) t ≡ option_map (map_step m) (core_type_step fs k s t)
+    core_type_step-mapped fs s (core_rec w) u = group_step-mapped s (written_group w)
+    core_type_step-mapped fs s (core_module_type ds) u =
+        made-mapped core_types (core_type_made fs s (core_module_type ds)) _ (ap (λ (es : List (List Core_entry)). module_made es s.groups (empty_module fs) ds) (outer_entries-mapped s)) u.build
 
-  made-renamed : (k : Core_space) (i j : Name) → j ≡ g i → (o : Option Made) → option_map (module_joins k j) o ≡ option_map (rename_step f g) (option_map (module_joins k i) o)
-  made-renamed k i j e None = refl
-  made-renamed k i j e (Some s) = ap Some (ap (λ (x : Name). module_joins k x s) e ∙ module_joins-renamed k i s)
+    pub core_module_step-mapped : (fs : WasmFeatures) (s : Stack X) (ds : List Module_decl) → MakesSame m Known k l (core_module_uses fs s ds) → core_module_step fs l (map_stack m s) ds ≡ option_map (map_step m) (core_module_step fs k s ds)
+    core_module_step-mapped fs s ds u = made-mapped core_modules (core_module_made fs s ds) _ refl u.build
 
-module _ (w : Renaming) where
-  abbrev to : Name → Name
-  to = w.resources.to
+  pub core_type_checks-mapped : (fs : WasmFeatures) (s : Stack X) (t : Core_type_form) → core_type_checks fs (map_stack m s) t ≡ core_type_checks fs s t
+  core_type_checks-mapped fs s (core_rec w) = λ j. group_checks fs s.groups (core_entries-mapped s.top j) (written_group w) ++ no_core_type_room (length w) (counts-mapped m law s.top j)
+  core_type_checks-mapped fs s (core_module_type ds) = λ j. module_checks (outer_entries-mapped s j) s.groups (empty_module fs) ds ++ no_type_room true (counts-mapped m law s.top j)
 
-  abbrev ids : Name → Name
-  ids = w.identities.to
-
-  pub core_type_step-renamed : (n m : Names) (p : Place) → AreRenamed (Under p) to ids n m → (sc : Scope) (c : Context) (t : Core_type_form) →
-      core_type_step m p (rename_scope to ids sc) (rename_context to ids c) t ≡ option_map (rename_step to ids) (core_type_step n p sc c t)
-  core_type_step-renamed n m p r sc c (core_rec ss) =
-      let e : core_entries (rename_context to ids c) ≡ core_entries c = core_entries-renamed to ids c in
-      (λ j. Some (interns (grown c.groups (closed_group (e j) (written_group ss))) ∷ types_join (group_ids c.groups (closed_group (e j) (written_group ss))))) ∙
-      ap (λ (s : Step). Some (interns (grown c.groups (closed_group (core_entries c) (written_group ss))) ∷ s)) (types_join-renamed to ids (group_ids c.groups (closed_group (core_entries c) (written_group ss))))
-  core_type_step-renamed n m p r sc c (core_module_type ds) =
-      ap (λ (es : List (List Core_entry)). option_map (module_joins core_types (m.identity (introduced p))) (all_declared es c.groups (empty_module sc.features) ds)) (outer_entries-renamed to ids sc c) ∙
-      made-renamed to ids core_types (n.identity (introduced p)) (m.identity (introduced p)) (r.identity (introduced p) (under-refl p)) (all_declared (outer_entries sc c) c.groups (empty_module sc.features) ds)
-
-  pub core_module_step-renamed : (n m : Names) (p : Place) → AreRenamed (Under p) to ids n m → (sc : Scope) (c : Context) (ds : List Module_decl) →
-      core_module_step m p (rename_scope to ids sc) (rename_context to ids c) ds ≡ option_map (rename_step to ids) (core_module_step n p sc c ds)
-  core_module_step-renamed n m p r sc c ds =
-      made-renamed to ids core_modules (n.identity (introduced p)) (m.identity (introduced p)) (r.identity (introduced p) (under-refl p)) (all_declared [] c.groups (empty_module sc.features) ds)
-
-  pub core_type_checks-renamed : (sc : Scope) (c : Context) (t : Core_type_form) → core_type_checks (rename_scope to ids sc) (rename_context to ids c) t ≡ core_type_checks sc c t
-  core_type_checks-renamed sc c (core_rec ss) =
-      let e : core_entries (rename_context to ids c) ≡ core_entries c = core_entries-renamed to ids c in
-      let k : counts (rename_context to ids c) ≡ counts c = counts-renamed to ids c in
-      λ j. group_checks sc.features c.groups (e j) (written_group ss) ++ no_core_type_room (length ss) (k j)
-  core_type_checks-renamed sc c (core_module_type ds) =
-      let e : outer_entries (rename_scope to ids sc) (rename_context to ids c) ≡ outer_entries sc c = outer_entries-renamed to ids sc c in
-      let k : counts (rename_context to ids c) ≡ counts c = counts-renamed to ids c in
-      λ j. module_checks (e j) c.groups (empty_module sc.features) ds ++ no_type_room true (k j)
-
-  pub core_module_left-renamed : (c : Context) (ds : List Module_decl) → core_module_left (rename_context to ids c) ds ≡ core_module_left c ds
-  core_module_left-renamed c ds = ap (λ (k : Counts). module_left ds ++ full max_instances (k.core core_modules)) (counts-renamed to ids c)
+  pub core_module_left-mapped : (c : Context X) (ds : List Module_decl) → core_module_left (map_context m c) ds ≡ core_module_left c ds
+  core_module_left-mapped c ds = λ j. module_left ds ++ full max_instances ((counts-mapped m law c j).core core_modules)
 
 -- ## Without a cause
 
-does_mapped : {X Y : Type 0} (f : X → Y) (o : Option X) → (x : X) × (o ≡ Some x) → (y : Y) × (option_map f o ≡ Some y)
-does_mapped f o x = (f x.0, ap (option_map f) x.1)
+module _ (X : Reader) (fs : WasmFeatures) (mk : Maker X) (s : Stack X) where
+  pub core_type_does : (t : Core_type_form) → IsFree (core_type_checks fs s t) → (p : Step X) × (core_type_step fs mk s t ≡ Some p)
+  core_type_does (core_rec w) h =
+      let g : Group = written_group w in
+      let p : Step X = closed_step X s.groups (closed_group (core_entries s.top) g) in
+      (p, ap (λ (b : Bool). cond b (Some p) None) (closable fs s.groups (core_entries s.top) g (free_left (group_checks fs s.groups (core_entries s.top) g) (no_core_type_room (length w) (counts s.top)) h)))
+  core_type_does (core_module_type ds) h =
+      mapped (module_joins mk core_types) (core_type_made fs s (core_module_type ds))
+      (all_made (outer_entries s) s.groups (empty_module fs) ds (free_left (module_checks (outer_entries s) s.groups (empty_module fs) ds) (no_type_room true (counts s.top)) h))
 
-pub core_type_does : (n : Names) (p : Place) (sc : Scope) (c : Context) (t : Core_type_form) → IsFree (core_type_checks sc c t) → (s : Step) × (core_type_step n p sc c t ≡ Some s)
-core_type_does n p sc c (core_rec ss) h = (group_step c (written_group ss), refl)
-core_type_does n p sc c (core_module_type ds) h =
-    does_mapped (module_joins core_types (n.identity (introduced p))) (all_declared (outer_entries sc c) c.groups (empty_module sc.features) ds)
-    (all_made (outer_entries sc c) c.groups (empty_module sc.features) ds (free_left (module_checks (outer_entries sc c) c.groups (empty_module sc.features) ds) (no_type_room true (counts c)) h))
-
-pub core_module_does : (n : Names) (p : Place) (sc : Scope) (c : Context) (ds : List Module_decl) → IsFree (core_module_checks sc c ds) → (s : Step) × (core_module_step n p sc c ds ≡ Some s)
-core_module_does n p sc c ds h =
-    does_mapped (module_joins core_modules (n.identity (introduced p))) (all_declared [] c.groups (empty_module sc.features) ds) (all_made [] c.groups (empty_module sc.features) ds h)
+  pub core_module_does : (ds : List Module_decl) → IsFree (core_module_checks fs s ds) → (p : Step X) × (core_module_step fs mk s ds ≡ Some p)
+  core_module_does ds h = mapped (module_joins mk core_modules) (core_module_made fs s ds) (all_made [] s.groups (empty_module fs) ds h)

@@ -1,128 +1,91 @@
--- Defined value types under a renaming.
+-- Defined value types under a map of entries; where there is no cause, they are made.
 use Rattle.wcv_core.specs.Limits.{max_abi_size, max_depth, max_size}
-use Rattle.std.proofs.Common.{◌≡◌, ℕ, [], ◌∷◌, ◌++◌, refl, ◌∙◌, ap, Bool, Some, None}
+use Rattle.std.proofs.Common.{◌≡◌, ℕ, [], ◌∷◌, ◌++◌, refl, ◌∙◌, ap, Some, None}
 use Rattle.std.specs.Prelude.{Option, not}
-use Rattle.std.specs.Option.{option_map, option_and_then}
-use Rattle.wcv_core.specs.Names.{Name, base}
+use Rattle.std.specs.Option.{option_map}
 use Rattle.wcv_core.specs.declared.error.ErrorKind.TheVariants as kind
 use Rattle.wcv_core.specs.declared.features.WasmFeatures.{WasmFeatures}
-use Rattle.wcv_core.specs.declared.primitive.PrimitiveValType.{PrimitiveValType}
 use Rattle.wcv_syntax.specs.declared.component_type.ComponentDefinedType.{ComponentDefinedType}
 use Rattle.wcv_syntax.specs.declared.component_type.ComponentDefinedType.TheVariants as d
 use Rattle.wcv_syntax.specs.declared.component_type.ComponentValType.{ComponentValType}
 use Rattle.wcv_syntax.specs.Model.{Defined_form, record_of, variant_of, tuple_of, flags_of, enum_of, simple}
-use Rattle.wcv_types.specs.Abi.{handle, borrow, abi_size}
-use Rattle.wcv_types.specs.Measure.{size, depth}
-use Rattle.wcv_types.specs.Rename.{rename, rename_parts}
-use Rattle.wcv_types.specs.Tree as tree
-use Rattle.wcv_types.specs.Tree.{Former, primitive, defined, here, is_resource, sort, node, none, part, Parts}
-use Rattle.wcv_types.proofs.AbiRenamed.{abi_size-rename, contains-rename}
-use Rattle.wcv_types.proofs.Measure.{size-rename, depth-rename}
-use Rattle.wcv_lower.specs.Checks.{Checks, IsFree, if_found, missing_of, too_many}
-use Rattle.wcv_lower.specs.Context.{Type_tree, Context}
-use Rattle.wcv_lower.specs.Defined.{former, written_parts, handle_index, made_of, made_checks, defined_tree, own_checks, primitive_of, is_key, is_char, has_borrow, bad_key, bad_map_value, bad_element, simple_content, content_checks, size_checks, defined_checks}
-use Rattle.wcv_lower.specs.Renamed.{rename_context}
-use Rattle.wcv_lower.specs.Values.{type_at, if_sort, resource_at, Written_parts, value_tree, option_tree}
-use Rattle.wcv_lower.proofs.Laws.{mapped-square}
-use Rattle.wcv_lower.proofs.ValueLaws.{type_at-renamed, sorted-renamed, sorts-renamed, value_tree-renamed, option_tree-renamed, parts_trees-renamed, parts_checks-renamed, found_of, parts_there}
+use Rattle.wcv_types.specs.Abi.{handle, borrow}
+use Rattle.wcv_types.specs.Tree.{here, is_resource}
+use Rattle.wcv_lower.specs.Checks.{IsFree, if_found, too_many}
+use Rattle.wcv_lower.specs.Context.{Context, type_at}
+use Rattle.wcv_lower.specs.Defined.{former, written_parts, handle_index, made_of, made_checks, defined_made, own_checks, is_key, is_char, has_borrow, bad_key, bad_map_value, bad_item, simple_content, content_checks, size_checks, node_checks, defined_checks}
+use Rattle.wcv_lower.specs.Mapped.{Map, Commutes, IsKnown, map_context, map_parts, map_node}
+use Rattle.wcv_lower.specs.Readers.{Reader, Maker, Made_parts, New_node, defined_node}
+use Rattle.wcv_lower.specs.Values.{resource_at, value_entry, option_entry, Written_parts}
+use Rattle.wcv_lower.proofs.Mapping.{mapped-square}
+use Rattle.wcv_lower.proofs.ValueLaws.{of_sort-mapped, sort_checks-mapped, value-mapped, option-mapped, parts-mapped, parts_checks-mapped, found-same, found_of, parts_there}
 
--- sizes are those of the same parts under another identity
-pub sizes_aside : (k : Former) (i i' : Name) (o : Option (Parts Name Name)) →
-    if_found size_checks (option_map (λ (ps : Parts Name Name). node (defined i k) ps) o) ≡ if_found size_checks (option_map (λ (ps : Parts Name Name). node (defined i' k) ps) o)
-sizes_aside k i i' None = refl
-sizes_aside k i i' (Some ps) = refl
+module _ {X Y : Reader} (m : Map X Y) {Known : X.Entry → Type 0} (law : Commutes m Known) where
+  made_of-mapped : (c : Context X) → IsKnown Known c → (o : Option ℕ) (ps : Written_parts) → made_of (map_context m c) o ps ≡ option_map (map_parts m.entry) (made_of c o ps)
+  made_of-mapped c w None ps = parts-mapped m law c w ps
+  made_of-mapped c w (Some k) ps =
+      ap (option_map (λ x. (here, x) ∷ [])) (of_sort-mapped m law is_resource c w k) ∙ mapped-square m.entry (λ x. (here, x) ∷ []) (λ x. (here, x) ∷ []) (map_parts m.entry) (λ x. refl) (resource_at c k)
 
-module _ (f g : Name → Name) where
-  resource_at-renamed : (c : Context) (k : ℕ) → resource_at (rename_context f g c) k ≡ option_map (rename f g) (resource_at c k)
-  resource_at-renamed c k = ap (option_and_then (if_sort is_resource)) (type_at-renamed f g c k) ∙ sorted-renamed f g is_resource (type_at c k)
+  made_checks-mapped : (fs : WasmFeatures) (c : Context X) → IsKnown Known c → (o : Option ℕ) (ps : Written_parts) → made_checks fs (map_context m c) o ps ≡ made_checks fs c o ps
+  made_checks-mapped fs c w None ps = parts_checks-mapped m law fs c w ps
+  made_checks-mapped fs c w (Some k) ps = sort_checks-mapped m law is_resource c w k
 
-  made_of-renamed : (c : Context) (o : Option ℕ) (ps : Written_parts) → made_of (rename_context f g c) o ps ≡ option_map (rename_parts f g) (made_of c o ps)
-  made_of-renamed c None ps = parts_trees-renamed f g c ps
-  made_of-renamed c (Some k) ps =
-      ap (option_map (λ (t : Type_tree). part here t none)) (resource_at-renamed c k) ∙
-      mapped-square (rename f g) (λ (t : Type_tree). part here t none) (λ (t : Type_tree). part here t none) (rename_parts f g) (λ t. refl) (resource_at c k)
+  pub defined_made-mapped : (c : Context X) → IsKnown Known c → (x : Defined_form) → defined_made (map_context m c) x ≡ option_map (map_node m) (defined_made c x)
+  defined_made-mapped c w x =
+      ap (option_map (defined_node (former x))) (made_of-mapped c w (handle_index x) (written_parts x)) ∙
+      mapped-square (map_parts m.entry) (defined_node (former x)) (defined_node (former x)) (map_node m) (λ ps. refl) (made_of c (handle_index x) (written_parts x))
 
-  made_checks-renamed : (fs : WasmFeatures) (c : Context) (o : Option ℕ) (ps : Written_parts) → made_checks fs (rename_context f g c) o ps ≡ made_checks fs c o ps
-  made_checks-renamed fs c None ps = parts_checks-renamed f g fs c ps
-  made_checks-renamed fs c (Some k) ps = ap (missing_of is_resource) (ap (option_map sort) (type_at-renamed f g c k) ∙ sorts-renamed f g (type_at c k))
+  has_borrow-mapped : (x : X.Entry) → has_borrow Y (m.entry x) ≡ has_borrow X x
+  has_borrow-mapped x = λ j. (kind.Borrow, law.contains borrow x j) ∷ []
 
-  pub defined_tree-renamed : (i : Name) (c : Context) (x : Defined_form) → defined_tree (g i) (rename_context f g c) x ≡ option_map (rename f g) (defined_tree i c x)
-  defined_tree-renamed i c x =
-      ap (option_map (λ (ps : Parts Name Name). node (defined (g i) (former x)) ps)) (made_of-renamed c (handle_index x) (written_parts x)) ∙
-      mapped-square (rename_parts f g) (λ (ps : Parts Name Name). node (defined (g i) (former x)) ps) (λ (ps : Parts Name Name). node (defined i (former x)) ps) (rename f g) (λ ps. refl) (made_of c (handle_index x) (written_parts x))
+  bad_key-mapped : (x : X.Entry) → bad_key Y (m.entry x) ≡ bad_key X x
+  bad_key-mapped x = λ j. (kind.Shape, not (is_key (law.primitive_of x j))) ∷ []
 
-  primitive_of-renamed : (t : Type_tree) → primitive_of (rename f g t) ≡ primitive_of t
-  primitive_of-renamed (node (primitive p) ps) = refl
-  primitive_of-renamed (node (defined i (tree.named p)) ps) = refl
-  primitive_of-renamed (node h ps) = refl
+  bad_map_value-mapped : (x : X.Entry) → bad_map_value Y (m.entry x) ≡ bad_map_value X x
+  bad_map_value-mapped x = λ j. (kind.Shape, law.contains handle x j) ∷ []
 
-  has_borrow-renamed : (t : Type_tree) → has_borrow (rename f g t) ≡ has_borrow t
-  has_borrow-renamed t = ap (λ (b : Bool). (kind.Borrow, b) ∷ []) (contains-rename f g borrow t)
+  bad_item-mapped : (x : X.Entry) → bad_item Y (m.entry x) ≡ bad_item X x
+  bad_item-mapped x = λ j. has_borrow-mapped x j ++ ((kind.Shape, is_char (law.primitive_of x j)) ∷ [])
 
-  bad_key-renamed : (t : Type_tree) → bad_key (rename f g t) ≡ bad_key t
-  bad_key-renamed t = ap (λ (p : Option PrimitiveValType). (kind.Shape, not (is_key p)) ∷ []) (primitive_of-renamed t)
+  size_checks-mapped : (x : X.Entry) → size_checks Y (m.entry x) ≡ size_checks X x
+  size_checks-mapped x = λ j. too_many max_size (law.size x j) ++ (too_many max_depth (law.depth x j) ++ (too_many max_abi_size (law.abi_size 4 x j) ++ too_many max_abi_size (law.abi_size 8 x j)))
 
-  bad_map_value-renamed : (t : Type_tree) → bad_map_value (rename f g t) ≡ bad_map_value t
-  bad_map_value-renamed t = ap (λ (b : Bool). (kind.Shape, b) ∷ []) (contains-rename f g handle t)
-
-  bad_element-renamed : (t : Type_tree) → bad_element (rename f g t) ≡ bad_element t
-  bad_element-renamed t = ap (λ (p : Option PrimitiveValType). (kind.Shape, is_char p) ∷ []) (primitive_of-renamed t)
-
-  in_stream-renamed : (t : Type_tree) → (has_borrow (rename f g t) ++ bad_element (rename f g t)) ≡ (has_borrow t ++ bad_element t)
-  in_stream-renamed t =
-      let a : has_borrow (rename f g t) ≡ has_borrow t = has_borrow-renamed t in
-      let b : bad_element (rename f g t) ≡ bad_element t = bad_element-renamed t in
-      λ j. a j ++ b j
-
-  pub size_checks-renamed : (t : Type_tree) → size_checks (rename f g t) ≡ size_checks t
-  size_checks-renamed t =
-      let s : size (rename f g t) ≡ size t = size-rename f g t in
-      let n : depth (rename f g t) ≡ depth t = depth-rename f g t in
-      let a : abi_size 4 (rename f g t) ≡ abi_size 4 t = abi_size-rename f g 4 t in
-      let b : abi_size 8 (rename f g t) ≡ abi_size 8 t = abi_size-rename f g 8 t in
-      λ j. too_many max_size (s j) ++ (too_many max_depth (n j) ++ (too_many max_abi_size (a j) ++ too_many max_abi_size (b j)))
-
-  -- checks of what was found
-  pub found-same : (cs : Type_tree → Checks) → ((t : Type_tree) → cs (rename f g t) ≡ cs t) → (o p : Option Type_tree) → p ≡ option_map (rename f g) o → if_found cs p ≡ if_found cs o
-  found-same cs h o p e = ap (if_found cs) e ∙ go o
+  -- sizes of what is made
+  pub node_checks-mapped : (k : Maker X) (l : Maker Y) (o : Option (New_node X)) (p : Option (New_node Y)) → ((n : New_node X) → o ≡ Some n → l.build (map_node m n) ≡ m.entry (k.build n)) → p ≡ option_map (map_node m) o → if_found (node_checks l) p ≡ if_found (node_checks k) o
+  node_checks-mapped k l o p u e = ap (if_found (node_checks l)) e ∙ go o u
     where
-      go : (q : Option Type_tree) → if_found cs (option_map (rename f g) q) ≡ if_found cs q
-      go None = refl
-      go (Some t) = h t
+      go : (o : Option (New_node X)) → ((n : New_node X) → o ≡ Some n → l.build (map_node m n) ≡ m.entry (k.build n)) → if_found (node_checks l) (option_map (map_node m) o) ≡ if_found (node_checks k) o
+      go None u = refl
+      go (Some n) u = ap (size_checks Y) (u n refl) ∙ size_checks-mapped (k.build n)
 
-  pub result-renamed : (c : Context) (o : Option ComponentValType) → if_found has_borrow (option_tree (rename_context f g c) o) ≡ if_found has_borrow (option_tree c o)
-  result-renamed c o = found-same has_borrow has_borrow-renamed (option_tree c o) (option_tree (rename_context f g c) o) (option_tree-renamed f g c o)
+  pub result-mapped : (c : Context X) → IsKnown Known c → (o : Option ComponentValType) → if_found (has_borrow Y) (option_entry (map_context m c) o) ≡ if_found (has_borrow X) (option_entry c o)
+  result-mapped c w o = found-same m.entry (has_borrow Y) (has_borrow X) has_borrow-mapped (option_entry c o) (option_entry (map_context m c) o) (option-mapped m law c w o)
 
-  simple_content-renamed : (c : Context) (x : ComponentDefinedType) → simple_content (rename_context f g c) x ≡ simple_content c x
-  simple_content-renamed c (d.Map k v) =
-      let a : if_found bad_key (value_tree (rename_context f g c) k) ≡ if_found bad_key (value_tree c k) = found-same bad_key bad_key-renamed (value_tree c k) (value_tree (rename_context f g c) k) (value_tree-renamed f g c k) in
-      let b : if_found bad_map_value (value_tree (rename_context f g c) v) ≡ if_found bad_map_value (value_tree c v) = found-same bad_map_value bad_map_value-renamed (value_tree c v) (value_tree (rename_context f g c) v) (value_tree-renamed f g c v) in
-      λ j. a j ++ b j
-  simple_content-renamed c (d.Future o) = result-renamed c o
-  simple_content-renamed c (d.Stream o) = found-same (λ t. has_borrow t ++ bad_element t) in_stream-renamed (option_tree c o) (option_tree (rename_context f g c) o) (option_tree-renamed f g c o)
-  simple_content-renamed c x = refl
+  simple_content-mapped : (c : Context X) → IsKnown Known c → (x : ComponentDefinedType) → simple_content (map_context m c) x ≡ simple_content c x
+  simple_content-mapped c w (d.Map k v) = λ j.
+      found-same m.entry (bad_key Y) (bad_key X) bad_key-mapped (value_entry c k) (value_entry (map_context m c) k) (value-mapped m law c w k) j ++
+      found-same m.entry (bad_map_value Y) (bad_map_value X) bad_map_value-mapped (value_entry c v) (value_entry (map_context m c) v) (value-mapped m law c w v) j
+  simple_content-mapped c w (d.Future o) = result-mapped c w o
+  simple_content-mapped c w (d.Stream o) = found-same m.entry (bad_item Y) (bad_item X) bad_item-mapped (option_entry c o) (option_entry (map_context m c) o) (option-mapped m law c w o)
+  simple_content-mapped c w x = refl
 
-  content_checks-renamed : (c : Context) (x : Defined_form) → content_checks (rename_context f g c) x ≡ content_checks c x
-  content_checks-renamed c (simple x) = simple_content-renamed c x
-  content_checks-renamed c (record_of fs) = refl
-  content_checks-renamed c (variant_of cs) = refl
-  content_checks-renamed c (tuple_of vs) = refl
-  content_checks-renamed c (flags_of ns) = refl
-  content_checks-renamed c (enum_of ns) = refl
+  content_checks-mapped : (c : Context X) → IsKnown Known c → (x : Defined_form) → content_checks (map_context m c) x ≡ content_checks c x
+  content_checks-mapped c w (simple x) = simple_content-mapped c w x
+  content_checks-mapped c w (record_of fs) = refl
+  content_checks-mapped c w (variant_of cs) = refl
+  content_checks-mapped c w (tuple_of vs) = refl
+  content_checks-mapped c w (flags_of ns) = refl
+  content_checks-mapped c w (enum_of ns) = refl
 
-  pub defined_checks-renamed : (fs : WasmFeatures) (c : Context) (x : Defined_form) → defined_checks fs (rename_context f g c) x ≡ defined_checks fs c x
-  defined_checks-renamed fs c x =
-      let a : made_checks fs (rename_context f g c) (handle_index x) (written_parts x) ≡ made_checks fs c (handle_index x) (written_parts x) = made_checks-renamed fs c (handle_index x) (written_parts x) in
-      let b : content_checks (rename_context f g c) x ≡ content_checks c x = content_checks-renamed c x in
-      let s : if_found size_checks (defined_tree (base []) (rename_context f g c) x) ≡ if_found size_checks (defined_tree (base []) c x) =
-      sizes_aside (former x) (base []) (g (base [])) (made_of (rename_context f g c) (handle_index x) (written_parts x)) ∙
-      found-same size_checks size_checks-renamed (defined_tree (base []) c x) (defined_tree (g (base [])) (rename_context f g c) x) (defined_tree-renamed (base []) c x) in
-      λ j. own_checks fs x ++ (a j ++ (b j ++ s j))
+  pub defined_checks-mapped : (fs : WasmFeatures) (k : Maker X) (l : Maker Y) (c : Context X) → IsKnown Known c → (x : Defined_form) →
+      ((n : New_node X) → defined_made c x ≡ Some n → l.build (map_node m n) ≡ m.entry (k.build n)) → defined_checks fs l (map_context m c) x ≡ defined_checks fs k c x
+  defined_checks-mapped fs k l c w x u = λ j.
+      own_checks fs x ++ (made_checks-mapped fs c w (handle_index x) (written_parts x) j ++ (content_checks-mapped c w x j ++ node_checks-mapped k l (defined_made c x) (defined_made (map_context m c) x) u (defined_made-mapped c w x) j))
 
 -- ## Without a cause
 
-pub made_there : (fs : WasmFeatures) (c : Context) (o : Option ℕ) (ps : Written_parts) → IsFree (made_checks fs c o ps) → (qs : Parts Name Name) × (made_of c o ps ≡ Some qs)
-made_there fs c None ps h = parts_there fs c ps h
-made_there fs c (Some k) ps h =
-    let t = found_of is_resource (type_at c k) h in
-    (part here t.0 none, ap (option_map (λ (u : Type_tree). part here u none)) t.1)
+pub made_there : (X : Reader) (fs : WasmFeatures) (c : Context X) (o : Option ℕ) (ps : Written_parts) → IsFree (made_checks fs c o ps) → (qs : Made_parts X) × (made_of c o ps ≡ Some qs)
+made_there X fs c None ps h = parts_there X fs c ps h
+made_there X fs c (Some k) ps h =
+    let x = found_of X is_resource (type_at c k) h in
+    ((here, x.0) ∷ [], ap (option_map (λ y. (here, y) ∷ [])) x.1)

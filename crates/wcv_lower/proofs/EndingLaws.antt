@@ -1,101 +1,72 @@
--- The type at an end under a renaming; where no cause stands there, there is one.
-use Rattle.std.proofs.Common.{◌≡◌, ℕ, List, [], ◌∷◌, map, refl, sym, ◌∙◌, ap, Bool, true, false, cond, ◌||◌, Some, None}
+-- The type at an end and its causes under a map of entries; where no cause stands there, there is one.
+use Rattle.std.proofs.Common.{◌≡◌, ℕ, List, [], ◌∷◌, refl, sym, ◌∙◌, ap, Bool, true, false, cond, ◌||◌, Some, None}
 use Rattle.std.specs.Prelude.{Option}
 use Rattle.std.specs.Option.{option_map, option_and_then}
 use Rattle.std.proofs.lemmas.Bool.{false≢true}
-use Rattle.wcv_core.specs.Names.{Name}
 use Rattle.wcv_core.specs.declared.core_types.ValType.{ValType}
-use Rattle.wcv_types.specs.Tree.{Extern_name, Role, import, export, component, node, Parts, none, part, entries, component_type}
-use Rattle.wcv_types.specs.FirstPath.{first_path}
-use Rattle.wcv_types.specs.Rename.{rename, rename_parts, rename_paths, EachName}
-use Rattle.wcv_types.specs.Resources.{is_free}
-use Rattle.wcv_types.proofs.FirstPath.{path_from-renamed}
-use Rattle.wcv_types.proofs.IsFree.{is_free-renamed}
-use Rattle.wcv_types.proofs.Renaming.{each-always}
-use Rattle.wcv_lower.specs.Checks.{is_none}
-use Rattle.wcv_lower.specs.Context.{Type_tree, Entries, Context, importing, exporting}
-use Rattle.wcv_lower.specs.Ending.{is_free_among, any_free, keep, kept, type_at_end}
-use Rattle.wcv_lower.specs.Renamed.{Renaming, rename_entry, rename_defined, rename_context}
+use Rattle.wcv_core.specs.declared.error.ErrorKind.TheVariants as kind
+use Rattle.wcv_lower.specs.Checks.{IsFree, is_none}
+use Rattle.wcv_lower.specs.Context.{Context, importing, exporting}
+use Rattle.wcv_lower.specs.Ending.{is_free_among, any_free, keep, kept, component_of, component_made, type_at_end, end_checks}
+use Rattle.wcv_lower.specs.Mapped.{Map, Commutes, map_entries, map_paths, map_defined, map_context, map_node}
+use Rattle.wcv_lower.specs.Readers.{Reader, Named, New_node}
+use Rattle.wcv_lower.proofs.Mapping.{mapped-square}
 
-module _ (w : Renaming) where
-  abbrev f : Name → Name
-  f = w.resources.to
+pub none-mapped : {A B : Type 0} (f : A → B) (o : Option A) → is_none (option_map f o) ≡ is_none o
+none-mapped f None = refl
+none-mapped f (Some x) = refl
 
-  abbrev g : Name → Name
-  g = w.identities.to
+module _ {X Y : Reader} (m : Map X Y) {Known : X.Entry → Type 0} (law : Commutes m Known) where
+  free_among-mapped : (r : X.Resource) (es : Named X) → is_free_among Y (m.resource r) (map_entries m.entry es) ≡ is_free_among X r es
+  free_among-mapped r [] = refl
+  free_among-mapped r (e ∷ es) = λ j. law.is_free r e.1 j || free_among-mapped r es j
 
-  abbrev Anything : Name → Type 0
-  Anything x = Unit {0}
+  pub any_free-mapped : (ds : List (X.Resource × Option ValType)) (es : Named X) → any_free Y (map_defined m ds) (map_entries m.entry es) ≡ any_free X ds es
+  any_free-mapped [] es = refl
+  any_free-mapped (d ∷ ds) es = λ j. free_among-mapped d.0 es j || any_free-mapped ds es j
 
-  has_way_back : (t : Type_tree) → EachName (λ r. w.resources.back (f r) ≡ r) Anything t
-  has_way_back t = each-always (λ (r : Name). w.resources.back (f r) ≡ r) Anything w.resources.is_back (λ x. tt) t
-
-  free_among-renamed : (r : Name) (es : Entries) → is_free_among (f r) (map (rename_entry f g) es) ≡ is_free_among r es
-  free_among-renamed r [] = refl
-  free_among-renamed r (e ∷ es) =
-      let a : is_free (f r) (rename f g e.1) ≡ is_free r e.1 = is_free-renamed f w.resources.back g Anything r e.1 (w.resources.is_back r) (has_way_back e.1) in
-      let b : is_free_among (f r) (map (rename_entry f g) es) ≡ is_free_among r es = free_among-renamed r es in
-      λ j. a j || b j
-
-  pub any_free-renamed : (ds : List (Name × Option ValType)) (es : Entries) → any_free (rename_defined f ds) (map (rename_entry f g) es) ≡ any_free ds es
-  any_free-renamed [] es = refl
-  any_free-renamed (d ∷ ds) es =
-      let a : is_free_among (f d.0) (map (rename_entry f g) es) ≡ is_free_among d.0 es = free_among-renamed d.0 es in
-      let b : any_free (rename_defined f ds) (map (rename_entry f g) es) ≡ any_free ds es = any_free-renamed ds es in
-      λ j. a j || b j
-
-  first_path-renamed : (r : Name) (es : Entries) → first_path (f r) (map (rename_entry f g) es) ≡ first_path r es
-  first_path-renamed r es = path_from-renamed f w.resources.back g Anything r 0 es (w.resources.is_back r) (λ e. has_way_back e.1)
-
-  keep-renamed : (r : Name) (es : Entries) (ps : List (Name × List ℕ)) → keep (f r) (map (rename_entry f g) es) (rename_paths f ps) ≡ option_map (rename_paths f) (keep r es ps)
-  keep-renamed r es ps =
-      (λ j. cond (free_among-renamed r es j) (option_map (λ p. (f r, p) ∷ rename_paths f ps) (first_path-renamed r es j)) (Some (rename_paths f ps))) ∙ go (is_free_among r es) (first_path r es)
+  keep-mapped : (r : X.Resource) (es : Named X) (ps : List (X.Resource × List ℕ)) → keep Y (m.resource r) (map_entries m.entry es) (map_paths m.resource ps) ≡ option_map (map_paths m.resource) (keep X r es ps)
+  keep-mapped r es ps =
+      (λ j. cond (free_among-mapped r es j) (option_map (λ p. (m.resource r, p) ∷ map_paths m.resource ps) (law.first_path r es j)) (Some (map_paths m.resource ps))) ∙ go (is_free_among X r es) (X.first_path r es)
     where
-      go : (b : Bool) (o : Option (List ℕ)) → cond b (option_map (λ p. (f r, p) ∷ rename_paths f ps) o) (Some (rename_paths f ps)) ≡ option_map (rename_paths f) (cond b (option_map (λ p. (r, p) ∷ ps) o) (Some ps))
+      go : (b : Bool) (o : Option (List ℕ)) → cond b (option_map (λ p. (m.resource r, p) ∷ map_paths m.resource ps) o) (Some (map_paths m.resource ps)) ≡ option_map (map_paths m.resource) (cond b (option_map (λ p. (r, p) ∷ ps) o) (Some ps))
       go true None = refl
       go true (Some p) = refl
       go false o = refl
 
-  pub kept-renamed : (ds : List (Name × Option ValType)) (es : Entries) → kept (rename_defined f ds) (map (rename_entry f g) es) ≡ option_map (rename_paths f) (kept ds es)
-  kept-renamed [] es = refl
-  kept-renamed (d ∷ ds) es = ap (option_and_then (keep (f d.0) (map (rename_entry f g) es))) (kept-renamed ds es) ∙ go (kept ds es)
+  pub kept-mapped : (ds : List (X.Resource × Option ValType)) (es : Named X) → kept Y (map_defined m ds) (map_entries m.entry es) ≡ option_map (map_paths m.resource) (kept X ds es)
+  kept-mapped [] es = refl
+  kept-mapped (d ∷ ds) es = ap (option_and_then (keep Y (m.resource d.0) (map_entries m.entry es))) (kept-mapped ds es) ∙ go (kept X ds es)
     where
-      go : (o : Option (List (Name × List ℕ))) → option_and_then (keep (f d.0) (map (rename_entry f g) es)) (option_map (rename_paths f) o) ≡ option_map (rename_paths f) (option_and_then (keep d.0 es) o)
+      go : (o : Option (List (X.Resource × List ℕ))) → option_and_then (keep Y (m.resource d.0) (map_entries m.entry es)) (option_map (map_paths m.resource) o) ≡ option_map (map_paths m.resource) (option_and_then (keep X d.0 es) o)
       go None = refl
-      go (Some ps) = keep-renamed d.0 es ps
+      go (Some ps) = keep-mapped d.0 es ps
 
   -- ## The type
 
-  entries-renamed : (role : Extern_name → Role) (es : Entries) (rest : Parts Name Name) → rename_parts f g (entries role es rest) ≡ entries role (map (rename_entry f g) es) (rename_parts f g rest)
-  entries-renamed role [] rest = refl
-  entries-renamed role (x ∷ es) rest = ap (λ (ps : Parts Name Name). part (role x.0) (rename f g x.1) ps) (entries-renamed role es rest)
-
-  component-renamed : (i : Name) (ins outs : List (Name × List ℕ)) (es es' : Entries) →
-      rename f g (component_type i ins outs es es') ≡ component_type (g i) (rename_paths f ins) (rename_paths f outs) (map (rename_entry f g) es) (map (rename_entry f g) es')
-  component-renamed i ins outs es es' =
-      ap (λ (ps : Parts Name Name). node (component (g i) (rename_paths f ins) (rename_paths f outs)) ps)
-      (entries-renamed import es (entries export es' none) ∙ ap (λ (ps : Parts Name Name). entries import (map (rename_entry f g) es) ps) (entries-renamed export es' none))
-
-  pub type_at_end-renamed : (i : Name) (c : Context) → type_at_end (g i) (rename_context f g c) ≡ option_map (rename f g) (type_at_end i c)
-  type_at_end-renamed i c =
-      (λ j. cond (any_free-renamed c.defined (c.side importing) j) None
-      (option_map (λ ds. component_type (g i) (rename_paths f c.imported) ds (map (rename_entry f g) (c.side importing)) (map (rename_entry f g) (c.side exporting))) (kept-renamed c.defined (c.side exporting) j))) ∙
-      go (any_free c.defined (c.side importing)) (kept c.defined (c.side exporting))
+  component_made-mapped : (c : Context X) → component_made (map_context m c) ≡ option_map (map_node m) (component_made c)
+  component_made-mapped c =
+      (λ j. cond (any_free-mapped c.defined (c.side importing) j) None (option_map (component_of (map_context m c)) (kept-mapped c.defined (c.side exporting) j))) ∙
+      go (any_free X c.defined (c.side importing)) (kept X c.defined (c.side exporting))
     where
-      go : (b : Bool) (o : Option (List (Name × List ℕ))) →
-          cond b None (option_map (λ ds. component_type (g i) (rename_paths f c.imported) ds (map (rename_entry f g) (c.side importing)) (map (rename_entry f g) (c.side exporting))) (option_map (rename_paths f) o)) ≡
-          option_map (rename f g) (cond b None (option_map (λ ds. component_type i c.imported ds (c.side importing) (c.side exporting)) o))
+      go : (b : Bool) (o : Option (List (X.Resource × List ℕ))) → cond b None (option_map (component_of (map_context m c)) (option_map (map_paths m.resource) o)) ≡ option_map (map_node m) (cond b None (option_map (component_of c) o))
       go true o = refl
       go false None = refl
-      go false (Some ds) = ap Some (sym (component-renamed i c.imported ds (c.side importing) (c.side exporting)))
+      go false (Some ds) = refl
 
--- where no defined resource is free in an import, and each that is free in an export has a path
-pub has_type : (i : Name) (c : Context) → any_free c.defined (c.side importing) ≡ false → is_none (kept c.defined (c.side exporting)) ≡ false → (t : Type_tree) × (type_at_end i c ≡ Some t)
-has_type i c a k = go (kept c.defined (c.side exporting)) refl k
+  pub type_at_end-mapped : (u : New_node X → X.Entry) (v : New_node Y → Y.Entry) → ((n : New_node X) → v (map_node m n) ≡ m.entry (u n)) → (c : Context X) → type_at_end v (map_context m c) ≡ option_map m.entry (type_at_end u c)
+  type_at_end-mapped u v h c = ap (option_map v) (component_made-mapped c) ∙ mapped-square (map_node m) v u m.entry h (component_made c)
+
+  pub end_checks-mapped : (c : Context X) → end_checks (map_context m c) ≡ end_checks c
+  end_checks-mapped c = λ j.
+      (kind.ResourceScope, any_free-mapped c.defined (c.side importing) j)
+      ∷ (kind.ResourceScope, (ap is_none (kept-mapped c.defined (c.side exporting)) ∙ none-mapped (map_paths m.resource) (kept X c.defined (c.side exporting))) j) ∷ []
+
+-- ## Without a cause
+
+pub has_type : {X : Reader} (build : New_node X → X.Entry) (c : Context X) → IsFree (end_checks c) → (x : X.Entry) × (type_at_end build c ≡ Some x)
+has_type {X} build c h = go (kept X c.defined (c.side exporting)) refl h.1.0
   where
-    go : (o : Option (List (Name × List ℕ))) → kept c.defined (c.side exporting) ≡ o → is_none o ≡ false → (t : Type_tree) × (type_at_end i c ≡ Some t)
+    go : (o : Option (List (X.Resource × List ℕ))) → kept X c.defined (c.side exporting) ≡ o → is_none o ≡ false → (x : X.Entry) × (type_at_end build c ≡ Some x)
     go None e n = absurd (false≢true (sym n))
-    go (Some ds) e n = (
-      component_type i c.imported ds (c.side importing) (c.side exporting),
-      (λ j. cond (a j) None (option_map (λ ps. component_type i c.imported ps (c.side importing) (c.side exporting)) (e j))),
-    )
+    go (Some ds) e n = (build (component_of c ds), (λ j. option_map build (cond (h.0 j) None (option_map (component_of c) (e j)))))

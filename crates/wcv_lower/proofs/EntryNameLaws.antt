@@ -16,15 +16,18 @@ use Rattle.wcv_types.specs.Tree.{Text, Extern_name, Sort, is_nothing, is_type, n
 use Rattle.wcv_types.proofs.Identity.{same_under, identity-same}
 use Rattle.wcv_types.proofs.Lists.{map-map}
 use Rattle.wcv_names.specs.Externs as externs
-use Rattle.wcv_names.specs.ResourceNames.{Reference, Resource_names, same_reference, is_text, is_named_so}
+use Rattle.wcv_names.specs.ResourceNames.{Reference, Resource_names, same_reference, is_named_so}
+use Rattle.wcv_names.specs.TextSet.{is_text}
 use Rattle.wcv_names.specs.Rules.{is_own, is_borrow, if_ok, is_left_out, Params, params, gives, takes_self, rest, is_empty, is_single, is_used_so, function_fits, fits, by_name, getter_in, gotten, first_type, taken, is_given, is_paired_by, is_paired, follows}
 use Rattle.wcv_names.specs.SameValues.{alike}
 use Rattle.wcv_names.specs.WholeNames.{is_bad_name, lacks_feature}
 use Rattle.wcv_names.proofs.Renamed.{alike-renamed}
-use Rattle.wcv_lower.specs.Context.{Type_tree, Entries}
+use Rattle.wcv_types.specs.Unfold.{Type_tree}
+use Rattle.wcv_names.specs.Rules.{Entries}
 use Rattle.wcv_lower.specs.EntryNames.{reference_in, references_by, named_by, named_references, resource_names, name_checks}
-use Rattle.wcv_lower.specs.Renamed.{Renaming, rename_entry}
-use Rattle.wcv_lower.proofs.Laws.{sort-renamed, created-renamed}
+use Rattle.wcv_lower.specs.Mapped.{map_entries}
+use Rattle.wcv_lower.specs.Renamed.{Renaming}
+use Rattle.wcv_lower.proofs.TreeLaws.{sort-renamed, created-renamed}
 
 module _ (w : Renaming) where
   abbrev f : Name → Name
@@ -125,7 +128,7 @@ module _ (w : Renaming) where
   abbrev listed_to : List (Text × Type_tree) → List (Text × Type_tree)
   listed_to es = map (λ e. (e.0, to e.1)) es
 
-  by_name-same : (es : Entries) → by_name (map (rename_entry f g) es) ≡ listed_to (by_name es)
+  by_name-same : (es : Entries) → by_name (map_entries to es) ≡ listed_to (by_name es)
   by_name-same [] = refl
   by_name-same (e ∷ es) = ap (λ (xs : List (Text × Type_tree)). (e.0.name, to e.1) ∷ xs) (by_name-same es)
 
@@ -161,11 +164,11 @@ module _ (w : Renaming) where
   paired_by get t o = refl
   paired_by set t o = given t o
 
-  paired : (es : Entries) (n : Form) (t : Type_tree) → is_paired (map (rename_entry f g) es) n (to t) ≡ is_paired es n t
+  paired : (es : Entries) (n : Form) (t : Type_tree) → is_paired (map_entries to es) n (to t) ≡ is_paired es n t
   paired es n (node (func i async) ps) =
       let l : Text = written (getter_of n) in
       let a : taken n (params (rename_parts f g ps)) ≡ to (taken n (params ps)) = ap (taken n) (params-same ps) ∙ taken-same n (params ps) in
-      let b : getter_in n (map (rename_entry f g) es) ≡ option_map to (getter_in n es) = ap (lookup (bytes_eq l)) (by_name-same es) ∙ first-same l (by_name es) in
+      let b : getter_in n (map_entries to es) ≡ option_map to (getter_in n es) = ap (lookup (bytes_eq l)) (by_name-same es) ∙ first-same l (by_name es) in
       (λ j. is_paired_by (access_of n) (a j) (b j)) ∙ paired_by (access_of n) (taken n (params ps)) (getter_in n es)
   paired es n _ = refl
 
@@ -175,7 +178,7 @@ module _ (w : Renaming) where
   instance-same (node (instance i rs) ps) = refl
   instance-same _ = refl
 
-  entry_names-same : (es : Entries) → externs.entry_names (map (rename_entry f g) es) ≡ externs.entry_names es
+  entry_names-same : (es : Entries) → externs.entry_names (map_entries to es) ≡ externs.entry_names es
   entry_names-same [] = refl
   entry_names-same (e ∷ es) = ap (λ (xs : List Text). e.0.name ∷ xs) (entry_names-same es)
 
@@ -215,21 +218,21 @@ module _ (w : Renaming) where
         (λ j. function_fits (names_to ns) n async (p j) (q j)) ∙ function n async (params ps) (gives ps)
     fits-same n _ = refl
 
-    follows-same : (es : Entries) (n : Form) (t : Type_tree) → follows (names_to ns) (map (rename_entry f g) es) n (to t) ≡ follows ns es n t
+    follows-same : (es : Entries) (n : Form) (t : Type_tree) → follows (names_to ns) (map_entries to es) n (to t) ≡ follows ns es n t
     follows-same es n t =
         let a : fits (names_to ns) n (to t) ≡ fits ns n t = fits-same n t in
-        let b : is_paired (map (rename_entry f g) es) n (to t) ≡ is_paired es n t = paired es n t in
+        let b : is_paired (map_entries to es) n (to t) ≡ is_paired es n t = paired es n t in
         λ j. a j && b j
 
-    breaks-same : (es : Entries) (n : Option Form) (t : Type_tree) → externs.breaks_rule (names_to ns) (map (rename_entry f g) es) n (to t) ≡ externs.breaks_rule ns es n t
+    breaks-same : (es : Entries) (n : Option Form) (t : Type_tree) → externs.breaks_rule (names_to ns) (map_entries to es) n (to t) ≡ externs.breaks_rule ns es n t
     breaks-same es None t = refl
     breaks-same es (Some n) t = ap not (follows-same es n t)
 
-    checks-same : (fs : WasmFeatures) (es : Entries) (n : Extern_name) (t : Type_tree) → externs.name_checks (names_to ns) fs (map (rename_entry f g) es) n (to t) ≡ externs.name_checks ns fs es n t
+    checks-same : (fs : WasmFeatures) (es : Entries) (n : Extern_name) (t : Type_tree) → externs.name_checks (names_to ns) fs (map_entries to es) n (to t) ≡ externs.name_checks ns fs es n t
     checks-same fs es n t =
         let a : externs.is_instance_tree (to t) ≡ externs.is_instance_tree t = instance-same t in
-        let b : externs.breaks_rule (names_to ns) (map (rename_entry f g) es) (form_of n.name) (to t) ≡ externs.breaks_rule ns es (form_of n.name) t = breaks-same es (form_of n.name) t in
-        let c : externs.entry_names (map (rename_entry f g) es) ≡ externs.entry_names es = entry_names-same es in
+        let b : externs.breaks_rule (names_to ns) (map_entries to es) (form_of n.name) (to t) ≡ externs.breaks_rule ns es (form_of n.name) t = breaks-same es (form_of n.name) t in
+        let c : externs.entry_names (map_entries to es) ≡ externs.entry_names es = entry_names-same es in
         λ j. (kind.Name, is_bad_name (a j) n) ∷ (kind.Feature, lacks_feature fs n) ∷ (kind.MethodName, b j) ∷ (kind.Conflict, externs.conflicts (c j) n.name) ∷ []
 
   -- ## Names of resources
@@ -248,7 +251,7 @@ module _ (w : Renaming) where
   references-renamed is_nothing t = refl
   references-renamed x t = refl
 
-  named_by-renamed : (e : Extern_name × Type_tree) → named_by (rename_entry f g e) ≡ map named_to (named_by e)
+  named_by-renamed : (e : Extern_name × Type_tree) → named_by (e.0, to e.1) ≡ map named_to (named_by e)
   named_by-renamed e =
       let rs : references_by (sort (to e.1)) (to e.1) ≡ map reference_to (references_by (sort e.1) e.1) =
       ap (λ (s : Sort). references_by s (to e.1)) (sort-renamed f g e.1) ∙ references-renamed (sort e.1) e.1 in
@@ -256,21 +259,21 @@ module _ (w : Renaming) where
       map-map (λ (r : Reference). (r, e.0.name)) reference_to (references_by (sort e.1) e.1) ∙
       sym (map-map named_to (λ (r : Reference). (r, e.0.name)) (references_by (sort e.1) e.1))
 
-  named-renamed : (es : Entries) → named_references (map (rename_entry f g) es) ≡ map named_to (named_references es)
+  named-renamed : (es : Entries) → named_references (map_entries to es) ≡ map named_to (named_references es)
   named-renamed [] = refl
   named-renamed (e ∷ es) =
-      let a : named_by (rename_entry f g e) ≡ map named_to (named_by e) = named_by-renamed e in
-      let b : named_references (map (rename_entry f g) es) ≡ map named_to (named_references es) = named-renamed es in
+      let a : named_by (e.0, to e.1) ≡ map named_to (named_by e) = named_by-renamed e in
+      let b : named_references (map_entries to es) ≡ map named_to (named_references es) = named-renamed es in
       (λ j. a j ++ b j) ∙ sym (map-append named_to (named_by e) (named_references es))
 
-  resource_names-renamed : (es : Entries) → resource_names (map (rename_entry f g) es) ≡ names_to (resource_names es)
+  resource_names-renamed : (es : Entries) → resource_names (map_entries to es) ≡ names_to (resource_names es)
   resource_names-renamed es =
-      let a : named_references (map (rename_entry f g) es) ≡ map named_to (named_references es) = named-renamed es in
-      let b : map (λ (p : Reference × Text). p.1) (named_references (map (rename_entry f g) es)) ≡ map (λ (p : Reference × Text). p.1) (named_references es) =
+      let a : named_references (map_entries to es) ≡ map named_to (named_references es) = named-renamed es in
+      let b : map (λ (p : Reference × Text). p.1) (named_references (map_entries to es)) ≡ map (λ (p : Reference × Text). p.1) (named_references es) =
       ap (λ (ps : List (Reference × Text)). map (λ (p : Reference × Text). p.1) ps) a ∙ map-map (λ (p : Reference × Text). p.1) named_to (named_references es) in
       λ j. record { references = a j; names = b j }
 
   pub name_checks-renamed : (fs : WasmFeatures) (es : Entries) (n : Extern_name) (t : Type_tree) →
-      name_checks fs (map (rename_entry w.resources.to w.identities.to) es) n (rename w.resources.to w.identities.to t) ≡ name_checks fs es n t
+      name_checks fs (map_entries (rename w.resources.to w.identities.to) es) n (rename w.resources.to w.identities.to t) ≡ name_checks fs es n t
   name_checks-renamed fs es n t =
-      ap (λ (ns : Resource_names). externs.name_checks ns fs (map (rename_entry f g) es) n (to t)) (resource_names-renamed es) ∙ checks-same (resource_names es) fs es n t
+      ap (λ (ns : Resource_names). externs.name_checks ns fs (map_entries to es) n (to t)) (resource_names-renamed es) ∙ checks-same (resource_names es) fs es n t

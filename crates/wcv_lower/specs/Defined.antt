@@ -2,7 +2,6 @@
 use Rattle.wcv_core.specs.Limits.{max_abi_size, max_depth, max_elements, max_list, max_size}
 use Rattle.std.specs.Prelude.{ℕ, List, [], ◌∷◌, ◌++◌, map, length, Bool, true, false, not, ◌||◌, ◌==◌, nat_lt, Option, Some, None}
 use Rattle.std.specs.Option.{option_map}
-use Rattle.wcv_core.specs.Names.{Name, base}
 use Rattle.wcv_core.specs.declared.error.ErrorKind.TheVariants as kind
 use Rattle.wcv_core.specs.declared.features.WasmFeatures.{WasmFeatures}
 use Rattle.wcv_core.specs.declared.primitive.PrimitiveValType.{PrimitiveValType}
@@ -10,13 +9,13 @@ use Rattle.wcv_core.specs.declared.primitive.PrimitiveValType.TheVariants as pri
 use Rattle.wcv_syntax.specs.declared.component_type.ComponentDefinedType.{ComponentDefinedType}
 use Rattle.wcv_syntax.specs.declared.component_type.ComponentDefinedType.TheVariants as d
 use Rattle.wcv_syntax.specs.Model.{Defined_form, record_of, variant_of, tuple_of, flags_of, enum_of, simple}
-use Rattle.wcv_types.specs.Abi.{handle, borrow, contains, abi_size}
-use Rattle.wcv_types.specs.Measure.{size, depth}
+use Rattle.wcv_types.specs.Abi.{handle, borrow}
 use Rattle.wcv_types.specs.Tree as tree
-use Rattle.wcv_types.specs.Tree.{Text, Former, here, label, defined, primitive, node, none, part, Parts, is_resource, sort}
-use Rattle.wcv_lower.specs.Checks.{Checks, if_found, missing_of, too_many, each_too_long, label_checks, max_flags}
-use Rattle.wcv_lower.specs.Context.{Type_tree, Context}
-use Rattle.wcv_lower.specs.Values.{lacks, primitive_checks, cm_async, cm_map, cm_fixed_length_lists, type_at, resource_at, value_tree, option_tree, Written_parts, parts_trees, parts_checks}
+use Rattle.wcv_types.specs.Tree.{Text, Former, here, label, is_resource}
+use Rattle.wcv_lower.specs.Checks.{Checks, if_found, too_many, each_too_long, label_checks, max_flags}
+use Rattle.wcv_lower.specs.Context.{Context}
+use Rattle.wcv_lower.specs.Readers.{Reader, Made_parts, New_node, defined_node, Maker}
+use Rattle.wcv_lower.specs.Values.{lacks, primitive_checks, cm_async, cm_map, cm_fixed_length_lists, sort_checks, resource_at, value_entry, option_entry, Written_parts, parts_entries, parts_checks}
 
 -- ## What it is made of
 
@@ -85,13 +84,13 @@ handle_index (simple x) = simple_handle x
 handle_index x = None
 
 -- what it is made of: a handle of the reference to its resource, other types of value types
-abbrev pub made_of : Context → Option ℕ → Written_parts → Option (Parts Name Name)
-made_of c None ps = parts_trees c ps
-made_of c (Some k) ps = option_map (λ t. part here t none) (resource_at c k)
+abbrev pub made_of : {X : Reader} → Context X → Option ℕ → Written_parts → Option (Made_parts X)
+made_of c None ps = parts_entries c ps
+made_of c (Some k) ps = option_map (λ x. (here, x) ∷ []) (resource_at c k)
 
--- the tree under an identity, where each of them is found
-abbrev pub defined_tree : Name → Context → Defined_form → Option Type_tree
-defined_tree i c x = option_map (λ ps. node (defined i (former x)) ps) (made_of c (handle_index x) (written_parts x))
+-- the node, where each of them is found
+abbrev pub defined_made : {X : Reader} → Context X → Defined_form → Option (New_node X)
+defined_made c x = option_map (defined_node (former x)) (made_of c (handle_index x) (written_parts x))
 
 -- ## How many entries
 
@@ -131,12 +130,6 @@ feature_checks fs x = []
 
 -- ## What may stand in it
 
--- the primitive that a type is, under a name or not
-abbrev pub primitive_of : Type_tree → Option PrimitiveValType
-primitive_of (node (primitive p) ps) = Some p
-primitive_of (node (defined i (tree.named p)) ps) = Some p
-primitive_of t = None
-
 -- a primitive that keys of a map may have
 abbrev pub is_key : Option PrimitiveValType → Bool
 is_key None = false
@@ -150,47 +143,55 @@ is_char (Some prim.Char) = true
 is_char o = false
 
 -- no borrowed handle may stand in it
-abbrev pub has_borrow : Type_tree → Checks
-has_borrow t = (kind.Borrow, contains borrow t) ∷ []
+abbrev pub has_borrow : (X : Reader) → X.Entry → Checks
+has_borrow X x = (kind.Borrow, X.contains borrow x) ∷ []
 
-abbrev pub bad_key : Type_tree → Checks
-bad_key t = (kind.Shape, not (is_key (primitive_of t))) ∷ []
+abbrev pub bad_key : (X : Reader) → X.Entry → Checks
+bad_key X x = (kind.Shape, not (is_key (X.primitive_of x))) ∷ []
 
-abbrev pub bad_map_value : Type_tree → Checks
-bad_map_value t = (kind.Shape, contains handle t) ∷ []
+abbrev pub bad_map_value : (X : Reader) → X.Entry → Checks
+bad_map_value X x = (kind.Shape, X.contains handle x) ∷ []
 
-abbrev pub bad_element : Type_tree → Checks
-bad_element t = (kind.Shape, is_char (primitive_of t)) ∷ []
+abbrev pub bad_element : (X : Reader) → X.Entry → Checks
+bad_element X x = (kind.Shape, is_char (X.primitive_of x)) ∷ []
 
-abbrev pub simple_content : Context → ComponentDefinedType → Checks
-simple_content c (d.Map k v) = if_found bad_key (value_tree c k) ++ if_found bad_map_value (value_tree c v)
-simple_content c (d.Future o) = if_found has_borrow (option_tree c o)
-simple_content c (d.Stream o) = if_found (λ t. has_borrow t ++ bad_element t) (option_tree c o)
+-- what a stream may not carry
+abbrev pub bad_item : (X : Reader) → X.Entry → Checks
+bad_item X x = has_borrow X x ++ bad_element X x
+
+abbrev pub simple_content : {X : Reader} → Context X → ComponentDefinedType → Checks
+simple_content {X} c (d.Map k v) = if_found (bad_key X) (value_entry c k) ++ if_found (bad_map_value X) (value_entry c v)
+simple_content {X} c (d.Future o) = if_found (has_borrow X) (option_entry c o)
+simple_content {X} c (d.Stream o) = if_found (bad_item X) (option_entry c o)
 simple_content c x = []
 
-abbrev pub content_checks : Context → Defined_form → Checks
+abbrev pub content_checks : {X : Reader} → Context X → Defined_form → Checks
 content_checks c (simple x) = simple_content c x
 content_checks c x = []
 
 -- ## Limits
 
 -- a type that is too large, too deep, or too large in memory
-abbrev pub size_checks : Type_tree → Checks
-size_checks t = too_many max_size (size t) ++ (too_many max_depth (depth t) ++ (too_many max_abi_size (abi_size 4 t) ++ too_many max_abi_size (abi_size 8 t)))
+abbrev pub size_checks : (X : Reader) → X.Entry → Checks
+size_checks X x = too_many max_size (X.size x) ++ (too_many max_depth (X.depth x) ++ (too_many max_abi_size (X.abi_size 4 x) ++ too_many max_abi_size (X.abi_size 8 x)))
+
+-- so a node that is made
+abbrev pub node_checks : {X : Reader} → Maker X → New_node X → Checks
+node_checks {X} mk n = size_checks X (mk.build n)
 
 -- ## All causes, but for the limits that are left to the caller
 
 -- what it is made of is not there
-abbrev pub made_checks : WasmFeatures → Context → Option ℕ → Written_parts → Checks
+abbrev pub made_checks : {X : Reader} → WasmFeatures → Context X → Option ℕ → Written_parts → Checks
 made_checks fs c None ps = parts_checks fs c ps
-made_checks fs c (Some k) ps = missing_of is_resource (option_map sort (type_at c k))
+made_checks fs c (Some k) ps = sort_checks is_resource c k
 
 -- the causes that need no context
 abbrev pub own_checks : WasmFeatures → Defined_form → Checks
 own_checks fs x = shape_checks x ++ (label_checks (names_in x) ++ feature_checks fs x)
 
-abbrev pub defined_checks : WasmFeatures → Context → Defined_form → Checks
-defined_checks fs c x = own_checks fs x ++ (made_checks fs c (handle_index x) (written_parts x) ++ (content_checks c x ++ if_found size_checks (defined_tree (base []) c x)))
+abbrev pub defined_checks : {X : Reader} → WasmFeatures → Maker X → Context X → Defined_form → Checks
+defined_checks fs mk c x = own_checks fs x ++ (made_checks fs c (handle_index x) (written_parts x) ++ (content_checks c x ++ if_found (node_checks mk) (defined_made c x)))
 
 -- how long its list is
 abbrev pub list_length : Defined_form → ℕ

@@ -6,7 +6,8 @@ use Rattle.wcv_types.specs.Tree.{Text, Extern_name, Sort, is_type, sort, head, c
 use Rattle.wcv_names.specs.Externs as externs
 use Rattle.wcv_names.specs.ResourceNames.{Reference, Resource_names}
 use Rattle.wcv_lower.specs.Checks.{Checks}
-use Rattle.wcv_lower.specs.Context.{Type_tree, Entries}
+use Rattle.wcv_names.specs.Rules.{Entries}
+use Rattle.wcv_types.specs.Unfold.{Type_tree}
 
 abbrev pub reference_in : Option Identity → List Reference
 reference_in (Some (of_reference r s)) = (r, s) ∷ []
