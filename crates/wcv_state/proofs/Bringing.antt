@@ -1,8 +1,7 @@
 -- The resource that an entry introduces: the arena has it, and the entry leads to it.
-use Rattle.std.proofs.Common.{◌≡◌, ℕ, List, [], ◌∷◌, ◌++◌, map, length, refl, sym, ◌∙◌, ap, subst, append-nil, Bool, true, false, ◌&&◌, cond, eqb, Some, None, ◌⊎◌, inl, inr}
+use Rattle.std.proofs.Common.{◌≡◌, ℕ, List, [], ◌∷◌, ◌++◌, map, length, refl, sym, ◌∙◌, ap, subst, append-nil, Bool, true, false, ◌&&◌, cond, eqb, Some, None, ◌⊎◌, inr}
 use Rattle.std.specs.Prelude.{Option, All, slice_get}
 use Rattle.std.proofs.lemmas.Bool.{eqb-true}
-use Rattle.std.proofs.lemmas.List.Elements.{All-nil}
 use Rattle.wcv_core.specs.Names.{number}
 use Rattle.wcv_core.specs.declared.core_types.ValType.{ValType}
 use Rattle.wcv_core.proofs.Names.{and_left}
@@ -26,7 +25,7 @@ use Rattle.wcv_lower.specs.Context.{Side}
 use Rattle.wcv_state.specs.Contents.{Contents, Listed, sides, names, LeadsToImport, StateStands}
 use Rattle.wcv_state.specs.Looking.{is_built_entity, entered, introduced_by, introduced_id, import_paths, export_reps}
 use Rattle.wcv_state.specs.Promises.{IsPrefix, Keeps}
-use Rattle.wcv_state.proofs.Keeping.{state_stands, keeps_grown, keeps_trans, keeps_entry, same_imported, one_imported, same_defined, one_defined, names_grow}
+use Rattle.wcv_state.proofs.Keeping.{state_stands, keeps_grown, keeps_trans, keeps_entry, same_imported, one_imported, same_defined, one_defined}
 
 -- ## The reference
 

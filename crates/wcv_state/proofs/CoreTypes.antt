@@ -2,6 +2,7 @@
 use Rattle.std.proofs.Common.{◌≡◌, ℕ, ◌<◌, List, [], ◌∷◌, map, refl, ◌∙◌, ap}
 use Rattle.std.specs.Prelude.{All}
 use Rattle.std.proofs.lemmas.List.Elements.{All-nil, All-cons, All-head, All-tail}
+use Rattle.wcv_core.specs.CoreForm.{Group}
 use Rattle.wcv_core.specs.CoreGroups.{total}
 use Rattle.wcv_core.specs.CoreJoining.{with_types}
 use Rattle.wcv_core.specs.CoreWritten.{IsKnown}
@@ -14,8 +15,9 @@ use Rattle.wcv_types.specs.declared.ids.ComponentCoreTypeId.TheVariants as core_
 use Rattle.wcv_types.proofs.Grown.{extends_refl}
 use Rattle.wcv_types.proofs.Unfolding.{head_in}
 use Rattle.wcv_lower.specs.Context.{core_types}
-use Rattle.wcv_lower.specs.CoreItems.{head_entry, core_entry, core_entries, types_join}
+use Rattle.wcv_lower.specs.CoreItems.{core_entries, types_join}
 use Rattle.wcv_lower.specs.Step.{apply}
+use Rattle.wcv_lower.specs.Trees.{Tree_context, Tree_stack, tree_reader, head_entry, core_entry}
 use Rattle.wcv_state.specs.Contents.{Contents, context_of, core_tree, core_type_part, CoreIdStands, StateStands, core_entry_of, core_entries_of, with_sub}
 use Rattle.wcv_state.specs.Promises.{Keeps}
 use Rattle.wcv_state.proofs.Keeping.{keeps_grown, keeps_trans, keeps_with_core, with_core_context}
@@ -51,9 +53,14 @@ module _ (a : Arena) where
 
   -- ## Types that join
 
-  pub joined_types : (s : Contents) (is : List ℕ) → context_of a (with_types with_sub s is) ≡ apply (types_join is) (context_of a s)
-  joined_types s [] = refl
-  joined_types s (i ∷ is) = joined_types (with_sub s i) is ∙ ap (apply (types_join is)) (with_core_context a core_types (core_id.Sub (record { index = i })) s)
+  -- over any groups
+  abbrev over : List Group → List Tree_context → Tree_context → Tree_stack
+  over gs outer c = record { top = c; outer = outer; groups = gs }
+
+  pub joined_types : (gs : List Group) (outer : List Tree_context) (s : Contents) (is : List ℕ) → over gs outer (context_of a (with_types with_sub s is)) ≡ apply (types_join tree_reader is) (over gs outer (context_of a s))
+  joined_types gs outer s [] = refl
+  joined_types gs outer s (i ∷ is) =
+      joined_types gs outer (with_sub s i) is ∙ ap (λ (c : Tree_context). apply (types_join tree_reader is) (over gs outer c)) (with_core_context a core_types (core_id.Sub (record { index = i })) s)
 
   pub keeps_types : (s : Contents) (is : List ℕ) → StateStands a s → All (λ i. i < total a.core) is → Keeps a a s (with_types with_sub s is)
   keeps_types s [] h w = keeps_grown a a s (extends_refl a) h

@@ -207,9 +207,6 @@ module _ (a : Arena) (limited : Bool) (fs : WasmFeatures) (s : SpaceLists) (side
       (λ q. cause_right full_list (name_checks fs Es n t ++ (room_alone ++ size_alone)) (error_kind e)
       (cause_right (name_checks fs Es n t) (room_alone ++ size_alone) (error_kind e) (cause_left room_alone size_alone (error_kind e) q))) h
 
-  pub memory_caused : {M : Type 0} (offset : ℕ) (e : Error M) → error_kind e ≡ kind.OutOfMemory → MemoryOrCausedBy (entry_checks limited fs (trees a.nodes) s side.items info n t) offset e
-  memory_caused offset e h = inl h
-
 -- the names of a list with one more entry
 pub admitted_agree : (side mid side' : Entries) (i i' : TypeInfo) (n : ComponentExternName) (x : ComponentEntityType) (t : Type_tree) → NamesAgree side → Admitted side mid i i' n x t → mid.items ≡ side.items → side'.items ≡ mid.items ++ entry_of n x ∷ [] → side'.names ≡ mid.names →
     side'.resources ≡ mid.resources → NamesAgree side'

@@ -7,7 +7,7 @@ use Rattle.wcv_types.specs.ExplicitPaths.{with_path, explicit_paths}
 use Rattle.wcv_types.specs.FirstPath.{first_path}
 use Rattle.wcv_types.specs.Sets.{same_resource, has_resource}
 use Rattle.wcv_types.specs.declared.ids.ResourceId.{ResourceId}
-use Rattle.wcv_lower.specs.Context.{Entries}
+use Rattle.wcv_lower.specs.Trees.{Entries}
 use Rattle.wcv_state.specs.Ending.{path_of}
 
 -- a path to one is looked up behind that to another

@@ -12,17 +12,18 @@ use Rattle.wcv_types.specs.Unfold.{trees}
 use Rattle.wcv_types.specs.declared.component_type.ComponentType.{ComponentType}
 use Rattle.wcv_types.specs.declared.ids.ResourceId.{ResourceId}
 use Rattle.wcv_lower.specs.Checks.{Checks, is_none}
-use Rattle.wcv_lower.specs.Context.{Context, Entries, importing, exporting}
-use Rattle.wcv_lower.specs.Ending.{any_free, kept}
+use Rattle.wcv_lower.specs.Context.{importing, exporting}
+use Rattle.wcv_lower.specs.Ending.{any_free, kept, component_of, end_checks}
+use Rattle.wcv_lower.specs.Trees.{Entries, Tree_context, tree_reader, node_tree}
 use Rattle.wcv_lower.proofs.Causes.{cause_left, cause_right}
-use Rattle.wcv_state.specs.Contents.{Contents, Listed, context_of, scope_of, defined_resource, LeadsToImport, StateStands}
-use Rattle.wcv_state.specs.Ending.{end_checks, import_checks, kept_checks}
+use Rattle.wcv_state.specs.Contents.{Contents, Listed, context_of, defined_resource, LeadsToImport, StateStands}
+use Rattle.wcv_state.specs.Ending.{import_checks, kept_checks}
 use Rattle.wcv_state.specs.Promises.{MemoryOrCausedBy, Finished}
 use Rattle.wcv_state.proofs.Calls.{caused_more}
 use Rattle.wcv_state.proofs.KeptPaths.{Defined, Kept, paths_lead}
 
 module _ (a : Arena) (s : Contents) where
-  abbrev c : Context
+  abbrev c : Tree_context
   c = context_of a s
 
   abbrev side_trees : Listed → Entries
@@ -33,23 +34,23 @@ module _ (a : Arena) (s : Contents) where
     pub defined : ds ≡ s.defined_resources
     pub imports : ins ≡ s.imports
     pub exports : outs ≡ s.exports
-    pub free : any_free (map defined_resource ds) (side_trees ins) ≡ false
-    pub kept : kept (map defined_resource ds) (side_trees outs) ≡ Some (map resource_path ps)
+    pub free : any_free tree_reader (map defined_resource ds) (side_trees ins) ≡ false
+    pub kept : kept tree_reader (map defined_resource ds) (side_trees outs) ≡ Some (map resource_path ps)
     pub stand : All (λ (p : ResourceId × List ℕ). ResourceStands a p.0) ps
 
-  pub finish_is : (outer : List Context) (ty : ComponentType) (ds : Defined) (ins outs : Listed) → StateStands a s → ty.info ≡ s.info → ty.imports ≡ s.imports → ty.exports ≡ s.exports → ty.imported_resources ≡ s.imported_resources →
-      IsFound ds ins outs ty.defined_resources → Finished a outer s ty
-  finish_is outer ty ds ins outs h info imports exports imported w =
-      let none_free : any_free (map defined_resource s.defined_resources) (side_trees s.imports) ≡ false =
-      (λ j. any_free (map defined_resource (sym w.defined j)) (side_trees (sym w.imports j))) ∙ w.free in
-      let all_kept : kept (map defined_resource s.defined_resources) (side_trees s.exports) ≡ Some (map resource_path ty.defined_resources) =
-      (λ j. kept (map defined_resource (sym w.defined j)) (side_trees (sym w.exports j))) ∙ w.kept in
+  pub finish_is : (ty : ComponentType) (ds : Defined) (ins outs : Listed) → StateStands a s → ty.info ≡ s.info → ty.imports ≡ s.imports → ty.exports ≡ s.exports → ty.imported_resources ≡ s.imported_resources →
+      IsFound ds ins outs ty.defined_resources → Finished a s ty
+  finish_is ty ds ins outs h info imports exports imported w =
+      let none_free : any_free tree_reader (map defined_resource s.defined_resources) (side_trees s.imports) ≡ false =
+      (λ j. any_free tree_reader (map defined_resource (sym w.defined j)) (side_trees (sym w.imports j))) ∙ w.free in
+      let all_kept : kept tree_reader (map defined_resource s.defined_resources) (side_trees s.exports) ≡ Some (map resource_path ty.defined_resources) =
+      (λ j. kept tree_reader (map defined_resource (sym w.defined j)) (side_trees (sym w.exports j))) ∙ w.kept in
       record {
         info = info;
         imports = imports;
         exports = exports;
         tree = λ i.
-            (λ j. cond (none_free j) None (option_map (λ ds. component_type i c.imported ds (c.side importing) (c.side exporting)) (all_kept j))) ∙
+            (λ j. option_map (node_tree i) (cond (none_free j) None (option_map (component_of c) (all_kept j)))) ∙
             (λ j. Some (component_type i (map resource_path (sym imported j)) (map resource_path ty.defined_resources) (side_trees (sym imports j)) (side_trees (sym exports j))));
         free = (none_free, (ap is_none all_kept, tt));
         stands = record {
@@ -61,22 +62,22 @@ module _ (a : Arena) (s : Contents) where
         lead = record {
           imported = subst (λ (es : Listed). All (LeadsToImport a es) ty.imported_resources) (sym imports) (subst (All (LeadsToImport a s.imports)) (sym imported) h.lead);
           defined = paths_lead (map defined_resource s.defined_resources) (side_trees ty.exports) ty.defined_resources
-              (ap (λ (es : Listed). kept (map defined_resource s.defined_resources) (side_trees es)) exports ∙ all_kept);
+              (ap (λ (es : Listed). kept tree_reader (map defined_resource s.defined_resources) (side_trees es)) exports ∙ all_kept);
         };
       }
 
   -- ## Causes
 
-  pub import_caused : {M : Type 0} (outer : List Context) (ds : Defined) (es : Listed) (offset : ℕ) (e : Error M) → ds ≡ s.defined_resources → es ≡ s.imports → MemoryOrCausedBy (import_checks ds (side_trees es)) offset e → MemoryOrCausedBy (end_checks (scope_of s outer) (context_of a s)) offset e
-  import_caused outer ds es offset e d i w =
+  pub import_caused : {M : Type 0} (ds : Defined) (es : Listed) (offset : ℕ) (e : Error M) → ds ≡ s.defined_resources → es ≡ s.imports → MemoryOrCausedBy (import_checks ds (side_trees es)) offset e → MemoryOrCausedBy (end_checks (context_of a s)) offset e
+  import_caused ds es offset e d i w =
       let cs : Checks = import_checks s.defined_resources (side_trees s.imports) in
       let ks : Checks = kept_checks s.defined_resources (side_trees s.exports) in
       let same : import_checks ds (side_trees es) ≡ cs = λ j. import_checks (d j) (side_trees (i j)) in
-      caused_more cs (end_checks (scope_of s outer) (context_of a s)) offset e (λ q. cause_left cs ks (error_kind e) q) (subst (λ (cs : Checks). MemoryOrCausedBy cs offset e) same w)
+      caused_more cs (end_checks (context_of a s)) offset e (λ q. cause_left cs ks (error_kind e) q) (subst (λ (cs : Checks). MemoryOrCausedBy cs offset e) same w)
 
-  pub export_caused : {M : Type 0} (outer : List Context) (ds : Defined) (es : Listed) (offset : ℕ) (e : Error M) → ds ≡ s.defined_resources → es ≡ s.exports → MemoryOrCausedBy (kept_checks ds (side_trees es)) offset e → MemoryOrCausedBy (end_checks (scope_of s outer) (context_of a s)) offset e
-  export_caused outer ds es offset e d i w =
+  pub export_caused : {M : Type 0} (ds : Defined) (es : Listed) (offset : ℕ) (e : Error M) → ds ≡ s.defined_resources → es ≡ s.exports → MemoryOrCausedBy (kept_checks ds (side_trees es)) offset e → MemoryOrCausedBy (end_checks (context_of a s)) offset e
+  export_caused ds es offset e d i w =
       let cs : Checks = import_checks s.defined_resources (side_trees s.imports) in
       let ks : Checks = kept_checks s.defined_resources (side_trees s.exports) in
       let same : kept_checks ds (side_trees es) ≡ ks = λ j. kept_checks (d j) (side_trees (i j)) in
-      caused_more ks (end_checks (scope_of s outer) (context_of a s)) offset e (λ q. cause_right cs ks (error_kind e) q) (subst (λ (cs : Checks). MemoryOrCausedBy cs offset e) same w)
+      caused_more ks (end_checks (context_of a s)) offset e (λ q. cause_right cs ks (error_kind e) q) (subst (λ (cs : Checks). MemoryOrCausedBy cs offset e) same w)

@@ -30,11 +30,18 @@ abbrev pub again_names : Arena → ComponentAnyTypeId → Place → GivenNames
 again_names a (any.Resource r) p = record { resources = []; identities = (stamp_at p, stamp a.stamps) ∷ [] }
 again_names a id p = record { resources = []; identities = (introduced p, number (length a.nodes)) ∷ [] }
 
+-- the next node has one at the place
+abbrev pub node_names : Arena → Place → GivenNames
+node_names a p = record { resources = []; identities = (introduced p, number (length a.nodes)) ∷ [] }
+
+pub node_name : (a : Arena) (p : Place) → (names_of (node_names a p)).identity (introduced p) ≡ number (length a.nodes)
+node_name a p = one_name (introduced p) (number (length a.nodes))
+
 module _ (a b : Arena) (p : Place) where
   stamp_given : b.stamps ≡ a.stamps + 1 → GivesAt (Under p) (numbers_of a) (numbers_of b) (record { resources = []; identities = (stamp_at p, stamp a.stamps) ∷ [] })
   stamp_given k = record { resources = tt; identities = ((omega arith, omega (arith, k)), under-refl p, tt, refl, refl, tt) }
 
-  node_given : length b.nodes ≡ suc (length a.nodes) → GivesAt (Under p) (numbers_of a) (numbers_of b) (record { resources = []; identities = (introduced p, number (length a.nodes)) ∷ [] })
+  pub node_given : length b.nodes ≡ suc (length a.nodes) → GivesAt (Under p) (numbers_of a) (numbers_of b) (record { resources = []; identities = (introduced p, number (length a.nodes)) ∷ [] })
   node_given k = record { resources = tt; identities = ((omega arith, omega (arith, k)), under-refl p, tt, refl, refl, tt) }
 
   pub again_given : (id : ComponentAnyTypeId) → Stands a (any_part id) → OneMore a b id → GivesAt (Under p) (numbers_of a) (numbers_of b) (again_names a id p)

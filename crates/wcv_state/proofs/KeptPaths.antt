@@ -23,7 +23,7 @@ use Rattle.wcv_types.specs.declared.ids.ResourceId.{ResourceId}
 use Rattle.wcv_types.proofs.FirstPath.{first_path-leads}
 use Rattle.wcv_types.proofs.Lists.{some-inj}
 use Rattle.wcv_lower.specs.Checks.{is_none}
-use Rattle.wcv_lower.specs.Context.{Entries}
+use Rattle.wcv_lower.specs.Trees.{Entries, tree_reader}
 use Rattle.wcv_lower.specs.Ending.{is_free_among, any_free, keep, kept}
 use Rattle.wcv_state.specs.Contents.{defined_resource}
 use Rattle.wcv_state.specs.Ending.{with_kept}
@@ -49,18 +49,18 @@ Kept = List (ResourceId × List ℕ)
 
 -- none before is free
 abbrev pub NoneBefore : Defined → Entries → ℕ → Type 0
-NoneBefore ds es k = any_free (map defined_resource (drop k ds)) es ≡ any_free (map defined_resource ds) es
+NoneBefore ds es k = any_free tree_reader (map defined_resource (drop k ds)) es ≡ any_free tree_reader (map defined_resource ds) es
 
-pub none_next : (ds : Defined) (es : Entries) (k : ℕ) (d : ResourceId × Option ValType) → slice_get ds k ≡ Some d → is_free_among (number d.0.index) es ≡ false → NoneBefore ds es k → NoneBefore ds es (k + 1)
+pub none_next : (ds : Defined) (es : Entries) (k : ℕ) (d : ResourceId × Option ValType) → slice_get ds k ≡ Some d → is_free_among tree_reader (number d.0.index) es ≡ false → NoneBefore ds es k → NoneBefore ds es (k + 1)
 none_next ds es k d h f w =
-    ap (λ (b : Bool). b || any_free (map defined_resource (drop (k + 1) ds)) es) (sym f) ∙ ap (λ (xs : Defined). any_free (map defined_resource xs) es) (sym (drop_found ds k d h)) ∙ w
+    ap (λ (b : Bool). b || any_free tree_reader (map defined_resource (drop (k + 1) ds)) es) (sym f) ∙ ap (λ (xs : Defined). any_free tree_reader (map defined_resource xs) es) (sym (drop_found ds k d h)) ∙ w
 
-pub one_free : (ds : Defined) (es : Entries) (k : ℕ) (d : ResourceId × Option ValType) → slice_get ds k ≡ Some d → is_free_among (number d.0.index) es ≡ true → NoneBefore ds es k → any_free (map defined_resource ds) es ≡ true
+pub one_free : (ds : Defined) (es : Entries) (k : ℕ) (d : ResourceId × Option ValType) → slice_get ds k ≡ Some d → is_free_among tree_reader (number d.0.index) es ≡ true → NoneBefore ds es k → any_free tree_reader (map defined_resource ds) es ≡ true
 one_free ds es k d h f w =
-    sym w ∙ ap (λ (xs : Defined). any_free (map defined_resource xs) es) (drop_found ds k d h) ∙ ap (λ (b : Bool). b || any_free (map defined_resource (drop (k + 1) ds)) es) f
+    sym w ∙ ap (λ (xs : Defined). any_free tree_reader (map defined_resource xs) es) (drop_found ds k d h) ∙ ap (λ (b : Bool). b || any_free tree_reader (map defined_resource (drop (k + 1) ds)) es) f
 
-pub none_free : (ds : Defined) (es : Entries) (k : ℕ) → length ds ≤ k → NoneBefore ds es k → any_free (map defined_resource ds) es ≡ false
-none_free ds es k e w = sym w ∙ ap (λ (xs : Defined). any_free (map defined_resource xs) es) (drop_past ds k e)
+pub none_free : (ds : Defined) (es : Entries) (k : ℕ) → length ds ≤ k → NoneBefore ds es k → any_free tree_reader (map defined_resource ds) es ≡ false
+none_free ds es k e w = sym w ∙ ap (λ (xs : Defined). any_free tree_reader (map defined_resource xs) es) (drop_past ds k e)
 
 -- ## In exports
 
@@ -69,10 +69,10 @@ after ps ks = map resource_path ps ++ ks
 
 -- those that are left come behind those that were kept
 abbrev pub KeptBefore : Defined → Entries → ℕ → Kept → Type 0
-KeptBefore ds es k ps = option_map (λ ks. map resource_path ps ++ ks) (kept (map defined_resource (drop k ds)) es) ≡ kept (map defined_resource ds) es
+KeptBefore ds es k ps = option_map (λ ks. map resource_path ps ++ ks) (kept tree_reader (map defined_resource (drop k ds)) es) ≡ kept tree_reader (map defined_resource ds) es
 
 pub kept_start : (ds : Defined) (es : Entries) → KeptBefore ds es 0 []
-kept_start ds es = go (kept (map defined_resource ds) es)
+kept_start ds es = go (kept tree_reader (map defined_resource ds) es)
   where
     go : (o : Option (List (Name × List ℕ))) → option_map (λ ks. ks) o ≡ o
     go None = refl
@@ -91,16 +91,16 @@ one_kept r es false o ps qs None h = refl
 one_kept r es false o ps qs (Some ks) h = ap (λ (xs : Kept). Some (map resource_path xs ++ ks)) (sym (some-inj h))
 
 -- of one that is free the path is the first
-keep_same : (r : ResourceId) (es : Entries) (b : Bool) (o : Option (List ℕ)) (left : Option (List (Name × List ℕ))) → b ≡ is_free_among (number r.index) es → (b ≡ true → o ≡ first_path (number r.index) es) →
-    option_and_then (λ ks. cond b (option_map (λ p. (number r.index, p) ∷ ks) o) (Some ks)) left ≡ option_and_then (keep (number r.index) es) left
+keep_same : (r : ResourceId) (es : Entries) (b : Bool) (o : Option (List ℕ)) (left : Option (List (Name × List ℕ))) → b ≡ is_free_among tree_reader (number r.index) es → (b ≡ true → o ≡ first_path (number r.index) es) →
+    option_and_then (λ ks. cond b (option_map (λ p. (number r.index, p) ∷ ks) o) (Some ks)) left ≡ option_and_then (keep tree_reader (number r.index) es) left
 keep_same r es true o left e f = λ j. option_and_then (λ ks. cond (e j) (option_map (λ p. (number r.index, p) ∷ ks) (f refl j)) (Some ks)) left
 keep_same r es false o left e f = λ j. option_and_then (λ ks. cond (e j) (option_map (λ p. (number r.index, p) ∷ ks) (first_path (number r.index) es)) (Some ks)) left
 
-pub kept_next : (ds : Defined) (es : Entries) (k : ℕ) (d : ResourceId × Option ValType) (b : Bool) (o : Option (List ℕ)) (ps qs : Kept) → slice_get ds k ≡ Some d → b ≡ is_free_among (number d.0.index) es → (b ≡ true → o ≡ first_path (number d.0.index) es) →
+pub kept_next : (ds : Defined) (es : Entries) (k : ℕ) (d : ResourceId × Option ValType) (b : Bool) (o : Option (List ℕ)) (ps qs : Kept) → slice_get ds k ≡ Some d → b ≡ is_free_among tree_reader (number d.0.index) es → (b ≡ true → o ≡ first_path (number d.0.index) es) →
     with_kept b d.0 o ps ≡ Some qs → KeptBefore ds es k ps → KeptBefore ds es (k + 1) qs
 kept_next ds es k d b o ps qs h e f q w =
-    let left = kept (map defined_resource (drop (k + 1) ds)) es in
-    one_kept d.0 es b o ps qs left q ∙ ap (option_map (after ps)) (keep_same d.0 es b o left e f ∙ ap (λ (xs : Defined). kept (map defined_resource xs) es) (sym (drop_found ds k d h))) ∙ w
+    let left = kept tree_reader (map defined_resource (drop (k + 1) ds)) es in
+    one_kept d.0 es b o ps qs left q ∙ ap (option_map (after ps)) (keep_same d.0 es b o left e f ∙ ap (λ (xs : Defined). kept tree_reader (map defined_resource xs) es) (sym (drop_found ds k d h))) ∙ w
 
 -- one that has no path
 none_kept : (r : ResourceId) (b : Bool) (o : Option (List ℕ)) (ps : Kept) (left : Option (List (Name × List ℕ))) → is_none (with_kept b r o ps) ≡ true → option_and_then (λ ks. cond b (option_map (λ p. (number r.index, p) ∷ ks) o) (Some ks)) left ≡ None
@@ -109,15 +109,15 @@ none_kept r true None ps (Some ks) h = refl
 none_kept r true (Some p) ps left h = absurd (false≢true h)
 none_kept r false o ps left h = absurd (false≢true h)
 
-pub kept_none : (ds : Defined) (es : Entries) (k : ℕ) (d : ResourceId × Option ValType) (b : Bool) (o : Option (List ℕ)) (ps : Kept) → slice_get ds k ≡ Some d → b ≡ is_free_among (number d.0.index) es → (b ≡ true → o ≡ first_path (number d.0.index) es) →
-    is_none (with_kept b d.0 o ps) ≡ true → KeptBefore ds es k ps → is_none (kept (map defined_resource ds) es) ≡ true
+pub kept_none : (ds : Defined) (es : Entries) (k : ℕ) (d : ResourceId × Option ValType) (b : Bool) (o : Option (List ℕ)) (ps : Kept) → slice_get ds k ≡ Some d → b ≡ is_free_among tree_reader (number d.0.index) es → (b ≡ true → o ≡ first_path (number d.0.index) es) →
+    is_none (with_kept b d.0 o ps) ≡ true → KeptBefore ds es k ps → is_none (kept tree_reader (map defined_resource ds) es) ≡ true
 kept_none ds es k d b o ps h e f q w =
-    let left = kept (map defined_resource (drop (k + 1) ds)) es in
-    let z : kept (map defined_resource (drop k ds)) es ≡ None = ap (λ (xs : Defined). kept (map defined_resource xs) es) (drop_found ds k d h) ∙ sym (keep_same d.0 es b o left e f) ∙ none_kept d.0 b o ps left q in
+    let left = kept tree_reader (map defined_resource (drop (k + 1) ds)) es in
+    let z : kept tree_reader (map defined_resource (drop k ds)) es ≡ None = ap (λ (xs : Defined). kept tree_reader (map defined_resource xs) es) (drop_found ds k d h) ∙ sym (keep_same d.0 es b o left e f) ∙ none_kept d.0 b o ps left q in
     ap is_none (sym w ∙ ap (option_map (after ps)) z)
 
-pub kept_all : (ds : Defined) (es : Entries) (k : ℕ) (ps : Kept) → length ds ≤ k → KeptBefore ds es k ps → kept (map defined_resource ds) es ≡ Some (map resource_path ps)
-kept_all ds es k ps e w = sym w ∙ ap (λ (xs : Defined). option_map (after ps) (kept (map defined_resource xs) es)) (drop_past ds k e) ∙ ap Some (append-nil (map resource_path ps))
+pub kept_all : (ds : Defined) (es : Entries) (k : ℕ) (ps : Kept) → length ds ≤ k → KeptBefore ds es k ps → kept tree_reader (map defined_resource ds) es ≡ Some (map resource_path ps)
+kept_all ds es k ps e w = sym w ∙ ap (λ (xs : Defined). option_map (after ps) (kept tree_reader (map defined_resource xs) es)) (drop_past ds k e) ∙ ap Some (append-nil (map resource_path ps))
 
 -- ## Each stands, and none comes twice
 
@@ -199,13 +199,13 @@ keep_leads r es ks ls true None f h w = cc
 keep_leads r es ks ls true (Some p) f h w = subst (All (LeadsIn es)) (some-inj h) (All-cons (LeadsIn es) (r, p) ks (first_path-leads r es p f) w)
 keep_leads r es ks ls false o f h w = subst (All (LeadsIn es)) (some-inj h) w
 
-kept_lead : (ds : List (Name × Option ValType)) (es : Entries) (ls : List (Name × List ℕ)) → kept ds es ≡ Some ls → All (LeadsIn es) ls
+kept_lead : (ds : List (Name × Option ValType)) (es : Entries) (ls : List (Name × List ℕ)) → kept tree_reader ds es ≡ Some ls → All (LeadsIn es) ls
 kept_lead [] es ls h = subst (All (LeadsIn es)) (some-inj h) (All-nil (LeadsIn es))
-kept_lead (d ∷ ds) es ls h = go (kept ds es) (λ ks w. kept_lead ds es ks w) h
+kept_lead (d ∷ ds) es ls h = go (kept tree_reader ds es) (λ ks w. kept_lead ds es ks w) h
   where
-    go : (o : Option (List (Name × List ℕ))) → ((ks : List (Name × List ℕ)) → o ≡ Some ks → All (LeadsIn es) ks) → option_and_then (keep d.0 es) o ≡ Some ls → All (LeadsIn es) ls
+    go : (o : Option (List (Name × List ℕ))) → ((ks : List (Name × List ℕ)) → o ≡ Some ks → All (LeadsIn es) ks) → option_and_then (keep tree_reader d.0 es) o ≡ Some ls → All (LeadsIn es) ls
     go None all w = cc
-    go (Some ks) all w = keep_leads d.0 es ks ls (is_free_among d.0 es) (first_path d.0 es) refl w (all ks refl)
+    go (Some ks) all w = keep_leads d.0 es ks ls (is_free_among tree_reader d.0 es) (first_path d.0 es) refl w (all ks refl)
 
 mapped : (es : Entries) (ps : Kept) → All (LeadsIn es) (map resource_path ps) → All (λ (p : ResourceId × List ℕ). PathLeadsTo p.1 (number p.0.index) es) ps
 mapped es [] w = All-nil (λ (p : ResourceId × List ℕ). PathLeadsTo p.1 (number p.0.index) es)
@@ -213,5 +213,5 @@ mapped es (p ∷ ps) w =
     All-cons (λ (p : ResourceId × List ℕ). PathLeadsTo p.1 (number p.0.index) es) p ps (All-head (LeadsIn es) (resource_path p) (map resource_path ps) w)
     (mapped es ps (All-tail (LeadsIn es) (resource_path p) (map resource_path ps) w))
 
-pub paths_lead : (ds : List (Name × Option ValType)) (es : Entries) (ps : Kept) → kept ds es ≡ Some (map resource_path ps) → All (λ (p : ResourceId × List ℕ). PathLeadsTo p.1 (number p.0.index) es) ps
+pub paths_lead : (ds : List (Name × Option ValType)) (es : Entries) (ps : Kept) → kept tree_reader ds es ≡ Some (map resource_path ps) → All (λ (p : ResourceId × List ℕ). PathLeadsTo p.1 (number p.0.index) es) ps
 paths_lead ds es ps h = mapped es ps (kept_lead ds es (map resource_path ps) h)

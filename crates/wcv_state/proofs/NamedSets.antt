@@ -1,18 +1,16 @@
 -- Sets of ids stand for lists of identities.
-use Rattle.std.proofs.Common.{◌≡◌, List, [], ◌∷◌, ◌++◌, refl, sym, ◌∙◌, ap, arith, Bool, true, false, cond, eqb, Some, ◌||◌}
-use Rattle.std.specs.Prelude.{slice_get, not, ◌&&◌, ◌≤◌, ℕ, option_to_list}
-use Rattle.std.proofs.Math.Bool.{and-false}
-use Rattle.std.proofs.lemmas.Bool.{eqb-true, ne_eqb}
+use Rattle.std.proofs.Common.{◌≡◌, List, [], ◌∷◌, ◌++◌, refl, sym, ◌∙◌, ap, Bool, true, false, cond, eqb, Some, ◌||◌}
+use Rattle.std.specs.Prelude.{slice_get, not, ◌&&◌, ℕ, option_to_list}
+use Rattle.std.proofs.lemmas.Bool.{eqb-true}
 use Rattle.std.proofs.lemmas.List.Elements.{All-nil, All-head, All-tail, All-push}
-use Rattle.wcv_core.specs.Names.{Name, number, stamp, same}
 use Rattle.wcv_types.specs.Arena.{Arena}
 use Rattle.wcv_types.specs.Entities.{any_part, entity_tree, EntityStands}
-use Rattle.wcv_types.specs.Identity.{of_reference, same_identity}
+use Rattle.wcv_types.specs.Identity.{same_identity}
 use Rattle.wcv_types.specs.Named.{is_in}
 use Rattle.wcv_types.specs.Sets.{same_type, has_type, with_type, AllStand, identities}
 use Rattle.wcv_types.specs.Standing.{Stands, identity_of}
-use Rattle.wcv_types.specs.Tree.{Sort, sort}
-use Rattle.wcv_types.specs.Unfold.{trees, part_tree}
+use Rattle.wcv_types.specs.Tree.{sort, is_func, is_type, is_instance, is_module, nothing, primitive, resource, defined, func, instance, component, type_entity, core_module, core_instance, core_type, core_item, node}
+use Rattle.wcv_types.specs.Unfold.{Type_tree, trees, part_tree}
 use Rattle.wcv_types.specs.declared.arena.Node.{Node}
 use Rattle.wcv_types.specs.declared.arena.Node.TheVariants as n
 use Rattle.wcv_types.specs.declared.ids.ComponentAnyTypeId.{ComponentAnyTypeId}
@@ -24,7 +22,7 @@ use Rattle.wcv_types.proofs.Each.{map-push}
 use Rattle.wcv_types.proofs.Lists.{some-inj}
 use Rattle.wcv_types.proofs.Unfolding.{sort_stands, known_any}
 use Rattle.wcv_lower.specs.Context.{joined, with_named}
-use Rattle.wcv_lower.specs.Step.{created_by}
+use Rattle.wcv_lower.specs.Trees.{creates}
 use Rattle.wcv_state.specs.Looking.{is_built_entity, created_ids, with_created}
 use Rattle.std.proofs.lemmas.Bool.{false≢true}
 
@@ -86,11 +84,11 @@ module _ (a : Arena) where
       go true = (refl, h)
       go false = (map-push (λ z. identity_of (any_part z)) ids x, All-push (λ z. Stands a (any_part z)) ids x h s)
 
-  pub created_named : (b : Bool) (ids is : List ComponentAnyTypeId) → AllStand a ids → AllStand a is → identities (with_created b ids is) ≡ with_named b (identities ids) (identities is)
+  pub created_named : (b : Bool) (ids is : List ComponentAnyTypeId) → AllStand a ids → AllStand a is → identities (with_created b ids is) ≡ with_named same_identity b (identities ids) (identities is)
   created_named b ids [] h k = refl
   created_named b ids (x ∷ is) h k =
       let w = one_more b ids x (All-head (λ z. Stands a (any_part z)) x is k) h in
-      created_named b (cond b (with_type ids x) ids) is w.1 (All-tail (λ z. Stands a (any_part z)) x is k) ∙ ap (λ xs. with_named b xs (identities is)) w.0
+      created_named b (cond b (with_type ids x) ids) is w.1 (All-tail (λ z. Stands a (any_part z)) x is k) ∙ ap (λ xs. with_named same_identity b xs (identities is)) w.0
 
   -- ## What an entity creates
 
@@ -102,28 +100,27 @@ module _ (a : Arena) where
   created_stand (entity.Instance i) h = All-nil _
   created_stand (entity.Component i) h = All-nil _
 
-  pub created_same : (x : ComponentEntityType) → is_built_entity x ≡ true → EntityStands a x → created_by (sort (entity_tree (trees a.nodes) x)) (entity_tree (trees a.nodes) x) ≡ identities (created_ids x)
-  created_same (entity.Func i) b h = ap (λ (o : Sort). created_by o (part_tree (trees a.nodes) (part.Func i))) (sort_stands a (part.Func i) h)
+  -- what is no type and no instance creates none
+  plain_creates : (t : Type_tree) → (sort t ≡ is_type → ⊥) → (sort t ≡ is_instance → ⊥) → creates t ≡ []
+  plain_creates (node type_entity ps) e i = absurd (e refl)
+  plain_creates (node (instance k own) ps) e i = absurd (i refl)
+  plain_creates (node nothing ps) e i = refl
+  plain_creates (node (primitive q) ps) e i = refl
+  plain_creates (node (resource r s) ps) e i = refl
+  plain_creates (node (defined k x) ps) e i = refl
+  plain_creates (node (func k b) ps) e i = refl
+  plain_creates (node (component k ins outs) ps) e i = refl
+  plain_creates (node (core_module k n) ps) e i = refl
+  plain_creates (node (core_instance k n) ps) e i = refl
+  plain_creates (node (core_type k) ps) e i = refl
+  plain_creates (node (core_item x) ps) e i = refl
+
+  pub created_same : (x : ComponentEntityType) → is_built_entity x ≡ true → EntityStands a x → creates (entity_tree (trees a.nodes) x) ≡ identities (created_ids x)
+  created_same (entity.Func i) b h =
+      plain_creates (part_tree (trees a.nodes) (part.Func i)) (λ e. let w : is_func ≡ is_type = sym (sort_stands a (part.Func i) h) ∙ e in cc) (λ e. let w : is_func ≡ is_instance = sym (sort_stands a (part.Func i) h) ∙ e in cc)
   created_same (entity.Ty c r) b h = ap option_to_list (known_any a c h.0)
-  created_same (entity.Module i) b h = ap (λ (o : Sort). created_by o (part_tree (trees a.nodes) (part.Module i))) (sort_stands a (part.Module i) h)
+  created_same (entity.Module i) b h =
+      plain_creates (part_tree (trees a.nodes) (part.Module i)) (λ e. let w : is_module ≡ is_type = sym (sort_stands a (part.Module i) h) ∙ e in cc) (λ e. let w : is_module ≡ is_instance = sym (sort_stands a (part.Module i) h) ∙ e in cc)
   created_same (entity.Value v) b h = absurd (false≢true b)
   created_same (entity.Instance i) b h = absurd (false≢true b)
   created_same (entity.Component i) b h = absurd (false≢true b)
-
-  -- ## New references
-
-  -- a stamp that the arena has not given yet is in no set
-  pub fresh_stamp : (r : Name) (k : ℕ) (ids : List ComponentAnyTypeId) → AllStand a ids → a.stamps ≤ k → is_in (identities ids) (of_reference r (stamp k)) ≡ false
-  fresh_stamp r k [] h w = refl
-  fresh_stamp r k (x ∷ ids) h w =
-      let e = go x (All-head (λ z. Stands a (any_part z)) x ids h) in
-      let e' = fresh_stamp r k ids (All-tail (λ z. Stands a (any_part z)) x ids h) w in
-      λ j. e j || e' j
-    where
-      go : (x : ComponentAnyTypeId) → Stands a (any_part x) → same_identity (of_reference r (stamp k)) (identity_of (any_part x)) ≡ false
-      go (any.Resource q) s =
-          ap (λ (b : Bool). same r (number q.resource.index) && b) (ne_eqb k q.stamp (λ e. omega (arith, e, s.stamp, w))) ∙ and-false (same r (number q.resource.index))
-      go (any.Defined i) s = refl
-      go (any.Func i) s = refl
-      go (any.Instance i) s = refl
-      go (any.Component i) s = refl

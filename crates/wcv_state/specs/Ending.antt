@@ -1,4 +1,4 @@
--- The causes at the end of a component, and what is found for its type.
+-- The causes at the end of a component, over ids, and what is found for its type.
 use Rattle.std.specs.Prelude.{◌≡◌, ℕ, List, [], ◌∷◌, ◌++◌, map, Bool, true, cond, Option, Some}
 use Rattle.std.specs.Map.{lookup}
 use Rattle.std.specs.Option.{option_map}
@@ -10,23 +10,19 @@ use Rattle.wcv_types.specs.Sets.{same_resource}
 use Rattle.wcv_types.specs.Sets as sets
 use Rattle.wcv_types.specs.declared.ids.ResourceId.{ResourceId}
 use Rattle.wcv_lower.specs.Checks.{Checks, is_none}
-use Rattle.wcv_lower.specs.Context.{Entries, Context, Scope, importing, exporting}
 use Rattle.wcv_lower.specs.Ending.{is_free_among, any_free, kept}
+use Rattle.wcv_lower.specs.Trees.{Entries, tree_reader}
 use Rattle.wcv_state.specs.Contents.{defined_resource}
-
--- a defined resource is free in an import, or one that is free in an export has no path there
-abbrev pub end_checks : Scope → Context → Checks
-end_checks sc c = (kind.ResourceScope, any_free c.defined (c.side importing)) ∷ (kind.ResourceScope, is_none (kept c.defined (c.side exporting))) ∷ []
 
 -- ## One cause each
 
 -- a defined resource is free in an import
 abbrev pub import_checks : List (ResourceId × Option ValType) → Entries → Checks
-import_checks ds es = (kind.ResourceScope, any_free (map defined_resource ds) es) ∷ []
+import_checks ds es = (kind.ResourceScope, any_free tree_reader (map defined_resource ds) es) ∷ []
 
 -- one that is free in an export has no path there
 abbrev pub kept_checks : List (ResourceId × Option ValType) → Entries → Checks
-kept_checks ds es = (kind.ResourceScope, is_none (kept (map defined_resource ds) es)) ∷ []
+kept_checks ds es = (kind.ResourceScope, is_none (kept tree_reader (map defined_resource ds) es)) ∷ []
 
 -- ## What is kept
 
@@ -40,7 +36,7 @@ with_kept free r path ps = cond free (option_map (λ p. ps ++ (r, p) ∷ []) pat
 
 -- the set has those resources that are free in the entries
 abbrev pub HasFree : Entries → List ResourceId → Type 0
-HasFree es rs = (r : ResourceId) → sets.has_resource rs r ≡ is_free_among (number r.index) es
+HasFree es rs = (r : ResourceId) → sets.has_resource rs r ≡ is_free_among tree_reader (number r.index) es
 
 -- each of them stands with its first path, where it has one
 abbrev pub HasFirst : Entries → List ResourceId → List (ResourceId × List ℕ) → Type 0

@@ -7,6 +7,7 @@ ghost use Rattle.wcv_types.specs.Sets as sets;
 ghost use Rattle.wcv_types.specs.Unfold.{trees};
 ghost use Rattle.wcv_lower.specs.Checks.{is_none};
 ghost use Rattle.wcv_lower.specs.Ending.{any_free, kept};
+ghost use Rattle.wcv_lower.specs.Trees.{tree_reader};
 ghost use Rattle.wcv_state.specs.Contents.{defined_resource};
 ghost use Rattle.wcv_state.specs.Ending.{import_checks, kept_checks, path_of, with_kept, HasFree, HasFirst};
 ghost use Rattle.wcv_state.specs.Looking.{has_resource};
@@ -97,7 +98,7 @@ fn first_free(
     free: &ResourceSet,
 ) -> Option<(usize, ResourceId)>
     requires { HasFree (entry_trees (trees types.now.nodes) imports.now) free.now }
-    ensures { is_some result ≡ any_free (map defined_resource defined.now) (entry_trees (trees types.now.nodes) imports.now) }
+    ensures { is_some result ≡ any_free tree_reader (map defined_resource defined.now) (entry_trees (trees types.now.nodes) imports.now) }
 {
     let _ = types;
     let _ = imports;
@@ -122,7 +123,7 @@ pub fn check_imports(
     offset: u64,
 ) -> Result<(), Error>
     requires { All (EntryStands types.now) imports.now }
-    ensures ok { OnOk result (any_free (map defined_resource defined.now) (entry_trees (trees types.now.nodes) imports.now) ≡ false) }
+    ensures ok { OnOk result (any_free tree_reader (map defined_resource defined.now) (entry_trees (trees types.now.nodes) imports.now) ≡ false) }
     ensures err { IfErr result (MemoryOrCausedBy (import_checks defined.now (entry_trees (trees types.now.nodes) imports.now)) offset) }
 {
     if defined.len() == 0 {
@@ -185,7 +186,7 @@ fn keep_all(
     requires free { HasFree (entry_trees (trees types.now.nodes) exports.now) free.now }
     requires first { HasFirst (entry_trees (trees types.now.nodes) exports.now) free.now first.now }
     requires empty { paths.old ≡ [] }
-    ensures ok { OnOk result (kept (map defined_resource defined.now) (entry_trees (trees types.now.nodes) exports.now) ≡ Some (map resource_path paths.new)) }
+    ensures ok { OnOk result (kept tree_reader (map defined_resource defined.now) (entry_trees (trees types.now.nodes) exports.now) ≡ Some (map resource_path paths.new)) }
     ensures stands { OnOk result (All (λ p. ResourceStands types.now p.0) paths.new) }
     ensures err { IfErr result (MemoryOrCausedBy (kept_checks defined.now (entry_trees (trees types.now.nodes) exports.now)) offset) }
 {
@@ -212,7 +213,7 @@ fn fill(
     requires exports { All (EntryStands types.now) exports.now }
     requires defined { All (λ d. ResourceStands types.now d.0) defined.now }
     requires empty { paths.old ≡ [] }
-    ensures ok { OnOk result (kept (map defined_resource defined.now) (entry_trees (trees types.now.nodes) exports.now) ≡ Some (map resource_path paths.new)) }
+    ensures ok { OnOk result (kept tree_reader (map defined_resource defined.now) (entry_trees (trees types.now.nodes) exports.now) ≡ Some (map resource_path paths.new)) }
     ensures stands { OnOk result (All (λ p. ResourceStands types.now p.0) paths.new) }
     ensures err { IfErr result (MemoryOrCausedBy (kept_checks defined.now (entry_trees (trees types.now.nodes) exports.now)) offset) }
 {
@@ -234,7 +235,7 @@ pub fn kept_paths(
 ) -> Result<Paths, Error>
     requires exports { All (EntryStands types.now) exports.now }
     requires defined { All (λ d. ResourceStands types.now d.0) defined.now }
-    ensures ok { IfOk result (λ ps. kept (map defined_resource defined.now) (entry_trees (trees types.now.nodes) exports.now) ≡ Some (map resource_path ps)) }
+    ensures ok { IfOk result (λ ps. kept tree_reader (map defined_resource defined.now) (entry_trees (trees types.now.nodes) exports.now) ≡ Some (map resource_path ps)) }
     ensures stands { IfOk result (λ ps. All (λ p. ResourceStands types.now p.0) ps) }
     ensures err { IfErr result (MemoryOrCausedBy (kept_checks defined.now (entry_trees (trees types.now.nodes) exports.now)) offset) }
 {

@@ -7,10 +7,11 @@ ghost use Rattle.wcv_types.specs.Sets.{AllStand, identities};
 ghost use Rattle.wcv_types.specs.Standing.{Stands};
 ghost use Rattle.wcv_types.specs.Unfold.{trees};
 ghost use Rattle.wcv_types.specs.declared.ids.Part.TheVariants as part;
-ghost use Rattle.wcv_lower.specs.Checks as checks;
-ghost use Rattle.wcv_lower.specs.Checks.{IsFree, asks_names, is_export_alone as export_alone};
+ghost use Rattle.wcv_lower.specs.Checks.{IsFree};
 ghost use Rattle.wcv_lower.specs.Context as sides;
-ghost use Rattle.wcv_lower.specs.Context.{names_for, importing, exporting};
+ghost use Rattle.wcv_lower.specs.Context.{asks_names, names_for, importing, exporting};
+ghost use Rattle.wcv_lower.specs.Entries as entries;
+ghost use Rattle.wcv_lower.specs.Trees.{tree_reader, is_export_alone as export_alone};
 ghost use Rattle.wcv_state.specs.Contents.{kind_of, both_sides};
 ghost use Rattle.wcv_state.specs.Inside.{set_of};
 ghost use Rattle.wcv_state.specs.Looking.{is_built_entity as built_entity, created_ids, with_created};
@@ -189,8 +190,8 @@ impl NamedTypes {
         requires built { built_entity ty.now ≡ true }
         requires imports { AllStand types.now self.now.imports }
         requires exports { AllStand types.now self.now.exports }
-        ensures ok { OnOk result (IsFree (checks.unnamed (kind_of kind) (λ d. identities (set_of self.now d)) importing (entity_tree (trees types.now.nodes) ty.now))) }
-        ensures err { IfErr result (MemoryOrCausedBy (checks.unnamed (kind_of kind) (λ d. identities (set_of self.now d)) importing (entity_tree (trees types.now.nodes) ty.now)) offset) }
+        ensures ok { OnOk result (IsFree (entries.unnamed tree_reader (kind_of kind) (λ d. identities (set_of self.now d)) importing (entity_tree (trees types.now.nodes) ty.now))) }
+        ensures err { IfErr result (MemoryOrCausedBy (entries.unnamed tree_reader (kind_of kind) (λ d. identities (set_of self.now d)) importing (entity_tree (trees types.now.nodes) ty.now)) offset) }
     {
         if !asks_for_names(kind) {
             return Ok(());
@@ -224,8 +225,8 @@ impl NamedTypes {
         requires built { built_entity ty.now ≡ true }
         requires imports { AllStand types.now self.now.imports }
         requires exports { AllStand types.now self.now.exports }
-        ensures ok { OnOk result (IsFree (checks.unnamed (kind_of kind) (λ d. identities (set_of self.now d)) exporting (entity_tree (trees types.now.nodes) ty.now))) }
-        ensures err { IfErr result (MemoryOrCausedBy (checks.unnamed (kind_of kind) (λ d. identities (set_of self.now d)) exporting (entity_tree (trees types.now.nodes) ty.now)) offset) }
+        ensures ok { OnOk result (IsFree (entries.unnamed tree_reader (kind_of kind) (λ d. identities (set_of self.now d)) exporting (entity_tree (trees types.now.nodes) ty.now))) }
+        ensures err { IfErr result (MemoryOrCausedBy (entries.unnamed tree_reader (kind_of kind) (λ d. identities (set_of self.now d)) exporting (entity_tree (trees types.now.nodes) ty.now)) offset) }
     {
         if !asks_for_names(kind) {
             return Ok(());

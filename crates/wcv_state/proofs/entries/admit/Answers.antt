@@ -23,7 +23,7 @@ pub returns-in_err-check_room-clause-err : goal.returns-in_err-check_room-clause
 returns-in_err-check_room-clause-err c =
     let p = err_from_is_err_and c.from_residual-in_err-check_room.result c.from_residual-in_err-check_room.ensures.1 in
     rw p.1 (room_caused c.args.types.now c.args.limited c.args.features.now (lists c.args.spaces.now) c.args.side.now c.args.info.now (extern_name c.args.name.now) (entity_tree (trees c.args.types.now.nodes) c.args.ty.now) c.requires.entries c.requires.names c.args.offset p.0
-    (caused_same (no_room (room_counts (lists c.args.spaces.now)) (sort (entity_tree (trees c.args.types.now.nodes) c.args.ty.now))) c.args.offset c.in_err-check_room.field-0.0 p.0 p.2.0 p.2.1 c.in_err-check_room.ensures.err))
+    (caused_same (no_room (room_counts (lists c.args.spaces.now)) (sort (entity_tree (trees c.args.types.now.nodes) c.args.ty.now))) c.args.offset c.in_err-check_room.field-0.0 p.0 p.2.0 p.2.1 (rw c.in_ok-check_extern.ensures.types at c.in_err-check_room.ensures.err)))
 
 pub returns-in_err-check_list-clause-err : goal.returns-in_err-check_list-clause-err
 returns-in_err-check_list-clause-err c =
@@ -35,7 +35,7 @@ returns-in_err-check_list-clause-err c =
 pub returns-clause-ok : goal.returns-clause-ok
 returns-clause-ok c =
     enter_free c.args.types.now c.args.limited c.args.features.now (lists c.args.spaces.now) c.args.side.now c.args.info.now (extern_name c.args.name.now) (entity_tree (trees c.args.types.now.nodes) c.args.ty.now) c.requires.entries c.requires.names
-    c.in_ok-check_extern.ensures.ok (subst (λ (k : ℕ). IsFree (full_if c.args.limited max_entries k)) c.len.ensures c.in_ok-check_list.ensures.ok) c.in_ok-check_room.ensures.ok
+    c.in_ok-check_extern.ensures.ok (subst (λ (k : ℕ). IsFree (full_if c.args.limited max_entries k)) c.len.ensures c.in_ok-check_list.ensures.ok) (rw c.in_ok-check_extern.ensures.types at c.in_ok-check_room.ensures.ok)
 
 pub returns-clause-admitted : goal.returns-clause-admitted
 returns-clause-admitted c = record {

@@ -4,7 +4,7 @@ use Rattle.wcv_core.specs.declared.core_types.ValType.{ValType}
 use Rattle.wcv_types.specs.Entities.{entry_trees}
 use Rattle.wcv_types.specs.Unfold.{trees}
 use Rattle.wcv_types.specs.declared.ids.ResourceId.{ResourceId}
-use Rattle.wcv_lower.specs.Context.{Entries}
+use Rattle.wcv_lower.specs.Trees.{Entries}
 use Rattle.wcv_state.proofs.KeptPaths.{none_next, one_free, none_free}
 use Rattle.wcv_state.proofs.kept.first_free.Goals as goal
 

@@ -3,7 +3,7 @@ use Rattle.wcv_types.specs.Entities.{entry_trees}
 use Rattle.wcv_types.specs.Gathering.{Gains, FreeAmong}
 use Rattle.wcv_types.specs.Unfold.{trees}
 use Rattle.wcv_types.specs.declared.ids.ResourceId.{ResourceId}
-use Rattle.wcv_lower.specs.Context.{Entries}
+use Rattle.wcv_lower.specs.Trees.{Entries}
 use Rattle.wcv_state.proofs.FreeAmong.{gathered_free}
 use Rattle.wcv_state.proofs.kept.free_among.Goals as goal
 

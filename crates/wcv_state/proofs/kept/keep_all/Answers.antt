@@ -7,7 +7,7 @@ use Rattle.wcv_types.specs.ComponentTrees.{ResourceStands}
 use Rattle.wcv_types.specs.Entities.{entry_trees}
 use Rattle.wcv_types.specs.Unfold.{trees}
 use Rattle.wcv_types.specs.declared.ids.ResourceId.{ResourceId}
-use Rattle.wcv_lower.specs.Context.{Entries}
+use Rattle.wcv_lower.specs.Trees.{Entries}
 use Rattle.wcv_state.proofs.Walks.{found_holds, none_within}
 use Rattle.wcv_state.proofs.KeptPaths.{KeptBefore, Left, AllOfArena, kept_start, left_start, kept_next, kept_none, kept_all, kept_stand, left_here, left_next, scope_caused}
 use Rattle.wcv_state.proofs.kept.keep_all.Goals as goal

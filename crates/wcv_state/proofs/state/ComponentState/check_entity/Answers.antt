@@ -3,8 +3,10 @@ use Rattle.std.proofs.lemmas.Result.{err_from_is_err_and}
 use Rattle.wcv_types.specs.Entities.{entity_tree}
 use Rattle.wcv_types.specs.Sets.{AllStand, identities}
 use Rattle.wcv_types.specs.Unfold.{trees}
-use Rattle.wcv_lower.specs.Checks.{IsFree, unnamed}
+use Rattle.wcv_lower.specs.Checks.{IsFree}
 use Rattle.wcv_lower.specs.Context.{importing, exporting}
+use Rattle.wcv_lower.specs.Entries.{unnamed}
+use Rattle.wcv_lower.specs.Trees.{tree_reader}
 use Rattle.wcv_state.specs.Contents.{Contents, kind_of, names}
 use Rattle.wcv_state.specs.Inside.{contents_of}
 use Rattle.wcv_state.proofs.ItemCalls.{export_unnamed}
@@ -29,4 +31,4 @@ returns-clause-built c = (sym c.is_built_entity.ensures ∙ c.if-not-is_built_en
 
 pub returns-clause-named : goal.returns-clause-named
 returns-clause-named c =
-    subst (λ (z : Contents). IsFree (unnamed (kind_of z.kind) (λ d. identities (names z d)) exporting (entity_tree (trees c.args.types.now.nodes) c.args.ty.now))) c.self.view_is c.in_ok-check_export.ensures.ok
+    subst (λ (z : Contents). IsFree (unnamed tree_reader (kind_of z.kind) (λ d. identities (names z d)) exporting (entity_tree (trees c.args.types.now.nodes) c.args.ty.now))) c.self.view_is c.in_ok-check_export.ensures.ok

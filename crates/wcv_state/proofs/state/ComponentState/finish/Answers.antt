@@ -27,23 +27,23 @@ pub returns-in_err-check_imports-clause-err : goal.returns-in_err-check_imports-
 returns-in_err-check_imports-clause-err c =
     let p = err_from_is_err_and c.from_residual.result c.from_residual.ensures.1 in
     let defined = ap (λ (s : Contents). s.defined_resources) c.self.view_is in
-    rw (p.1, p.2) (λ outer. (
+    rw (p.1, p.2) ((
       refl,
-      import_caused c.args.types.now c.args.self.now outer c.self.inside.defined_resources c.self.inside.imports.items c.args.offset c.in_err-check_imports.field-0.0 defined (ap (λ (s : Contents). s.imports) c.self.view_is) c.in_err-check_imports.ensures.err,
+      import_caused c.args.types.now c.args.self.now c.self.inside.defined_resources c.self.inside.imports.items c.args.offset c.in_err-check_imports.field-0.0 defined (ap (λ (s : Contents). s.imports) c.self.view_is) c.in_err-check_imports.ensures.err,
     ))
 
 pub returns-in_err-defined_resources-clause-err : goal.returns-in_err-defined_resources-clause-err
 returns-in_err-defined_resources-clause-err c =
     let p = err_from_is_err_and c.from_residual-in_err-defined_resources.result c.from_residual-in_err-defined_resources.ensures.1 in
     let defined = ap (λ (s : Contents). s.defined_resources) c.self.view_is in
-    rw (p.1, p.2) (λ outer. (
+    rw (p.1, p.2) ((
       refl,
-      export_caused c.args.types.now c.args.self.now outer c.self.inside.defined_resources c.self.inside.exports.items c.args.offset c.in_err-defined_resources.field-0.0 defined (ap (λ (s : Contents). s.exports) c.self.view_is) c.in_err-defined_resources.ensures.err,
+      export_caused c.args.types.now c.args.self.now c.self.inside.defined_resources c.self.inside.exports.items c.args.offset c.in_err-defined_resources.field-0.0 defined (ap (λ (s : Contents). s.exports) c.self.view_is) c.in_err-defined_resources.ensures.err,
     ))
 
 pub returns-clause-ok : goal.returns-clause-ok
-returns-clause-ok c = λ outer.
-    finish_is c.args.types.now c.args.self.now outer c.take_type.result c.self.inside.defined_resources c.self.inside.imports.items c.self.inside.exports.items c.requires.stands (c.take_type.ensures.info ∙ ap (λ (s : Contents). s.info) c.self.view_is)
+returns-clause-ok c =
+    finish_is c.args.types.now c.args.self.now c.take_type.result c.self.inside.defined_resources c.self.inside.imports.items c.self.inside.exports.items c.requires.stands (c.take_type.ensures.info ∙ ap (λ (s : Contents). s.info) c.self.view_is)
     (c.take_type.ensures.imports ∙ ap (λ (s : Contents). s.imports) c.self.view_is) (c.take_type.ensures.exports ∙ ap (λ (s : Contents). s.exports) c.self.view_is)
     (c.take_type.ensures.imported ∙ ap (λ (s : Contents). s.imported_resources) c.self.view_is)
     (record {
