@@ -7,9 +7,9 @@ use Rattle.wcv_core.specs.CoreGroups.{total}
 use Rattle.wcv_core.specs.CoreWritten.{IsKnown}
 use Rattle.wcv_types.specs.Arena.{Arena}
 use Rattle.wcv_lower.specs.CoreItems.{core_entries, outer_entries}
-use Rattle.wcv_state.specs.Contents.{Contents, context_of, scope_of, core_entries_of, StateStands}
+use Rattle.wcv_state.specs.Contents.{Contents, context_of, core_entries_of, StateStands}
 use Rattle.wcv_state.proofs.CoreTypes.{entries_same, entries_known}
-use Rattle.wcv_decls.specs.Stack.{IsOpen, contexts_around}
+use Rattle.wcv_decls.specs.Stack.{IsOpen, stack_on}
 
 -- the states, of which the last is the innermost
 pub open_split : (a : Arena) (outer : List Contents) (s : Contents) → All (IsOpen a) (outer ++ s ∷ []) → All (IsOpen a) outer × IsOpen a s
@@ -41,7 +41,7 @@ module _ (a : Arena) where
   last_first outer s = ap reverse (map-append core_entries_of outer (s ∷ [])) ∙ reverse-append (map core_entries_of outer) (core_entries_of s ∷ [])
 
   -- the spaces of the states are those of their contexts, the nearest first
-  pub spaces_same : (ss outer : List Contents) (s : Contents) → ss ≡ outer ++ s ∷ [] → All (IsOpen a) ss → reverse (map core_entries_of ss) ≡ outer_entries (scope_of s (contexts_around a outer)) (context_of a s)
+  pub spaces_same : (ss outer : List Contents) (s : Contents) → ss ≡ outer ++ s ∷ [] → All (IsOpen a) ss → reverse (map core_entries_of ss) ≡ outer_entries (stack_on a outer s)
   spaces_same ss outer s e h =
       let r = open_split a outer s (subst (All (IsOpen a)) e h) in
       let own : core_entries (context_of a s) ≡ core_entries_of s = entries_same a s r.1.stands in

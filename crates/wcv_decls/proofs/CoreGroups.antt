@@ -1,5 +1,6 @@
 -- A group of core types joins a state.
-use Rattle.std.proofs.Common.{◌≡◌, ℕ, ◌<◌, List, [], ◌∷◌, ◌++◌, map, length, take, refl, sym, ◌∙◌, ap, subst, append-nil, append_assoc, All, Some, true, false, inl, inr}
+use Rattle.std.proofs.Common.{◌≡◌, ℕ, ◌<◌, List, [], ◌∷◌, ◌++◌, map, length, take, refl, sym, ◌∙◌, ap, subst, append-nil, append_assoc, All, Option, Some, None, Bool, true, false, cond, inl, inr}
+use Rattle.std.specs.Option.{option_map}
 use Rattle.std.proofs.lemmas.List.Elements.{All-nil, All-cons, All-head, All-tail}
 use Rattle.wcv_core.specs.CoreForm.{Group, group_form}
 use Rattle.wcv_core.specs.CoreGroups.{total}
@@ -17,18 +18,22 @@ use Rattle.wcv_types.specs.Arena.{Arena}
 use Rattle.wcv_types.specs.Standing.{Extends}
 use Rattle.wcv_types.specs.declared.ids.ComponentCoreTypeId.TheVariants as core_type
 use Rattle.wcv_types.proofs.Each.{length-mapped, map-push}
-use Rattle.wcv_lower.specs.Checks.{Checks, IsFree, counts, no_core_type_room}
-use Rattle.wcv_lower.specs.Context.{Context, with_groups}
-use Rattle.wcv_lower.specs.CoreItems.{core_entries, types_join}
-use Rattle.wcv_lower.specs.Given.{none_given}
+use Rattle.wcv_lower.specs.Checks.{Checks, IsFree, no_core_type_room}
+use Rattle.wcv_lower.specs.Context.{counts}
+use Rattle.wcv_lower.specs.CoreItems.{core_entries, is_closable, types_join, closed_step}
+use Rattle.wcv_lower.specs.Given.{none_given, names_of}
 use Rattle.wcv_lower.specs.Growth.{call_checks}
-use Rattle.wcv_lower.specs.Step.{apply}
+use Rattle.wcv_lower.specs.Names.{Names}
+use Rattle.wcv_lower.specs.Step.{Step, apply}
+use Rattle.wcv_lower.specs.Trees.{Tree_context, Tree_stack, tree_reader, tree_maker}
 use Rattle.wcv_lower.proofs.Causes.{cause_left, cause_right, free_both}
-use Rattle.wcv_state.specs.Contents.{Contents, context_of, scope_of, core_entry_of, core_entries_of, with_sub, spent, StateStands}
+use Rattle.wcv_lower.proofs.ModulesMade.{closable}
+use Rattle.wcv_state.specs.Contents.{Contents, context_of, stack_of, core_entry_of, core_entries_of, with_sub, spent, StateStands}
 use Rattle.wcv_state.specs.Promises.{MemoryOrCausedBy, Keeps, Grew}
 use Rattle.wcv_state.proofs.Calls.{caused_more}
-use Rattle.wcv_state.proofs.Keeping.{state_stands, grown_context, keeps_grown, keeps_marked, keeps_trans}
+use Rattle.wcv_state.proofs.Keeping.{state_stands, same_context, keeps_grown, keeps_marked, keeps_trans}
 use Rattle.wcv_state.proofs.CoreTypes.{entries_same, joined_types, keeps_types}
+use Rattle.wcv_decls.proofs.Naming.{none_made}
 
 -- ## Types that join their space
 
@@ -60,7 +65,7 @@ subs_below n s is h = below is (right (core_entries_of s) (map sub_entry is) (su
 -- ## A group
 
 module _ (a b : Arena) (s s' : Contents) (rec : RecGroup) (h : StateStands a s) (ext : Extends a b) where
-  abbrev Here : Context
+  abbrev Here : Tree_context
   Here = context_of a s
 
   abbrev closed : Group
@@ -72,34 +77,45 @@ module _ (a b : Arena) (s s' : Contents) (rec : RecGroup) (h : StateStands a s) 
   abbrev Room : Checks
   Room = no_core_type_room (length rec.types.items) (counts Here)
 
-  checks_same : (outer : List Context) → call_checks (scope_of s outer) Here (core_type_item (core_rec (rec_view rec))) ≡ Checked ++ Room
-  checks_same outer =
+  checks_same : (outer : List Tree_context) (n : Names) (p : Place) → call_checks s.features (tree_maker n p) (stack_of a s outer) (core_type_item (core_rec (rec_view rec))) ≡ Checked ++ Room
+  checks_same outer n p =
       let es : core_entries Here ≡ core_entries_of s = entries_same a s h in
       let w : written_group (rec_view rec) ≡ group_form rec = group_written rec in
       let l : length (rec_view rec) ≡ length rec.types.items = length-mapped sub_view rec.types.items in
       λ j. group_checks s.features a.core (es j) (w j) ++ no_core_type_room (l j) (counts Here)
 
-  pub group_caused : {M : Type 0} (outer : List Context) (offset : ℕ) (e : Error M) → MemoryOrCausedBy (group_checks s.features a.core (core_entries_of s) (group_form rec)) offset e → MemoryOrCausedBy (call_checks (scope_of s outer) (context_of a s) (core_type_item (core_rec (rec_view rec)))) offset e
-  group_caused outer offset e m = subst (λ cs. MemoryOrCausedBy cs offset e) (sym (checks_same outer)) (caused_more Checked (Checked ++ Room) offset e (cause_left Checked Room (error_kind e)) m)
+  module _ {M : Type 0} (outer : List Tree_context) (n : Names) (p : Place) (offset : ℕ) (e : Error M) where
+    pub group_caused : MemoryOrCausedBy (group_checks s.features a.core (core_entries_of s) (group_form rec)) offset e → MemoryOrCausedBy (call_checks s.features (tree_maker n p) (stack_of a s outer) (core_type_item (core_rec (rec_view rec)))) offset e
+    group_caused m = subst (λ cs. MemoryOrCausedBy cs offset e) (sym (checks_same outer n p)) (caused_more Checked (Checked ++ Room) offset e (cause_left Checked Room (error_kind e)) m)
 
-  pub room_caused : {M : Type 0} (outer : List Context) (offset : ℕ) (e : Error M) → MemoryOrCausedBy (no_core_type_room (length rec.types.items) (counts (context_of a s))) offset e → MemoryOrCausedBy (call_checks (scope_of s outer) (context_of a s) (core_type_item (core_rec (rec_view rec)))) offset e
-  room_caused outer offset e m = subst (λ cs. MemoryOrCausedBy cs offset e) (sym (checks_same outer)) (caused_more Room (Checked ++ Room) offset e (cause_right Checked Room (error_kind e)) m)
+    pub room_caused : MemoryOrCausedBy (no_core_type_room (length rec.types.items) (counts (context_of a s))) offset e → MemoryOrCausedBy (call_checks s.features (tree_maker n p) (stack_of a s outer) (core_type_item (core_rec (rec_view rec)))) offset e
+    room_caused m = subst (λ cs. MemoryOrCausedBy cs offset e) (sym (checks_same outer n p)) (caused_more Room (Checked ++ Room) offset e (cause_right Checked Room (error_kind e)) m)
 
-  pub group_grew : (outer : List Context) (p : Place) → s.spent ≡ false → b.core ≡ grown a.core closed → s' ≡ with_types with_sub s (group_ids a.core closed) → IsFree Checked → IsFree Room → Grew a b outer p s s' (core_type_item (core_rec (rec_view rec)))
-  group_grew outer p live table group free room =
+  -- the group can be closed, and joins the table and the space
+  abbrev grow_if : List Tree_context → Bool → Group → Option Tree_stack
+  grow_if outer b g = option_map (λ (x : Step tree_reader). apply x (stack_of a s outer)) (cond b (Some (closed_step tree_reader a.core g)) None)
+
+  group_grows : (outer : List Tree_context) → b.core ≡ grown a.core closed → s' ≡ with_types with_sub s (group_ids a.core closed) → IsFree Checked →
+      grow_if outer (is_closable a.core (core_entries Here) (written_group (rec_view rec))) (closed_group (core_entries Here) (written_group (rec_view rec))) ≡ Some (stack_of b s' outer)
+  group_grows outer table group free =
       let es : core_entries Here ≡ core_entries_of s = entries_same a s h in
       let w : written_group (rec_view rec) ≡ group_form rec = group_written rec in
-      let same : closed_group (core_entries Here) (written_group (rec_view rec)) ≡ closed = λ j. closed_group (es j) (w j) in
-      let reached : context_of b s' ≡ apply (types_join (group_ids a.core closed)) (with_groups (grown a.core closed) Here) =
-      ap (context_of b) group ∙ joined_types b s (group_ids a.core closed) ∙
-      ap (apply (types_join (group_ids a.core closed))) (grown_context a b ext s h ∙ ap (λ (gs : List Group). with_groups gs Here) table) in
-      record {
-        names = none_given;
-        given = record { resources = tt; identities = tt };
-        grown = ap (λ (g : Group). Some (apply (types_join (group_ids a.core g)) (with_groups (grown a.core g) Here))) same ∙ ap Some (sym reached);
-        free = subst IsFree (sym (checks_same outer)) (free_both Checked Room free room);
-        live = ap (λ (z : Contents). z.spent) group ∙ subs_live s (group_ids a.core closed) ∙ live;
-      }
+      let closes : is_closable a.core (core_entries_of s) (group_form rec) ≡ true = closable s.features a.core (core_entries_of s) (group_form rec) free in
+      let is : List ℕ = group_ids a.core closed in
+      let e : context_of b s ≡ Here = same_context a b ext s h in
+      let reached : stack_of b s' outer ≡ apply (closed_step tree_reader a.core closed) (stack_of a s outer) =
+      ap (λ (z : Contents). stack_of b z outer) group ∙ joined_types b b.core outer s is ∙
+      (λ j. apply (types_join tree_reader is) (record { top = e j; outer = outer; groups = table j })) in
+      (λ j. grow_if outer (is_closable a.core (es j) (w j)) (closed_group (es j) (w j))) ∙ ap (λ (x : Bool). grow_if outer x closed) closes ∙ ap Some (sym reached)
+
+  pub group_grew : (outer : List Tree_context) (p : Place) → s.spent ≡ false → b.core ≡ grown a.core closed → s' ≡ with_types with_sub s (group_ids a.core closed) → IsFree Checked → IsFree Room → Grew a b outer p s s' (core_type_item (core_rec (rec_view rec)))
+  group_grew outer p live table group free room = record {
+    names = none_given;
+    given = none_made a b p;
+    grown = group_grows outer table group free;
+    free = subst IsFree (sym (checks_same outer (names_of none_given) p)) (free_both Checked Room free room);
+    live = ap (λ (z : Contents). z.spent) group ∙ subs_live s (group_ids a.core closed) ∙ live;
+  }
 
   -- what it leaves where it was refused
   pub group_left : {M : Type 0} (e : Error M) → All (IsKnown (total b.core)) (core_entries_of s') → IsLeft with_sub spent s s' a.core b.core closed e → Keeps a b s s'

@@ -1,6 +1,6 @@
 -- The type of a module joins the arena and a state.
 use Rattle.std.proofs.Common.{◌≡◌, ℕ, suc, List, [], ◌∷◌, ◌++◌, map, length, refl, sym, ◌∙◌, ap, subst, arith, length-append, All, Option, Some, false, true}
-use Rattle.std.specs.Prelude.{reverse}
+use Rattle.std.specs.Prelude.{reverse, slice_get}
 use Rattle.std.specs.Option.{option_map}
 use Rattle.wcv_core.specs.Names.{Place, number}
 use Rattle.wcv_core.specs.Refusal.{error_kind}
@@ -10,45 +10,56 @@ use Rattle.wcv_syntax.specs.Model.{Module_decl, core_module_item, core_type_item
 use Rattle.wcv_syntax.specs.ModuleTypes.{Module_type, Made, empty_module, all_declared, module_checks}
 use Rattle.wcv_types.specs.Arena.{Arena}
 use Rattle.wcv_types.specs.CoreCalls.{with_core}
+use Rattle.wcv_types.specs.Rebuild.{types_in}
 use Rattle.wcv_types.specs.Standing.{Stands, Extends, with_node}
 use Rattle.wcv_types.specs.Tree.{module_type}
-use Rattle.wcv_types.specs.Unfold.{at, slot_tree, tree_at, tree_of, trees}
+use Rattle.wcv_types.specs.Unfold.{at, capped, rank, slot_tree, tree_at, tree_of, trees}
 use Rattle.wcv_types.specs.declared.arena.Node.TheVariants as n
 use Rattle.wcv_types.specs.declared.core_shapes.ModuleType.{ModuleType}
 use Rattle.wcv_types.specs.declared.ids.ComponentCoreModuleTypeId.{ComponentCoreModuleTypeId}
 use Rattle.wcv_types.specs.declared.ids.ComponentCoreTypeId.TheVariants as core_type
 use Rattle.wcv_types.specs.declared.ids.Part.TheVariants as p
 use Rattle.wcv_types.proofs.EntryParts.{module_node}
-use Rattle.wcv_types.proofs.Grown.{extends_push, length-trees}
-use Rattle.wcv_lower.specs.Checks.{Checks, IsFree, counts, no_type_room}
-use Rattle.wcv_lower.specs.Context.{Context, Core_space, core_types, core_modules, push_core}
-use Rattle.wcv_lower.specs.CoreItems.{module_tree, module_joins}
-use Rattle.wcv_lower.specs.Given.{named}
+use Rattle.wcv_types.proofs.Grown.{extends_push, is_last, length-trees}
+use Rattle.wcv_lower.specs.Checks.{Checks, IsFree, no_type_room}
+use Rattle.wcv_lower.specs.Context.{Core_space, core_types, core_modules, push_core, counts}
+use Rattle.wcv_lower.specs.CoreItems.{outer_entries, module_made, module_joins}
+use Rattle.wcv_lower.specs.Given.{named, names_of, none_given}
 use Rattle.wcv_lower.specs.Growth.{call_checks}
-use Rattle.wcv_lower.specs.Names.{introduced}
+use Rattle.wcv_lower.specs.Names.{Names, introduced}
+use Rattle.wcv_lower.specs.Readers.{Maker}
 use Rattle.wcv_lower.specs.Step.{Step, apply}
-use Rattle.wcv_lower.proofs.Causes.{cause_left, cause_right, free_both}
+use Rattle.wcv_lower.specs.Trees.{Tree_context, Tree_stack, tree_reader, tree_maker, module_tree}
+use Rattle.wcv_lower.proofs.Causes.{cause_left, cause_right, free_both, free_left}
+use Rattle.wcv_lower.proofs.ModulesMade.{made_same}
 use Rattle.wcv_state.specs.Contents as state
-use Rattle.wcv_state.specs.Contents.{Contents, Core_id, context_of, scope_of, core_slot, core_entries_of, CoreStands, StateStands}
-use Rattle.wcv_state.specs.Promises.{MemoryOrCausedBy, Keeps, Grew}
+use Rattle.wcv_state.specs.Contents.{Contents, Core_id, context_of, stack_of, core_slot, core_entries_of, CoreStands, StateStands}
+use Rattle.wcv_state.specs.Promises.{MemoryOrCausedBy, Keeps, Grew, Refuses}
 use Rattle.wcv_state.proofs.Calls.{caused_more}
-use Rattle.wcv_state.proofs.Keeping.{state_stands, grown_context, same_context, keeps_grown, keeps_trans, keeps_with_core, with_core_context}
+use Rattle.wcv_state.proofs.Keeping.{state_stands, same_context, keeps_grown, keeps_trans, keeps_with_core, with_core_context}
 use Rattle.wcv_decls.specs.CoreItems.{StoredModule, JoinedModule, core_space, with_module, MadeIn, FreeIn, CausedIn}
-use Rattle.wcv_decls.specs.Stack.{IsOpen, contexts_around}
+use Rattle.wcv_decls.specs.Stack.{IsOpen, contexts_around, stack_on}
 use Rattle.wcv_decls.specs.declared.core_module.ModuleSpace.{ModuleSpace}
 use Rattle.wcv_decls.specs.declared.core_module.ModuleSpace.TheVariants as space
 use Rattle.wcv_decls.proofs.CoreEntries.{spaces_same}
-use Rattle.wcv_decls.proofs.Naming.{node_names, node_given, node_name}
+use Rattle.wcv_decls.proofs.Naming.{node_names, node_given, node_name, none_made}
 
 -- ## The node
 
-pub module_stored : (a b : Arena) (m : Module_type) (t : ModuleType) (i : ComponentCoreModuleTypeId) → t.info.size ≡ m.size → t.imports ≡ m.imports → t.exports ≡ m.exports → b ≡ with_node a (n.Module t) →
-    Stands b (p.Module i) → tree_at b (p.Module i) ≡ tree_of (trees a.nodes) (n.Module t) → StoredModule a b m i
-module_stored a b m t i es ei ee eb stands tree =
+-- the size that a node keeps is capped
+pub kept_size : (n m x : ℕ) → n ≡ m → n ≡ capped x → n ≡ capped m
+kept_size n m x e c = let k : n ≡ capped n = omega (arith, c) in k ∙ ap capped e
+
+pub module_stored : (a b : Arena) (m : Module_type) (t : ModuleType) (i : ComponentCoreModuleTypeId) → t.info.size ≡ capped m.size → t.imports ≡ m.imports → t.exports ≡ m.exports → t.types.items ≡ m.types → b ≡ with_node a (n.Module t) →
+    rank (p.Module i) ≡ suc (length a.nodes) → Stands b (p.Module i) → tree_at b (p.Module i) ≡ tree_of (trees a.nodes) (n.Module t) → StoredModule a b m i
+module_stored a b m t i es ei ee et eb last stands tree =
     let l : length (trees a.nodes) ≡ length a.nodes = length-trees a.nodes in
+    let behind : suc i.index ≡ suc (length a.nodes) = last in
+    let stored : slice_get b.nodes i.index ≡ Some (n.Module t) = is_last a.nodes b.nodes (n.Module t) i.index (ap (λ (y : Arena). y.nodes) eb) (omega (arith, behind)) in
     record {
       stands = stands;
       tree = tree ∙ module_node (trees a.nodes) (length (trees a.nodes)) t ∙ λ j. module_type (number (l j)) (es j) (ei j) (ee j);
+      types = ap types_in stored ∙ et;
       nodes = ap (λ (y : Arena). length y.nodes) eb ∙ length-append a.nodes (n.Module t ∷ []) ∙ omega arith;
       core = ap (λ (y : Arena). y.core) eb;
       arena = subst (Extends a) (sym eb) (extends_push a (n.Module t));
@@ -59,10 +70,11 @@ joined_as : (k : Core_space) (x : Core_id k) (a b : Arena) (s s' : Contents) (m 
     StoredModule a b m i → s' ≡ state.with_core k x s → JoinedModule k a b s s' m
 joined_as k x a b s s' m i h live slot w es =
     let tree : slot_tree (trees b.nodes) (core_slot k x) ≡ module_tree (number (length a.nodes)) m = ap (slot_tree (trees b.nodes)) slot ∙ w.tree in
-    let same : context_of b s ≡ context_of a s = same_context a b w.arena w.core s h in
+    let same : context_of b s ≡ context_of a s = same_context a b w.arena s h in
     subst (λ (z : Contents). JoinedModule k a b s z m) (sym es) (record {
       grown = with_core_context b k x s ∙ λ j. push_core k (tree j) (same j);
       nodes = w.nodes;
+      core = w.core;
       live = live;
       keeps = keeps_trans a b b s s (state.with_core k x s) (keeps_grown a b s w.arena h) (keeps_with_core b k x s (state_stands a b w.arena s h) (subst (CoreStands b) (sym slot) w.stands));
     })
@@ -81,39 +93,57 @@ module _ (k : Core_space) (a b c : Arena) (s s' : Contents) (m : Module_type) (h
   made_nodes : length c.nodes ≡ suc (length a.nodes)
   made_nodes = w.nodes ∙ ap suc before
 
-  module_context : context_of c s' ≡ apply (module_joins k (number (length a.nodes)) (b.core, m)) (context_of a s)
-  module_context =
-      let e : context_of b s ≡ record (context_of a s) { groups = b.core } = grown_context a b ext s h in
-      w.grown ∙ λ j. push_core k (module_tree (number (before j)) m) (e j)
+  abbrev maker_at : Place → Maker tree_reader
+  maker_at q = tree_maker (names_of (node_names a c q made_nodes)) q
 
-  module_grows : (q : Place) (o : Option Made) → o ≡ Some (b.core, m) →
-      option_map (λ (x : Step). apply x (context_of a s)) (option_map (module_joins k (named (node_names a c q made_nodes).identities (introduced q))) o) ≡ Some (context_of c s')
-  module_grows q o e =
+  module_reached : (outer : List Tree_context) (q : Place) → apply (module_joins (maker_at q) k (b.core, m)) (stack_of a s outer) ≡ stack_of c s' outer
+  module_reached outer q =
+      let same : context_of b s ≡ context_of a s = same_context a b ext s h in
       let i : named (node_names a c q made_nodes).identities (introduced q) ≡ number (length a.nodes) = node_name a c q made_nodes in
-      (λ j. option_map (λ (x : Step). apply x (context_of a s)) (option_map (module_joins k (i j)) (e j))) ∙ ap Some (sym module_context)
+      let e : push_core k (module_tree (named (node_names a c q made_nodes).identities (introduced q)) m) (context_of a s) ≡ context_of c s' =
+      (λ j. push_core k (module_tree ((i ∙ ap number (sym before)) j) m) (sym same j)) ∙ sym w.grown in
+      λ j. record { top = e j; outer = outer; groups = sym w.core j }
+
+  module_grows : (outer : List Tree_context) (q : Place) (o : Option Made) → o ≡ Some (b.core, m) →
+      option_map (λ (x : Step tree_reader). apply x (stack_of a s outer)) (option_map (module_joins (maker_at q) k) o) ≡ Some (stack_of c s' outer)
+  module_grows outer q o e =
+      ap (λ (r : Option Made). option_map (λ (x : Step tree_reader). apply x (stack_of a s outer)) (option_map (module_joins (maker_at q) k) r)) e ∙ ap Some (module_reached outer q)
 
   pub module_keeps : Keeps a c s s'
   module_keeps = keeps_trans a b c s s s' (keeps_grown a b s ext h) w.keeps
 
 pub core_module_grew : (a b c : Arena) (s s' : Contents) (m : Module_type) → StateStands a s → b ≡ with_core a b.core → Extends a b → JoinedModule core_modules b c s s' m → (ds : List Module_decl) →
-    all_declared [] a.core (empty_module s.features) ds ≡ Some (b.core, m) → IsFree (module_checks [] a.core (empty_module s.features) ds) → (outer : List Context) (q : Place) → Grew a c outer q s s' (core_module_item ds)
-core_module_grew a b c s s' m h rest ext w ds made free outer q = record {
-  names = node_names a c q (made_nodes core_modules a b c s s' m h rest ext w);
-  given = node_given a c q (made_nodes core_modules a b c s s' m h rest ext w);
-  grown = module_grows core_modules a b c s s' m h rest ext w q (all_declared [] a.core (empty_module s.features) ds) made;
-  free = free;
-  live = w.live;
-}
+    all_declared [] a.core (empty_module s.features) ds ≡ Some (b.core, m) → IsFree (module_checks [] a.core (empty_module s.features) ds) → (outer : List Tree_context) (q : Place) → Grew a c outer q s s' (core_module_item ds)
+core_module_grew a b c s s' m h rest ext w ds made free outer q =
+    let found : module_made [] a.core (empty_module s.features) ds ≡ Some (b.core, m) = made_same [] a.core (empty_module s.features) ds free ∙ made in
+    record {
+      names = node_names a c q (made_nodes core_modules a b c s s' m h rest ext w);
+      given = node_given a c q (made_nodes core_modules a b c s s' m h rest ext w);
+      grown = module_grows core_modules a b c s s' m h rest ext w outer q (module_made [] a.core (empty_module s.features) ds) found;
+      free = free;
+      live = w.live;
+    }
 
 pub module_type_grew : (a b c : Arena) (s s' : Contents) (m : Module_type) → StateStands a s → b ≡ with_core a b.core → Extends a b → JoinedModule core_types b c s s' m → (ds : List Module_decl) (ss outer : List Contents) → ss ≡ outer ++ s ∷ [] →
     MadeIn a b ss ds m → FreeIn a ss (core_type_item (core_module_type ds)) → (q : Place) → Grew a c (contexts_around a outer) q s s' (core_type_item (core_module_type ds))
-module_type_grew a b c s s' m h rest ext w ds ss outer e made free q = record {
-  names = node_names a c q (made_nodes core_types a b c s s' m h rest ext w);
-  given = node_given a c q (made_nodes core_types a b c s s' m h rest ext w);
-  grown = module_grows core_types a b c s s' m h rest ext w q _ (made outer s e);
-  free = free outer s e;
-  live = w.live;
-}
+module_type_grew a b c s s' m h rest ext w ds ss outer e made free q =
+    let around : Tree_stack = stack_on a outer s in
+    let named_so : Names = names_of (node_names a c q (made_nodes core_types a b c s s' m h rest ext w)) in
+    let declared_free : IsFree (module_checks (outer_entries around) a.core (empty_module s.features) ds) =
+    free_left (module_checks (outer_entries around) a.core (empty_module s.features) ds) (no_type_room true (counts (context_of a s))) (free outer s e named_so q) in
+    let found : module_made (outer_entries around) a.core (empty_module s.features) ds ≡ Some (b.core, m) = made_same (outer_entries around) a.core (empty_module s.features) ds declared_free ∙ made outer s e in
+    record {
+      names = node_names a c q (made_nodes core_types a b c s s' m h rest ext w);
+      given = node_given a c q (made_nodes core_types a b c s s' m h rest ext w);
+      grown = module_grows core_types a b c s s' m h rest ext w (contexts_around a outer) q (module_made (outer_entries around) a.core (empty_module s.features) ds) found;
+      free = free outer s e named_so q;
+      live = w.live;
+    }
+
+-- a core module that was refused before it was made
+pub core_module_refused : {M : Type 0} (a b : Arena) (s s' : Contents) (ds : List Module_decl) (offset : ℕ) (e : Error M) → s'.spent ≡ true → MemoryOrCausedBy (module_checks [] a.core (empty_module s.features) ds) offset e →
+    (outer : List Tree_context) (p : Place) → Refuses a b outer p s s' (core_module_item ds) offset e
+core_module_refused a b s s' ds offset e gone t outer p = (gone, record { names = none_given; given = none_made a b p; caused = t })
 
 -- ## Where the innermost state stands
 
@@ -130,8 +160,8 @@ module _ (a : Arena) (ss : List Contents) (x : Contents) (fs : WasmFeatures) (ds
   features_same : (outer : List Contents) (s : Contents) → ss ≡ outer ++ s ∷ [] → fs ≡ s.features
   features_same outer s e = ef ∙ ap (λ (z : Contents). z.features) (inner outer s e)
 
-  checks_same : (outer : List Contents) (s : Contents) → ss ≡ outer ++ s ∷ [] → Declared ++ Room ≡ call_checks (scope_of s (contexts_around a outer)) (context_of a s) (core_type_item (core_module_type ds))
-  checks_same outer s e =
+  checks_same : (outer : List Contents) (s : Contents) → ss ≡ outer ++ s ∷ [] → (n : Names) (p : Place) → Declared ++ Room ≡ call_checks s.features (tree_maker n p) (stack_on a outer s) (core_type_item (core_module_type ds))
+  checks_same outer s e n p =
       let es = spaces_same a ss outer s e live in
       let f : fs ≡ s.features = features_same outer s e in
       let i : x ≡ s = inner outer s e in
@@ -144,10 +174,10 @@ module _ (a : Arena) (ss : List Contents) (x : Contents) (fs : WasmFeatures) (ds
       (λ j. all_declared (sym es j) a.core (empty_module (sym f j)) ds) ∙ made
 
   pub free_in : IsFree (module_checks (reverse (map core_entries_of ss)) a.core (empty_module fs) ds) → IsFree (no_type_room true (counts (context_of a x))) → FreeIn a ss (core_type_item (core_module_type ds))
-  free_in f r outer s e = subst IsFree (checks_same outer s e) (free_both Declared Room f r)
+  free_in f r outer s e n p = subst IsFree (checks_same outer s e n p) (free_both Declared Room f r)
 
   pub declared_caused : {M : Type 0} (offset : ℕ) (y : Error M) → MemoryOrCausedBy (module_checks (reverse (map core_entries_of ss)) a.core (empty_module fs) ds) offset y → CausedIn a ss (core_type_item (core_module_type ds)) offset y
-  declared_caused offset y m outer s e = subst (λ cs. MemoryOrCausedBy cs offset y) (checks_same outer s e) (caused_more Declared (Declared ++ Room) offset y (cause_left Declared Room (error_kind y)) m)
+  declared_caused offset y m outer s e n p = subst (λ cs. MemoryOrCausedBy cs offset y) (checks_same outer s e n p) (caused_more Declared (Declared ++ Room) offset y (cause_left Declared Room (error_kind y)) m)
 
   pub room_caused : {M : Type 0} (offset : ℕ) (y : Error M) → MemoryOrCausedBy (no_type_room true (counts (context_of a x))) offset y → CausedIn a ss (core_type_item (core_module_type ds)) offset y
-  room_caused offset y m outer s e = subst (λ cs. MemoryOrCausedBy cs offset y) (checks_same outer s e) (caused_more Room (Declared ++ Room) offset y (cause_right Declared Room (error_kind y)) m)
+  room_caused offset y m outer s e n p = subst (λ cs. MemoryOrCausedBy cs offset y) (checks_same outer s e n p) (caused_more Room (Declared ++ Room) offset y (cause_right Declared Room (error_kind y)) m)

@@ -1,10 +1,10 @@
 -- A resource that is defined: the state after it, and what is kept.
-use Rattle.std.proofs.Common.{◌≡◌, ◌+◌, [], ◌∷◌, refl, sym, ◌∙◌, ap, subst, arith, append-nil, Bool, true, false, cond, Some, None}
+use Rattle.std.proofs.Common.{◌≡◌, ◌+◌, List, [], ◌∷◌, refl, sym, ◌∙◌, ap, subst, arith, append-nil, Bool, true, false, cond, Some, None}
 use Rattle.std.specs.Prelude.{Option}
 use Rattle.std.specs.Option.{option_map}
 use Rattle.std.proofs.lemmas.List.{map-append}
 use Rattle.std.proofs.lemmas.List.Elements.{All-push}
-use Rattle.wcv_core.specs.Names.{number, stamp}
+use Rattle.wcv_core.specs.Names.{Place, number, stamp}
 use Rattle.wcv_core.specs.declared.core_types.ValType.{ValType}
 use Rattle.wcv_syntax.specs.Model.{resource_type}
 use Rattle.wcv_types.specs.Arena.{Arena}
@@ -16,12 +16,12 @@ use Rattle.wcv_types.specs.declared.ids.ComponentAnyTypeId.TheVariants as any
 use Rattle.wcv_types.specs.declared.ids.Part.TheVariants as part
 use Rattle.wcv_types.specs.declared.ids.ResourceId.{ResourceId}
 use Rattle.wcv_types.proofs.Grown.{extends_refl}
-use Rattle.wcv_lower.specs.Context.{is_concrete, in_types, push, define, type_entry}
+use Rattle.wcv_lower.specs.Context.{is_concrete, in_types, push, define}
 use Rattle.wcv_lower.specs.Given.{names_of}
-use Rattle.wcv_lower.specs.Names.{introduced}
-use Rattle.wcv_lower.specs.NewTypes.{new_reference}
-use Rattle.wcv_lower.specs.Step.{Step, apply, appends, defines}
-use Rattle.wcv_state.specs.Contents.{Contents, kind_of, context_of, defined_resource, with_defined, with_id, spent, names, sides, StateStands}
+use Rattle.wcv_lower.specs.Readers.{Maker}
+use Rattle.wcv_lower.specs.Step.{Step, apply, joins_types, defines}
+use Rattle.wcv_lower.specs.Trees.{type_entry, Tree_context, tree_reader, tree_maker}
+use Rattle.wcv_state.specs.Contents.{Contents, kind_of, context_of, stack_of, defined_resource, with_defined, with_id, spent, names, sides, StateStands}
 use Rattle.wcv_state.specs.Looking.{has_resource}
 use Rattle.wcv_state.specs.Promises.{Keeps}
 use Rattle.wcv_state.proofs.Given.{resource_names, resource_given, resource_name, reference_same}
@@ -91,19 +91,32 @@ module _ (a b : Arena) (s : Contents) (id : AliasableResourceId) (h : StateStand
   pub spent_keeps : (t : Contents) → Keeps a b s t → Keeps a b s (spent t)
   spent_keeps t k = keeps_trans a b b s t (spent t) k (keeps_marked b t t true refl k.stands)
 
-  pub resource_declares : (rep : ValType) (dtor : Option _) (s' : Contents) → is_concrete (kind_of s.kind) ≡ true → s.spent ≡ false → s' ≡ with_id in_types (any.Resource id) (with_defined id.resource (Some rep) s) → Declares a b s s' (resource_type rep dtor)
+  -- the state after the resource
+  abbrev with_resource : ValType → Contents
+  with_resource rep = with_id in_types (any.Resource id) (with_defined id.resource (Some rep) s)
+
+  resource_context : (rep : ValType) → context_of b (with_resource rep) ≡ push in_types (type_entry (tree.resource_type (number a.resources) (stamp a.stamps))) (define (number a.resources) (Some rep) (context_of a s))
+  resource_context rep =
+      with_id_context b in_types (any.Resource id) (with_defined id.resource (Some rep) s) ∙
+      (λ j. push in_types (type_entry (tree.resource_type (number id.resource.index) (stamp id.stamp))) (defined_context b id.resource (Some rep) s j)) ∙
+      (λ j. push in_types (type_entry (tree.resource_type (number (is j).resource.index) (stamp (is j).stamp))) (define (number (is j).resource.index) (Some rep) (same_context a b grew s h j)))
+
+  abbrev maker_at : Place → Maker tree_reader
+  maker_at p = tree_maker (names_of (resource_names a p)) p
+
+  resource_grows : (rep : ValType) (outer : List Tree_context) (p : Place) → apply (defines (maker_at p).resource (Some rep) ∷ joins_types (maker_at p).reference) (stack_of a s outer) ≡ stack_of b (with_resource rep) outer
+  resource_grows rep outer p =
+      let e : push in_types (maker_at p).reference (define (maker_at p).resource (Some rep) (context_of a s)) ≡ context_of b (with_resource rep) =
+      (λ j. push in_types (type_entry (reference_same a p j)) (define (resource_name a p j) (Some rep) (context_of a s))) ∙ sym (resource_context rep) in
+      λ j. record { top = e j; outer = outer; groups = sym (ap (λ (x : Arena). x.core) eb) j }
+
+  pub resource_declares : (rep : ValType) (dtor : Option _) (s' : Contents) → is_concrete (kind_of s.kind) ≡ true → s.spent ≡ false → s' ≡ with_resource rep → Declares a b s s' (resource_type rep dtor)
   resource_declares rep dtor s' concrete live es = subst (λ (z : Contents). Declares a b s z (resource_type rep dtor)) (sym es) (record {
     given_names = resource_names a;
     given = λ p. resource_given a b p more stamps;
     grown = λ outer p.
-        ap (λ (x : Bool). option_map (λ (y : Step). apply y (context_of a s)) (cond x (Some (defines ((names_of (resource_names a p)).resource (introduced p)) (Some rep) ∷ appends in_types (type_entry (new_reference (names_of (resource_names a p)) p)) ∷ [])) None)) concrete ∙
-        (λ j. Some (push in_types (type_entry (reference_same a p j)) (define (resource_name a p j) (Some rep) (context_of a s)))) ∙ ap Some (sym after);
+        ap (λ (x : Bool). option_map (λ (y : Step tree_reader). apply y (stack_of a s outer)) (cond x (Some (defines (maker_at p).resource (Some rep) ∷ joins_types (maker_at p).reference)) None)) concrete ∙
+        ap Some (resource_grows rep outer p);
     live = live;
     keeps = pushed_keeps (Some rep);
   })
-    where
-      after : context_of b (with_id in_types (any.Resource id) (with_defined id.resource (Some rep) s)) ≡ push in_types (type_entry (tree.resource_type (number a.resources) (stamp a.stamps))) (define (number a.resources) (Some rep) (context_of a s))
-      after =
-          with_id_context b in_types (any.Resource id) (with_defined id.resource (Some rep) s) ∙
-          (λ j. push in_types (type_entry (tree.resource_type (number id.resource.index) (stamp id.stamp))) (defined_context b id.resource (Some rep) s j)) ∙
-          (λ j. push in_types (type_entry (tree.resource_type (number (is j).resource.index) (stamp (is j).stamp))) (define (number (is j).resource.index) (Some rep) (same_context a b grew (ap (λ (x : Arena). x.core) eb) s h j)))

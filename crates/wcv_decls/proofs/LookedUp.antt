@@ -8,7 +8,7 @@ use Rattle.wcv_core.specs.declared.primitive.PrimitiveValType.{PrimitiveValType}
 use Rattle.wcv_syntax.specs.declared.component_type.ComponentValType.TheVariants as w
 use Rattle.wcv_types.specs.Arena.{Arena}
 use Rattle.wcv_types.specs.Standing.{Stands}
-use Rattle.wcv_types.specs.Tree.{Sort, is_value, referenced}
+use Rattle.wcv_types.specs.Tree.{Sort, is_value}
 use Rattle.wcv_types.specs.Unfold.{trees, part_tree}
 use Rattle.wcv_types.specs.declared.ids.ComponentAnyTypeId.TheVariants as any
 use Rattle.wcv_types.specs.declared.ids.ComponentDefinedTypeId.{ComponentDefinedTypeId}
@@ -16,28 +16,30 @@ use Rattle.wcv_types.specs.declared.ids.Part.TheVariants as part
 use Rattle.wcv_types.specs.declared.shapes.ComponentValType.TheVariants as v
 use Rattle.wcv_types.proofs.Unfolding.{sort_stands}
 use Rattle.wcv_lower.specs.Checks.{IsFree, missing_of, same_sort}
-use Rattle.wcv_lower.specs.Context.{Type_tree, Context, in_types}
-use Rattle.wcv_lower.specs.Values.{type_at, if_sort, option_checks}
+use Rattle.wcv_lower.specs.Context.{in_types}
+use Rattle.wcv_lower.specs.Readers.{if_sort}
+use Rattle.wcv_lower.specs.Trees.{Type_tree, Tree_context, tree_reader}
+use Rattle.wcv_lower.specs.Values.{type_at, option_checks}
 use Rattle.wcv_state.specs.Contents.{Contents, context_of, id_tree, StateStands}
 use Rattle.wcv_state.specs.Looking.{any_sort}
 use Rattle.wcv_state.specs.Promises.{CausedBy, MemoryOrCausedBy}
 use Rattle.wcv_state.proofs.Found.{get_same, stands_at, sorts_same}
 use Rattle.wcv_decls.specs.Resolved.{IsOption}
 
-pub nothing_is : (a : Arena) (c : Context) → IsOption a c None None
+pub nothing_is : (a : Arena) (c : Tree_context) → IsOption a c None None
 nothing_is a c = record { stands = tt; tree = refl }
 
-pub primitive_is : (a : Arena) (c : Context) (p : PrimitiveValType) → IsOption a c (Some (w.Primitive p)) (Some (v.Primitive p))
+pub primitive_is : (a : Arena) (c : Tree_context) (p : PrimitiveValType) → IsOption a c (Some (w.Primitive p)) (Some (v.Primitive p))
 primitive_is a c p = record { stands = tt; tree = refl }
 
 pub index_is : (a : Arena) (s : Contents) (k : ℕ) (i : ComponentDefinedTypeId) → StateStands a s → slice_get s.spaces.types k ≡ Some (any.Defined i) → IsOption a (context_of a s) (Some (w.Ty k)) (Some (v.Ty i))
 index_is a s k i h e =
     let p : Stands a (part.Defined i) = (stands_at a s h in_types k (any.Defined i) e).0 in
     let t : Type_tree = part_tree (trees a.nodes) (part.Defined i) in
-    let found : type_at (context_of a s) k ≡ Some t = ap (option_map referenced) (get_same a s h in_types k ∙ ap (option_map (id_tree (trees a.nodes) in_types)) e) in
+    let found : type_at (context_of a s) k ≡ Some t = ap (option_map tree_reader.referenced) (get_same a s h in_types k ∙ ap (option_map (id_tree (trees a.nodes) in_types)) e) in
     record {
       stands = p;
-      tree = ap (option_and_then (if_sort is_value)) found ∙ ap (λ (r : Sort). cond (same_sort is_value r) (Some t) None) (sort_stands a (part.Defined i) p);
+      tree = ap (option_and_then (if_sort tree_reader is_value)) found ∙ ap (λ (r : Sort). cond (same_sort is_value r) (Some t) None) (sort_stands a (part.Defined i) p);
     }
 
 pub index_free : (fs : WasmFeatures) (a : Arena) (s : Contents) (k : ℕ) (i : ComponentDefinedTypeId) → StateStands a s → slice_get s.spaces.types k ≡ Some (any.Defined i) → IsFree (option_checks fs (context_of a s) (Some (w.Ty k)))

@@ -7,10 +7,10 @@ use Rattle.wcv_core.specs.declared.features.WasmFeatures.{WasmFeatures}
 use Rattle.wcv_syntax.specs.declared.component_type.ComponentValType.{ComponentValType as Written_value}
 use Rattle.wcv_types.specs.Arena.{Arena}
 use Rattle.wcv_types.specs.Tree.{Role, here}
-use Rattle.wcv_types.specs.Unfold.{Type_tree, option_slot}
+use Rattle.wcv_types.specs.Unfold.{option_slot}
 use Rattle.wcv_types.specs.declared.shapes.ComponentValType.{ComponentValType}
 use Rattle.wcv_lower.specs.Checks.{Checks, IsFree, if_found}
-use Rattle.wcv_lower.specs.Context.{Context}
+use Rattle.wcv_lower.specs.Trees.{Type_tree, Tree_context}
 use Rattle.wcv_lower.specs.Values.{option_checks, parts_checks}
 use Rattle.wcv_lower.proofs.Causes.{cause_left, cause_right, free_both}
 use Rattle.wcv_state.specs.Promises.{MemoryOrCausedBy}
@@ -18,7 +18,7 @@ use Rattle.wcv_state.proofs.Calls.{caused_more}
 use Rattle.wcv_decls.specs.Resolved.{IsOption, AreSlots}
 use Rattle.wcv_decls.proofs.Looking.{are_no_slots, are_slots_push}
 
-module _ (a : Arena) (c : Context) (fs : WasmFeatures) where
+module _ (a : Arena) (c : Tree_context) (fs : WasmFeatures) where
   -- ## Slots
 
   pub one_slot : (o : Option Written_value) (v : Option ComponentValType) → IsOption a c o v → AreSlots a c ((here, o) ∷ []) ((here, option_slot v) ∷ [])

@@ -1,6 +1,6 @@
 -- The innermost of the states that are open.
 use Rattle.std.proofs.Common.{◌≡◌, ℕ, zero, suc, ◌<◌, ◌-◌, List, [], ◌∷◌, ◌++◌, length, map, take, refl, ap, subst, sym, ◌∙◌, arith, slice_set, slice_index_or, All, true}
-use Rattle.std.specs.Prelude.{Bool}
+use Rattle.std.specs.Prelude.{Bool, reverse}
 use Rattle.std.proofs.lemmas.List.{map-append, length-map, take_at}
 use Rattle.std.proofs.lemmas.List.Elements.{All-head, All-tail, AllZip-push}
 use Rattle.wcv_core.specs.Names.{Place}
@@ -9,15 +9,17 @@ use Rattle.wcv_syntax.specs.Model.{Form, Type_form}
 use Rattle.wcv_types.proofs.Lists.{map-id}
 use Rattle.wcv_types.specs.Arena.{Arena}
 use Rattle.wcv_types.specs.Standing.{Extends}
-use Rattle.wcv_lower.specs.Context.{Context}
+use Rattle.wcv_lower.specs.Given.{names_of, none_given}
 use Rattle.wcv_lower.specs.Growth.{call_checks}
-use Rattle.wcv_state.specs.Contents.{Contents, spent, context_of, scope_of}
+use Rattle.wcv_lower.specs.Trees.{Tree_context, tree_maker}
+use Rattle.wcv_state.specs.Contents.{Contents, spent, context_of}
 use Rattle.wcv_state.specs.Promises.{MemoryOrCausedBy, Keeps, Grew}
-use Rattle.wcv_state.proofs.Keeping.{keeps_grown, keeps_marked, keeps_trans}
+use Rattle.wcv_state.proofs.Keeping.{same_mapped, same_context, keeps_grown, keeps_marked, keeps_trans}
 use Rattle.wcv_decls.specs.CoreItems.{CausedIn}
-use Rattle.wcv_decls.specs.Items.{declare_checks, Declared}
-use Rattle.wcv_decls.specs.Stack.{IsOpen, all_spent, DeclaresOn, RefusesOn, GrewOn, RefusedOn, KeepsOn, contexts_around}
+use Rattle.wcv_decls.specs.Items.{Declared, TypeCaused}
+use Rattle.wcv_decls.specs.Stack.{IsOpen, all_spent, DeclaresOn, RefusesOn, GrewOn, RefusedOn, KeepsOn, contexts_around, stack_on}
 use Rattle.wcv_decls.proofs.CoreEntries.{open_split}
+use Rattle.wcv_decls.proofs.Naming.{none_made}
 
 -- the last of a list, before and after it is set
 record LastSet {X : Type 0} (xs : List X) (k : ℕ) (x : X) (y : X) : Type 0 where
@@ -42,6 +44,10 @@ module _ (a b : Arena) where
   around_kept g [] h = tt
   around_kept g (s ∷ ss) h = (keeps_grown a b s g (All-head (IsOpen a) s ss h).stands, around_kept g ss (All-tail (IsOpen a) s ss h))
 
+  -- and so their contexts
+  pub around_same : Extends a b → (ss : List Contents) → All (IsOpen a) ss → contexts_around b ss ≡ contexts_around a ss
+  around_same g ss h = ap reverse (same_mapped (IsOpen a) (context_of b) (context_of a) ss (λ s w. same_context a b g s w.stands) h)
+
   -- states of which each was marked after that
   pub kept_marked : (ss ss' : List Contents) → KeepsOn a b ss ss' → KeepsOn a b ss (all_spent ss')
   kept_marked [] [] h = tt
@@ -52,15 +58,17 @@ module _ (a b : Arena) where
 -- ## The states before and after a call on the innermost
 
 module _ (ss : List Contents) (k : ℕ) (s s' : Contents) (e : k ≡ length ss - 1) (h : 0 < length ss) (i : s ≡ slice_index_or ss k s) where
-  pub grew_on : (a a' : Arena) (p : Place) (f : Form) → ((outer : List Contents) → ss ≡ outer ++ s ∷ [] → Grew a a' (contexts_around a outer) p s s' f) → GrewOn a a' p ss (slice_set ss k s') f
-  grew_on a a' p f g = let r = last_set ss k s s' e h i in record {
+  pub grew_on : (a a' : Arena) (p : Place) (f : Form) → All (IsOpen a) ss → Extends a a' → ((outer : List Contents) → ss ≡ outer ++ s ∷ [] → Grew a a' (contexts_around a outer) p s s' f) → GrewOn a a' p ss (slice_set ss k s') f
+  grew_on a a' p f o x g = let r = last_set ss k s s' e h i in record {
     last = record { outer = r.front; old = s; new = s'; was = r.was; becomes = r.becomes };
+    around = around_same a a' x r.front (open_split a r.front s (subst (All (IsOpen a)) r.was o)).0;
     grew = g r.front r.was;
   }
 
-  pub declares_on : (limited : Bool) (a a' : Arena) (p : Place) (t : Type_form) → ((outer : List Context) (q : Place) → Declared limited a a' outer q s s' t) → DeclaresOn limited a a' p ss (slice_set ss k s') t
-  declares_on limited a a' p t f = let r = last_set ss k s s' e h i in record {
+  pub declares_on : (limited : Bool) (a a' : Arena) (p : Place) (t : Type_form) → All (IsOpen a) ss → Extends a a' → ((outer : List Tree_context) (q : Place) → Declared limited a a' outer q s s' t) → DeclaresOn limited a a' p ss (slice_set ss k s') t
+  declares_on limited a a' p t o x f = let r = last_set ss k s s' e h i in record {
     last = record { outer = r.front; old = s; new = s'; was = r.was; becomes = r.becomes };
+    around = around_same a a' x r.front (open_split a r.front s (subst (All (IsOpen a)) r.was o)).0;
     declared = f (contexts_around a r.front) p;
   }
 
@@ -78,18 +86,19 @@ marked t front ts w = ap all_spent w ∙ map-append spent front (t ∷ [])
 
 -- where the innermost alone became another before
 module _ (ss : List Contents) (k : ℕ) (s s' : Contents) (e : k ≡ length ss - 1) (h : 0 < length ss) (i : s ≡ slice_index_or ss k s) where
-  pub refused_on : {M : Type 0} (a : Arena) (f : Form) (offset : ℕ) (x : Error M) → ((outer : List Contents) → ss ≡ outer ++ s ∷ [] → MemoryOrCausedBy (call_checks (scope_of s (contexts_around a outer)) (context_of a s) f) offset x) →
-      RefusedOn a ss (all_spent (slice_set ss k s')) f offset x
-  refused_on a f offset x g = let r = last_set ss k s s' e h i in record {
+  pub refused_on : {M : Type 0} (a a' : Arena) (p : Place) (f : Form) (offset : ℕ) (x : Error M) →
+      ((outer : List Contents) → ss ≡ outer ++ s ∷ [] → MemoryOrCausedBy (call_checks s.features (tree_maker (names_of none_given) p) (stack_on a outer s) f) offset x) →
+      RefusedOn a a' p ss (all_spent (slice_set ss k s')) f offset x
+  refused_on a a' p f offset x g = let r = last_set ss k s s' e h i in record {
     last = record { outer = r.front; old = s; new = spent s'; was = r.was; becomes = marked s' r.front (slice_set ss k s') r.becomes };
-    refused = (refl, g r.front r.was);
+    refused = (refl, record { names = none_given; given = none_made a a' p; caused = g r.front r.was });
   }
 
-  pub refuses_on : {M : Type 0} (limited : Bool) (a : Arena) (t : Type_form) (offset : ℕ) (x : Error M) → ((outer : List Context) → MemoryOrCausedBy (declare_checks limited (scope_of s outer) (context_of a s) t) offset x) →
-      RefusesOn limited a ss (all_spent (slice_set ss k s')) t offset x
-  refuses_on limited a t offset x f = let r = last_set ss k s s' e h i in record {
+  pub refuses_on : {M : Type 0} (limited : Bool) (a a' : Arena) (p : Place) (t : Type_form) (offset : ℕ) (x : Error M) → TypeCaused limited a a' p s t offset x → RefusesOn limited a a' p ss (all_spent (slice_set ss k s')) t offset x
+  refuses_on limited a a' p t offset x f = let r = last_set ss k s s' e h i in record {
     last = record { outer = r.front; old = s; new = spent s'; was = r.was; becomes = marked s' r.front (slice_set ss k s') r.becomes };
-    refused = (refl, f (contexts_around a r.front));
+    spent = refl;
+    caused = f;
   }
 
 -- where no state became another before
@@ -103,10 +112,10 @@ innermost [] h = absurd (omega (arith, h))
 innermost (s ∷ []) h = record { outer = []; last = s; was = refl }
 innermost (s ∷ t ∷ ss) h = let r = innermost (t ∷ ss) (omega arith) in record { outer = s ∷ r.outer; last = r.last; was = ap (λ xs. s ∷ xs) r.was }
 
-pub refused_before : {M : Type 0} (a : Arena) (ss : List Contents) (f : Form) (offset : ℕ) (x : Error M) → 0 < length ss → CausedIn a ss f offset x → RefusedOn a ss (all_spent ss) f offset x
-refused_before a ss f offset x h g = let r = innermost ss h in record {
+pub refused_before : {M : Type 0} (a a' : Arena) (p : Place) (ss : List Contents) (f : Form) (offset : ℕ) (x : Error M) → 0 < length ss → CausedIn a ss f offset x → RefusedOn a a' p ss (all_spent ss) f offset x
+refused_before a a' p ss f offset x h g = let r = innermost ss h in record {
   last = record { outer = r.outer; old = r.last; new = spent r.last; was = r.was; becomes = marked r.last r.outer ss r.was };
-  refused = (refl, g r.outer r.last r.was);
+  refused = (refl, record { names = none_given; given = none_made a a' p; caused = g r.outer r.last r.was (names_of none_given) p });
 }
 
 -- what a vector holds once the states in it were marked

@@ -7,7 +7,8 @@ use Rattle.wcv_types.specs.Unfold.{tree_at, tree_of, trees}
 use Rattle.wcv_types.specs.declared.arena.Node.{Node}
 use Rattle.wcv_types.specs.declared.ids.ComponentAnyTypeId.{ComponentAnyTypeId}
 use Rattle.wcv_types.proofs.Grown.{extends_refl, extends_push}
-use Rattle.wcv_lower.specs.Context.{in_types, push, type_entry}
+use Rattle.wcv_lower.specs.Context.{in_types, push}
+use Rattle.wcv_lower.specs.Trees.{type_entry}
 use Rattle.wcv_state.specs.Contents.{Contents, with_id, StateStands}
 use Rattle.wcv_state.specs.Promises.{Keeps}
 use Rattle.wcv_state.proofs.Keeping.{state_stands, same_context, keeps_grown, keeps_marked, keeps_trans, keeps_with_id, with_id_context}
@@ -34,8 +35,9 @@ module _ (a b : Arena) (s : Contents) (x : Node) (eb : b ≡ with_node a x) (h :
 
   pub stored : (s' : Contents) (id : ComponentAnyTypeId) → s.spent ≡ false → Stands b (any_part id) → tree_at b (any_part id) ≡ tree_of (trees a.nodes) x → s' ≡ with_id in_types id s → Stored a b s s' x
   stored s' id live stands tree es = subst (λ (z : Contents). Stored a b s z x) (sym es) (record {
-    grown = with_id_context b in_types id s ∙ (λ j. push in_types (type_entry (tree j)) (same_context a b grew (ap (λ (y : Arena). y.core) eb) s h j));
+    grown = with_id_context b in_types id s ∙ (λ j. push in_types (type_entry (tree j)) (same_context a b grew s h j));
     nodes = ap (λ (y : Arena). length y.nodes) eb ∙ length-append a.nodes (x ∷ []) ∙ omega arith;
+    core = ap (λ (y : Arena). y.core) eb;
     live = live;
     keeps = keeps_trans a b b s s (with_id in_types id s) node_keeps (keeps_with_id b in_types id s node_stands (stands, stands));
   })

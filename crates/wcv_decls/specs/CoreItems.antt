@@ -1,10 +1,11 @@
 -- What core types and core modules do to a state.
 use Rattle.std.specs.Prelude.{ℕ, suc, List, [], ◌∷◌, ◌++◌, length, Some, false, ◌≡◌}
-use Rattle.wcv_core.specs.Names.{number}
+use Rattle.wcv_core.specs.Names.{Place, number}
 use Rattle.wcv_core.specs.declared.error.Error.{Error}
 use Rattle.wcv_syntax.specs.Model.{Module_decl, Form}
 use Rattle.wcv_syntax.specs.ModuleTypes.{Module_type, empty_module, all_declared}
 use Rattle.wcv_types.specs.Arena.{Arena}
+use Rattle.wcv_types.specs.Rebuild.{given_types}
 use Rattle.wcv_types.specs.Standing.{Stands, Extends}
 use Rattle.wcv_types.specs.Unfold.{tree_at}
 use Rattle.wcv_types.specs.declared.ids.ComponentCoreModuleTypeId.{ComponentCoreModuleTypeId}
@@ -12,11 +13,13 @@ use Rattle.wcv_types.specs.declared.ids.ComponentCoreTypeId.TheVariants as core_
 use Rattle.wcv_types.specs.declared.ids.Part.TheVariants as part
 use Rattle.wcv_lower.specs.Checks.{IsFree}
 use Rattle.wcv_lower.specs.Context.{Core_space, core_types, core_modules, push_core}
-use Rattle.wcv_lower.specs.CoreItems.{module_tree, outer_entries}
+use Rattle.wcv_lower.specs.CoreItems.{outer_entries}
 use Rattle.wcv_lower.specs.Growth.{call_checks}
-use Rattle.wcv_state.specs.Contents.{Contents, with_core, context_of, scope_of}
+use Rattle.wcv_lower.specs.Names.{Names}
+use Rattle.wcv_lower.specs.Trees.{tree_maker, module_tree}
+use Rattle.wcv_state.specs.Contents.{Contents, with_core, context_of}
 use Rattle.wcv_state.specs.Promises.{MemoryOrCausedBy, Keeps}
-use Rattle.wcv_decls.specs.Stack.{contexts_around}
+use Rattle.wcv_decls.specs.Stack.{stack_on}
 use Rattle.wcv_decls.specs.declared.core_module.ModuleSpace.{ModuleSpace}
 use Rattle.wcv_decls.specs.declared.core_module.ModuleSpace.TheVariants as space
 
@@ -24,6 +27,7 @@ use Rattle.wcv_decls.specs.declared.core_module.ModuleSpace.TheVariants as space
 pub record StoredModule (a b : Arena) (m : Module_type) (i : ComponentCoreModuleTypeId) : Type 0 where
   pub stands : Stands b (part.Module i)
   pub tree : tree_at b (part.Module i) ≡ module_tree (number (length a.nodes)) m
+  pub types : given_types b (part.Module i) ≡ m.types
   pub nodes : length b.nodes ≡ suc (length a.nodes)
   pub core : b.core ≡ a.core
   pub arena : Extends a b
@@ -41,6 +45,7 @@ with_module space.CoreModules i s = with_core core_modules i s
 pub record JoinedModule (k : Core_space) (a b : Arena) (s s' : Contents) (m : Module_type) : Type 0 where
   pub grown : context_of b s' ≡ push_core k (module_tree (number (length a.nodes)) m) (context_of a s)
   pub nodes : length b.nodes ≡ suc (length a.nodes)
+  pub core : b.core ≡ a.core
   pub live : s'.spent ≡ false
   pub keeps : Keeps a b s s'
 
@@ -48,11 +53,11 @@ pub record JoinedModule (k : Core_space) (a b : Arena) (s s' : Contents) (m : Mo
 abbrev pub MadeIn : Arena → Arena → List Contents → List Module_decl → Module_type → Type 0
 MadeIn a b ss ds m =
     (outer : List Contents) (s : Contents) → ss ≡ outer ++ s ∷ [] →
-    all_declared (outer_entries (scope_of s (contexts_around a outer)) (context_of a s)) a.core (empty_module s.features) ds ≡ Some (b.core, m)
+    all_declared (outer_entries (stack_on a outer s)) a.core (empty_module s.features) ds ≡ Some (b.core, m)
 
--- the item has no cause there, and such a cause
+-- the item has no cause there, and such a cause, by any names
 abbrev pub FreeIn : Arena → List Contents → Form → Type 0
-FreeIn a ss f = (outer : List Contents) (s : Contents) → ss ≡ outer ++ s ∷ [] → IsFree (call_checks (scope_of s (contexts_around a outer)) (context_of a s) f)
+FreeIn a ss f = (outer : List Contents) (s : Contents) → ss ≡ outer ++ s ∷ [] → (n : Names) (p : Place) → IsFree (call_checks s.features (tree_maker n p) (stack_on a outer s) f)
 
 abbrev pub CausedIn : {M : Type 0} → Arena → List Contents → Form → ℕ → Error M → Type 0
-CausedIn a ss f offset e = (outer : List Contents) (s : Contents) → ss ≡ outer ++ s ∷ [] → MemoryOrCausedBy (call_checks (scope_of s (contexts_around a outer)) (context_of a s) f) offset e
+CausedIn a ss f offset e = (outer : List Contents) (s : Contents) → ss ≡ outer ++ s ∷ [] → (n : Names) (p : Place) → MemoryOrCausedBy (call_checks s.features (tree_maker n p) (stack_on a outer s) f) offset e

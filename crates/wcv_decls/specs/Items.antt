@@ -1,37 +1,43 @@
 -- What a type item does to a state.
-use Rattle.std.specs.Prelude.{suc, List, Bool, false, Some, length, ◌≡◌}
+use Rattle.std.specs.Prelude.{ℕ, suc, List, Bool, false, Some, length, ◌≡◌}
 use Rattle.wcv_core.specs.Names.{Place, number}
+use Rattle.wcv_core.specs.declared.error.Error.{Error}
+use Rattle.wcv_core.specs.declared.features.WasmFeatures.{WasmFeatures}
 use Rattle.wcv_syntax.specs.Built.{is_built_type}
 use Rattle.wcv_syntax.specs.Model.{Type_form, type_item}
 use Rattle.wcv_types.specs.Arena.{Arena}
 use Rattle.wcv_types.specs.Unfold.{tree_of, trees}
 use Rattle.wcv_types.specs.declared.arena.Node.{Node}
 use Rattle.wcv_lower.specs.Checks.{Checks, IsFree}
-use Rattle.wcv_lower.specs.Context.{Type_tree, Context, Scope, in_types, push, type_entry}
+use Rattle.wcv_lower.specs.Context.{Context, in_types, push}
 use Rattle.wcv_lower.specs.Given.{GivenNames, names_of, GivesAt}
 use Rattle.wcv_lower.specs.Growth.{grow}
 use Rattle.wcv_lower.specs.Names.{Under}
-use Rattle.wcv_lower.specs.Types.{type_tree, type_checks}
-use Rattle.wcv_state.specs.Contents.{Contents, context_of, scope_of}
-use Rattle.wcv_state.specs.Promises.{numbers_of, Keeps, if_built}
+use Rattle.wcv_lower.specs.Readers.{Reader, New_node, Maker}
+use Rattle.wcv_lower.specs.Trees.{Tree_context, tree_reader, tree_maker, node_tree, type_entry}
+use Rattle.wcv_lower.specs.Types.{type_made, type_checks}
+use Rattle.wcv_state.specs.Contents.{Contents, context_of, stack_of}
+use Rattle.wcv_state.specs.Promises.{MemoryOrCausedBy, numbers_of, Keeps, if_built}
 
 -- the causes of a type item, where the number of types is looked at if `limited` says so
-abbrev pub declare_checks : Bool → Scope → Context → Type_form → Checks
-declare_checks limited sc c t = if_built (is_built_type t) (type_checks limited sc c t)
+abbrev pub declare_checks : {X : Reader} → Bool → WasmFeatures → Maker X → Context X → Type_form → Checks
+declare_checks limited fs mk c t = if_built (is_built_type t) (type_checks limited fs mk c t)
 
 -- the node is the arena's next one, and joined the types
 pub record Stored (a b : Arena) (s s' : Contents) (x : Node) : Type 0 where
   pub grown : context_of b s' ≡ push in_types (type_entry (tree_of (trees a.nodes) x)) (context_of a s)
   pub nodes : length b.nodes ≡ suc (length a.nodes)
+  pub core : b.core ≡ a.core
   pub live : s'.spent ≡ false
   pub keeps : Keeps a b s s'
 
 -- so of the node of a type item
 pub record Added (a b : Arena) (s s' : Contents) (t : Type_form) : Type 0 where
-  pub tree : Type_tree
-  pub is_tree : type_tree (number (length a.nodes)) (context_of a s) t ≡ Some tree
-  pub grown : context_of b s' ≡ push in_types (type_entry tree) (context_of a s)
+  pub node : New_node tree_reader
+  pub made : type_made (context_of a s) t ≡ Some node
+  pub grown : context_of b s' ≡ push in_types (type_entry (node_tree (number (length a.nodes)) node)) (context_of a s)
   pub nodes : length b.nodes ≡ suc (length a.nodes)
+  pub core : b.core ≡ a.core
   pub live : s'.spent ≡ false
   pub keeps : Keeps a b s s'
 
@@ -39,14 +45,20 @@ pub record Added (a b : Arena) (s s' : Contents) (t : Type_form) : Type 0 where
 pub record Declares (a b : Arena) (s s' : Contents) (t : Type_form) : Type 0 where
   pub given_names : Place → GivenNames
   pub given : (p : Place) → GivesAt (Under p) (numbers_of a) (numbers_of b) (given_names p)
-  pub grown : (outer : List Context) (p : Place) → grow (names_of (given_names p)) p (scope_of s outer) (context_of a s) (type_item t) ≡ Some (context_of b s')
+  pub grown : (outer : List Tree_context) (p : Place) → grow s.features (tree_maker (names_of (given_names p)) p) (stack_of a s outer) (type_item t) ≡ Some (stack_of b s' outer)
   pub live : s'.spent ≡ false
   pub keeps : Keeps a b s s'
 
 -- so at that place, by names that the arena gave, and it has no cause that is looked at
-pub record Declared (limited : Bool) (a a' : Arena) (outer : List Context) (p : Place) (s s' : Contents) (t : Type_form) : Type 0 where
+pub record Declared (limited : Bool) (a a' : Arena) (outer : List Tree_context) (p : Place) (s s' : Contents) (t : Type_form) : Type 0 where
   pub names : GivenNames
   pub given : GivesAt (Under p) (numbers_of a) (numbers_of a') names
-  pub grown : grow (names_of names) p (scope_of s outer) (context_of a s) (type_item t) ≡ Some (context_of a' s')
-  pub free : IsFree (declare_checks limited (scope_of s outer) (context_of a s) t)
+  pub grown : grow s.features (tree_maker (names_of names) p) (stack_of a s outer) (type_item t) ≡ Some (stack_of a' s' outer)
+  pub free : IsFree (declare_checks limited s.features (tree_maker (names_of names) p) (context_of a s) t)
   pub live : s'.spent ≡ false
+
+-- the error is out of memory, or a cause of the type item at that place by names that the arena gave
+pub record TypeCaused {M : Type 0} (limited : Bool) (a a' : Arena) (p : Place) (s : Contents) (t : Type_form) (offset : ℕ) (e : Error M) : Type 0 where
+  pub names : GivenNames
+  pub given : GivesAt (Under p) (numbers_of a) (numbers_of a') names
+  pub caused : MemoryOrCausedBy (declare_checks limited s.features (tree_maker (names_of names) p) (context_of a s) t) offset e

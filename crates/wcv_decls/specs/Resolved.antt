@@ -11,7 +11,7 @@ use Rattle.wcv_types.specs.Entities.{SlotStands}
 use Rattle.wcv_types.specs.Standing.{Stands}
 use Rattle.wcv_syntax.specs.declared.component_type.VariantCase.{VariantCase}
 use Rattle.wcv_types.specs.Tree.{Text, Role, here, label}
-use Rattle.wcv_types.specs.Unfold.{Slots, option_slot, value_slots, value_parts, defined_slots, field_slots, former_of, handles, parts_in, slot_tree, slot_parts, trees}
+use Rattle.wcv_types.specs.Unfold.{Slots, option_slot, value_slots, value_parts, defined_slots, field_slots, former_of, handles, parts_in, slot_tree, trees}
 use Rattle.wcv_core.specs.declared.primitive.PrimitiveValType.{PrimitiveValType}
 use Rattle.wcv_types.specs.declared.shapes.ComponentDefinedType.{ComponentDefinedType}
 use Rattle.wcv_types.specs.declared.shapes.ComponentDefinedType.TheVariants as d
@@ -19,10 +19,11 @@ use Rattle.wcv_types.specs.declared.shapes.ComponentFuncType.{ComponentFuncType}
 use Rattle.wcv_types.specs.declared.shapes.ComponentValType.{ComponentValType}
 use Rattle.wcv_types.specs.declared.info.TypeInfo.{TypeInfo}
 use Rattle.wcv_lower.specs.Checks.{Checks, if_found, too_many}
-use Rattle.wcv_lower.specs.Context.{Context}
 use Rattle.wcv_lower.specs.Defined.{former, written_parts, handle_index, made_of, made_checks, content_checks, has_borrow}
+use Rattle.wcv_lower.specs.Mapped.{map_parts}
+use Rattle.wcv_lower.specs.Trees.{Tree_context, tree_reader}
 use Rattle.wcv_lower.specs.Types.{func_parts}
-use Rattle.wcv_lower.specs.Values.{option_tree, Written_parts, parts_trees, parts_checks}
+use Rattle.wcv_lower.specs.Values.{option_entry, Written_parts, parts_entries, parts_checks}
 
 -- ## Value types in their roles
 
@@ -47,33 +48,33 @@ item_part v = (here, Some v)
 -- ## What was looked up
 
 -- a value type that may be left out
-pub record IsOption (a : Arena) (c : Context) (w : Option Written_value) (v : Option ComponentValType) : Type 0 where
+pub record IsOption (a : Arena) (c : Tree_context) (w : Option Written_value) (v : Option ComponentValType) : Type 0 where
   pub stands : SlotStands a (option_slot v)
-  pub tree : option_tree c w ≡ Some (slot_tree (trees a.nodes) (option_slot v))
+  pub tree : option_entry c w ≡ Some (slot_tree (trees a.nodes) (option_slot v))
 
 -- what stands in slots is in the arena, and their trees are those of the value types
-pub record AreSlots (a : Arena) (c : Context) (ps : Written_parts) (ss : Slots) : Type 0 where
+pub record AreSlots (a : Arena) (c : Tree_context) (ps : Written_parts) (ss : Slots) : Type 0 where
   pub stands : All (Stands a) (parts_in ss)
-  pub trees : parts_trees c ps ≡ Some (slot_parts (trees a.nodes) ss)
+  pub trees : parts_entries c ps ≡ Some (map_parts (slot_tree (trees a.nodes)) ss)
 
 -- the node of a type that is made of value types
-pub record IsValueShape (a : Arena) (c : Context) (x : Defined_form) (s : ComponentDefinedType) : Type 0 where
+pub record IsValueShape (a : Arena) (c : Tree_context) (x : Defined_form) (s : ComponentDefinedType) : Type 0 where
   pub formed : former_of s ≡ former x
   pub values : handles s ≡ false
   pub slots : AreSlots a c (written_parts x) (value_slots (value_parts s))
 
 -- the node of a defined type
-pub record IsShape (a : Arena) (c : Context) (x : Defined_form) (s : ComponentDefinedType) : Type 0 where
+pub record IsShape (a : Arena) (c : Tree_context) (x : Defined_form) (s : ComponentDefinedType) : Type 0 where
   pub formed : former_of s ≡ former x
   pub stands : All (Stands a) (parts_in (defined_slots s))
-  pub parts : made_of c (handle_index x) (written_parts x) ≡ Some (slot_parts (trees a.nodes) (defined_slots s))
+  pub parts : made_of c (handle_index x) (written_parts x) ≡ Some (map_parts (slot_tree (trees a.nodes)) (defined_slots s))
 
-pub record IsFuncShape (a : Arena) (c : Context) (f : Func_form) (s : ComponentFuncType) : Type 0 where
+pub record IsFuncShape (a : Arena) (c : Tree_context) (f : Func_form) (s : ComponentFuncType) : Type 0 where
   pub async : s.async_ ≡ f.async
   pub slots : AreSlots a c (func_parts f) (field_slots s.params.items ((here, option_slot s.result) ∷ []))
 
 -- the causes that are found where what it is made of is looked up
-abbrev pub resolve_checks : WasmFeatures → Context → Defined_form → Checks
+abbrev pub resolve_checks : WasmFeatures → Tree_context → Defined_form → Checks
 resolve_checks fs c x = made_checks fs c (handle_index x) (written_parts x) ++ content_checks c x
 
 -- the primitive that is named
@@ -91,8 +92,8 @@ holds_no_list (written.Enum ns) = false
 holds_no_list x = true
 
 -- so of a function type
-abbrev pub func_resolve_checks : WasmFeatures → Context → Func_form → Checks
-func_resolve_checks fs c f = parts_checks fs c (func_parts f) ++ if_found has_borrow (option_tree c f.result)
+abbrev pub func_resolve_checks : WasmFeatures → Tree_context → Func_form → Checks
+func_resolve_checks fs c f = parts_checks fs c (func_parts f) ++ if_found (has_borrow tree_reader) (option_entry c f.result)
 
 -- the limits of a type's size, over what the arena keeps
 abbrev pub kept_checks : TypeInfo → ℕ → ℕ → Checks

@@ -1,14 +1,14 @@
 -- The states that are open around an item, the innermost last.
-use Rattle.std.specs.Prelude.{ℕ, List, [], ◌∷◌, ◌++◌, Bool, false, map, reverse, ◌≡◌}
+use Rattle.std.specs.Prelude.{ℕ, List, [], ◌∷◌, ◌++◌, Bool, true, false, map, reverse, ◌≡◌}
 use Rattle.std.specs.List.{AllZip}
 use Rattle.wcv_core.specs.Names.{Place}
 use Rattle.wcv_core.specs.declared.error.Error.{Error}
 use Rattle.wcv_syntax.specs.Model.{Form, Type_form}
 use Rattle.wcv_types.specs.Arena.{Arena}
-use Rattle.wcv_lower.specs.Context.{Context}
-use Rattle.wcv_state.specs.Contents.{Contents, spent, context_of, scope_of, StateStands}
-use Rattle.wcv_state.specs.Promises.{Keeps, RefusesBy, Grew, Refuses}
-use Rattle.wcv_decls.specs.Items.{declare_checks, Declared}
+use Rattle.wcv_lower.specs.Trees.{Tree_context, Tree_stack}
+use Rattle.wcv_state.specs.Contents.{Contents, spent, context_of, stack_of, StateStands}
+use Rattle.wcv_state.specs.Promises.{Keeps, Grew, Refuses}
+use Rattle.wcv_decls.specs.Items.{Declared, TypeCaused}
 
 -- the state may be used, and its ids stand in the arena
 pub record IsOpen (a : Arena) (s : Contents) : Type 0 where
@@ -16,8 +16,12 @@ pub record IsOpen (a : Arena) (s : Contents) : Type 0 where
   pub stands : StateStands a s
 
 -- the contexts of the states, the nearest first
-abbrev pub contexts_around : Arena → List Contents → List Context
+abbrev pub contexts_around : Arena → List Contents → List Tree_context
 contexts_around a ss = reverse (map (context_of a) ss)
+
+-- the stack of the states, with that one on top of those
+abbrev pub stack_on : Arena → List Contents → Contents → Tree_stack
+stack_on a outer s = stack_of a s (contexts_around a outer)
 
 -- what becomes of states: they stay as they are, or each is spent
 abbrev pub stay : List Contents → List Contents
@@ -34,25 +38,28 @@ pub record ChangesLast (around : List Contents → List Contents) (ss ss' : List
   pub was : ss ≡ outer ++ old ∷ []
   pub becomes : ss' ≡ around outer ++ new ∷ []
 
--- the innermost grew by the item at that place, and the others stay
+-- the innermost grew by the item at that place, and the others stay, with their contexts
 pub record GrewOn (a a' : Arena) (p : Place) (ss ss' : List Contents) (f : Form) : Type 0 where
   pub last : ChangesLast stay ss ss'
+  pub around : contexts_around a' last.outer ≡ contexts_around a last.outer
   pub grew : Grew a a' (contexts_around a last.outer) p last.old last.new f
 
 -- it was refused by a cause of the item that the call looks at, and all are spent
-pub record RefusedOn {M : Type 0} (a : Arena) (ss ss' : List Contents) (f : Form) (offset : ℕ) (e : Error M) : Type 0 where
+pub record RefusedOn {M : Type 0} (a a' : Arena) (p : Place) (ss ss' : List Contents) (f : Form) (offset : ℕ) (e : Error M) : Type 0 where
   pub last : ChangesLast all_spent ss ss'
-  pub refused : Refuses a (contexts_around a last.outer) last.old last.new f offset e
+  pub refused : Refuses a a' (contexts_around a last.outer) p last.old last.new f offset e
 
--- the innermost grew by the type item at that place, and the others stay
+-- the innermost grew by the type item at that place, and the others stay, with their contexts
 pub record DeclaresOn (limited : Bool) (a a' : Arena) (p : Place) (ss ss' : List Contents) (t : Type_form) : Type 0 where
   pub last : ChangesLast stay ss ss'
+  pub around : contexts_around a' last.outer ≡ contexts_around a last.outer
   pub declared : Declared limited a a' (contexts_around a last.outer) p last.old last.new t
 
 -- it was refused by a cause of the type item, and all are spent
-pub record RefusesOn {M : Type 0} (limited : Bool) (a : Arena) (ss ss' : List Contents) (t : Type_form) (offset : ℕ) (e : Error M) : Type 0 where
+pub record RefusesOn {M : Type 0} (limited : Bool) (a a' : Arena) (p : Place) (ss ss' : List Contents) (t : Type_form) (offset : ℕ) (e : Error M) : Type 0 where
   pub last : ChangesLast all_spent ss ss'
-  pub refused : RefusesBy (declare_checks limited (scope_of last.old (contexts_around a last.outer)) (context_of a last.old) t) last.new offset e
+  pub spent : last.new.spent ≡ true
+  pub caused : TypeCaused limited a a' p last.old t offset e
 
 -- whatever is answered, each state keeps what stood
 abbrev pub KeepsOn : Arena → Arena → List Contents → List Contents → Type 0

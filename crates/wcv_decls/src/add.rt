@@ -1,10 +1,13 @@
 // Type items of each form.
 ghost use Rattle.std.specs.Prelude.{◌≡◌, [], true, false, cond, OnOk, OnErr, IfErr};
+ghost use Rattle.wcv_core.specs.Names.{Place};
 ghost use Rattle.wcv_syntax.specs.Built as built;
 ghost use Rattle.wcv_syntax.specs.Model.{defined_type, func_type};
 ghost use Rattle.wcv_syntax.specs.View.{defined_view, func_view, type_view};
 ghost use Rattle.wcv_lower.specs.Checks.{IsFree};
 ghost use Rattle.wcv_lower.specs.Defined.{own_checks};
+ghost use Rattle.wcv_lower.specs.Names.{Names};
+ghost use Rattle.wcv_lower.specs.Trees.{tree_maker};
 ghost use Rattle.wcv_lower.specs.Values.{lacks, cm_async};
 ghost use Rattle.wcv_lower.specs.Types.{func_own_checks, tree_checks};
 ghost use Rattle.wcv_state.specs.Contents.{context_of, StateStands};
@@ -52,8 +55,8 @@ fn add_defined(
     requires live { state.old.spent ≡ false }
     requires stands { StateStands types.old state.old }
     ensures ok { OnOk result (Added types.old types.new state.old state.new (defined_type (defined_view ty))) }
-    ensures free { OnOk result (IsFree (tree_checks state.old.features (context_of types.old state.old) (defined_type (defined_view ty)))) }
-    ensures err { IfErr result (MemoryOrCausedBy (tree_checks state.old.features (context_of types.old state.old) (defined_type (defined_view ty))) offset) }
+    ensures free { OnOk result ((n : Names) (p : Place) → IsFree (tree_checks state.old.features (tree_maker n p) (context_of types.old state.old) (defined_type (defined_view ty)))) }
+    ensures err { IfErr result (λ e. (n : Names) (p : Place) → MemoryOrCausedBy (tree_checks state.old.features (tree_maker n p) (context_of types.old state.old) (defined_type (defined_view ty))) offset e) }
     ensures keeps { OnErr result (Keeps types.old types.new state.old state.new) }
 {
     let alloc = types.allocator();
@@ -100,8 +103,8 @@ fn add_func(
     requires live { state.old.spent ≡ false }
     requires stands { StateStands types.old state.old }
     ensures ok { OnOk result (Added types.old types.new state.old state.new (func_type (func_view func))) }
-    ensures free { OnOk result (IsFree (tree_checks state.old.features (context_of types.old state.old) (func_type (func_view func)))) }
-    ensures err { IfErr result (MemoryOrCausedBy (tree_checks state.old.features (context_of types.old state.old) (func_type (func_view func))) offset) }
+    ensures free { OnOk result ((n : Names) (p : Place) → IsFree (tree_checks state.old.features (tree_maker n p) (context_of types.old state.old) (func_type (func_view func)))) }
+    ensures err { IfErr result (λ e. (n : Names) (p : Place) → MemoryOrCausedBy (tree_checks state.old.features (tree_maker n p) (context_of types.old state.old) (func_type (func_view func))) offset e) }
     ensures keeps { OnErr result (Keeps types.old types.new state.old state.new) }
 {
     let alloc = types.allocator();
@@ -122,8 +125,8 @@ pub fn add_built(
     requires stands { StateStands types.old state.old }
     requires built { built.is_built_type (type_view ty) ≡ true }
     ensures ok { OnOk result (Declares types.old types.new state.old state.new (type_view ty)) }
-    ensures free { OnOk result (IsFree (tree_checks state.old.features (context_of types.old state.old) (type_view ty))) }
-    ensures err { IfErr result (MemoryOrCausedBy (tree_checks state.old.features (context_of types.old state.old) (type_view ty)) offset) }
+    ensures free { OnOk result ((n : Names) (p : Place) → IsFree (tree_checks state.old.features (tree_maker n p) (context_of types.old state.old) (type_view ty))) }
+    ensures err { IfErr result (λ e. (n : Names) (p : Place) → MemoryOrCausedBy (tree_checks state.old.features (tree_maker n p) (context_of types.old state.old) (type_view ty)) offset e) }
     ensures keeps { OnErr result (Keeps types.old types.new state.old state.new) }
 {
     match ty {

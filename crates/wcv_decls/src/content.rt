@@ -2,7 +2,8 @@
 ghost use Rattle.std.specs.Prelude.{◌≡◌, OnOk, IfErr};
 ghost use Rattle.wcv_core.specs.Refusal.{error_kind, error_offset};
 ghost use Rattle.wcv_lower.specs.Checks.{IsFree};
-ghost use Rattle.wcv_lower.specs.Defined.{primitive_of, bad_key, bad_map_value, bad_element, has_borrow};
+ghost use Rattle.wcv_lower.specs.Defined.{bad_key, bad_map_value, bad_element, has_borrow};
+ghost use Rattle.wcv_lower.specs.Trees.{tree_reader, primitive_of};
 ghost use Rattle.wcv_state.specs.Promises.{MemoryOrCausedBy};
 ghost use Rattle.wcv_types.specs.Entities.{SlotStands};
 ghost use Rattle.wcv_types.specs.Unfold.{value_slot, option_slot, slot_tree, trees};
@@ -48,8 +49,8 @@ pub fn check_key(
     offset: u64,
 ) -> Result<(), Refusal<'static>>
     requires { SlotStands types.now (value_slot ty.now) }
-    ensures ok { OnOk result (IsFree (bad_key (slot_tree (trees types.now.nodes) (value_slot ty.now)))) }
-    ensures err { IfErr result (MemoryOrCausedBy (bad_key (slot_tree (trees types.now.nodes) (value_slot ty.now))) offset) }
+    ensures ok { OnOk result (IsFree (bad_key tree_reader (slot_tree (trees types.now.nodes) (value_slot ty.now)))) }
+    ensures err { IfErr result (MemoryOrCausedBy (bad_key tree_reader (slot_tree (trees types.now.nodes) (value_slot ty.now))) offset) }
 {
     match primitive_in(ty, types) {
         None
@@ -70,8 +71,8 @@ pub fn check_map_value(
     offset: u64,
 ) -> Result<(), Refusal<'static>>
     requires { SlotStands types.now (value_slot ty.now) }
-    ensures ok { OnOk result (IsFree (bad_map_value (slot_tree (trees types.now.nodes) (value_slot ty.now)))) }
-    ensures err { IfErr result (MemoryOrCausedBy (bad_map_value (slot_tree (trees types.now.nodes) (value_slot ty.now))) offset) }
+    ensures ok { OnOk result (IsFree (bad_map_value tree_reader (slot_tree (trees types.now.nodes) (value_slot ty.now)))) }
+    ensures err { IfErr result (MemoryOrCausedBy (bad_map_value tree_reader (slot_tree (trees types.now.nodes) (value_slot ty.now))) offset) }
 {
     if types.abi_info(ty).contains_handle {
         return Err(bad_shape(
@@ -90,8 +91,8 @@ pub fn check_borrow(
     offset: u64,
 ) -> Result<(), Refusal<'static>>
     requires { SlotStands types.now (option_slot ty.now) }
-    ensures ok { OnOk result (IsFree (has_borrow (slot_tree (trees types.now.nodes) (option_slot ty.now)))) }
-    ensures err { IfErr result (MemoryOrCausedBy (has_borrow (slot_tree (trees types.now.nodes) (option_slot ty.now))) offset) }
+    ensures ok { OnOk result (IsFree (has_borrow tree_reader (slot_tree (trees types.now.nodes) (option_slot ty.now)))) }
+    ensures err { IfErr result (MemoryOrCausedBy (has_borrow tree_reader (slot_tree (trees types.now.nodes) (option_slot ty.now))) offset) }
 {
     match ty {
         Some(ty) if types.abi_info(ty).contains_borrow => {
@@ -109,8 +110,8 @@ pub fn check_element(
     offset: u64,
 ) -> Result<(), Refusal<'static>>
     requires { SlotStands types.now (option_slot ty.now) }
-    ensures ok { OnOk result (IsFree (bad_element (slot_tree (trees types.now.nodes) (option_slot ty.now)))) }
-    ensures err { IfErr result (MemoryOrCausedBy (bad_element (slot_tree (trees types.now.nodes) (option_slot ty.now))) offset) }
+    ensures ok { OnOk result (IsFree (bad_element tree_reader (slot_tree (trees types.now.nodes) (option_slot ty.now)))) }
+    ensures err { IfErr result (MemoryOrCausedBy (bad_element tree_reader (slot_tree (trees types.now.nodes) (option_slot ty.now))) offset) }
 {
     let Some(ty) = ty else {
         return Ok(());

@@ -11,7 +11,7 @@ ghost use Rattle.wcv_syntax.specs.View.{code_decl_view};
 ghost use Rattle.wcv_types.specs.CoreCalls.{with_core};
 ghost use Rattle.wcv_types.specs.Standing.{Extends, entity_sizes};
 ghost use Rattle.wcv_lower.specs.Checks.{IsFree};
-ghost use Rattle.wcv_lower.specs.Context.{Context};
+ghost use Rattle.wcv_lower.specs.Trees.{Tree_context};
 ghost use Rattle.wcv_state.specs.Contents.{StateStands, spent};
 ghost use Rattle.wcv_state.specs.Promises.{MemoryOrCausedBy, Keeps, Grew, Refuses};
 ghost use Rattle.wcv_decls.specs.CoreItems.{StoredModule, JoinedModule, core_space, with_module};
@@ -117,8 +117,8 @@ pub fn add_core_module_to(
 ) -> Result<(), Error>
     requires live { state.old.spent ≡ false }
     requires stands { StateStands types.old state.old }
-    ensures ok { OnOk result ((outer : List Context) (p : Place) → Grew types.old types.new outer p state.old state.new (core_module_item (map code_decl_view decls.items))) }
-    ensures err { IfErr result (λ e. (outer : List Context) → Refuses types.old outer state.old state.new (core_module_item (map code_decl_view decls.items)) offset e) }
+    ensures ok { OnOk result ((outer : List Tree_context) (p : Place) → Grew types.old types.new outer p state.old state.new (core_module_item (map code_decl_view decls.items))) }
+    ensures err { IfErr result (λ e. (outer : List Tree_context) (p : Place) → Refuses types.old types.new outer p state.old state.new (core_module_item (map code_decl_view decls.items)) offset e) }
     ensures keeps { Keeps types.old types.new state.old state.new }
 {
     match declare_module(decls, state, types, offset) {

@@ -8,9 +8,10 @@ ghost use Rattle.wcv_syntax.specs.Model.{core_type_item, core_rec, core_module_t
 ghost use Rattle.wcv_syntax.specs.View.{rec_view, module_decl_view, core_type_view};
 ghost use Rattle.wcv_types.specs.CoreCalls.{with_core};
 ghost use Rattle.wcv_types.specs.Standing.{Extends, entity_sizes};
-ghost use Rattle.wcv_lower.specs.Context.{Context};
 ghost use Rattle.wcv_lower.specs.Growth.{call_checks};
-ghost use Rattle.wcv_state.specs.Contents.{Contents, context_of, scope_of, StateStands};
+ghost use Rattle.wcv_lower.specs.Names.{Names};
+ghost use Rattle.wcv_lower.specs.Trees.{Tree_context, tree_maker};
+ghost use Rattle.wcv_state.specs.Contents.{Contents, stack_of, StateStands};
 ghost use Rattle.wcv_state.specs.Promises.{MemoryOrCausedBy, Keeps, Grew};
 ghost use Rattle.wcv_decls.specs.CoreItems.{MadeIn, FreeIn, CausedIn};
 ghost use Rattle.wcv_decls.specs.Stack.{IsOpen, GrewOn, RefusedOn, KeepsOn};
@@ -33,8 +34,8 @@ fn add_group(
 ) -> Result<(), Error>
     requires live { state.old.spent ≡ false }
     requires stands { StateStands types.old state.old }
-    ensures ok { OnOk result ((outer : List Context) (p : Place) → Grew types.old types.new outer p state.old state.new (core_type_item (core_rec (rec_view rec)))) }
-    ensures err { IfErr result (λ e. (outer : List Context) → MemoryOrCausedBy (call_checks (scope_of state.old outer) (context_of types.old state.old) (core_type_item (core_rec (rec_view rec)))) offset e) }
+    ensures ok { OnOk result ((outer : List Tree_context) (p : Place) → Grew types.old types.new outer p state.old state.new (core_type_item (core_rec (rec_view rec)))) }
+    ensures err { IfErr result (λ e. (outer : List Tree_context) (n : Names) (p : Place) → MemoryOrCausedBy (call_checks state.old.features (tree_maker n p) (stack_of types.old state.old outer) (core_type_item (core_rec (rec_view rec)))) offset e) }
     ensures keeps { Keeps types.old types.new state.old state.new }
 {
     check_core_types(rec.types.len(), state, types, offset)?;
@@ -90,7 +91,7 @@ fn add_group_on(
     requires some { 0 < length components.old }
     requires open { All (IsOpen types.old) components.old }
     ensures ok { OnOk result ((p : Place) → GrewOn types.old types.new p components.old components.new (core_type_item (core_rec (rec_view rec)))) }
-    ensures err { IfErr result (RefusedOn types.old components.old components.new (core_type_item (core_rec (rec_view rec))) offset) }
+    ensures err { IfErr result (λ e. (p : Place) → RefusedOn types.old types.new p components.old components.new (core_type_item (core_rec (rec_view rec))) offset e) }
     ensures keeps { KeepsOn types.old types.new components.old components.new }
 {
     let last = components.len() - 1;
@@ -113,7 +114,7 @@ fn add_module_type_on(
     requires some { 0 < length components.old }
     requires open { All (IsOpen types.old) components.old }
     ensures ok { OnOk result ((p : Place) → GrewOn types.old types.new p components.old components.new (core_type_item (core_module_type (map module_decl_view decls.items)))) }
-    ensures err { IfErr result (RefusedOn types.old components.old components.new (core_type_item (core_module_type (map module_decl_view decls.items))) offset) }
+    ensures err { IfErr result (λ e. (p : Place) → RefusedOn types.old types.new p components.old components.new (core_type_item (core_module_type (map module_decl_view decls.items))) offset e) }
     ensures keeps { KeepsOn types.old types.new components.old components.new }
 {
     let last = components.len() - 1;
@@ -142,7 +143,7 @@ pub fn add_core_type_on(
     requires some { 0 < length components.old }
     requires open { All (IsOpen types.old) components.old }
     ensures ok { OnOk result ((p : Place) → GrewOn types.old types.new p components.old components.new (core_type_item (core_type_view ty))) }
-    ensures err { IfErr result (RefusedOn types.old components.old components.new (core_type_item (core_type_view ty)) offset) }
+    ensures err { IfErr result (λ e. (p : Place) → RefusedOn types.old types.new p components.old components.new (core_type_item (core_type_view ty)) offset e) }
     ensures keeps { KeepsOn types.old types.new components.old components.new }
 {
     match ty {

@@ -1,12 +1,13 @@
 // Types that items declare, over the states that are open.
-ghost use Rattle.std.specs.Prelude.{◌≡◌, false, List, OnOk, OnErr, IfErr};
+ghost use Rattle.std.specs.Prelude.{◌≡◌, true, false, List, OnOk, OnErr, IfErr};
 ghost use Rattle.wcv_core.specs.Names.{Place};
 ghost use Rattle.wcv_syntax.specs.View.{type_view};
 ghost use Rattle.wcv_lower.specs.Checks.{IsFree};
-ghost use Rattle.wcv_lower.specs.Context.{Context};
-ghost use Rattle.wcv_state.specs.Contents.{context_of, scope_of, StateStands};
-ghost use Rattle.wcv_state.specs.Promises.{MemoryOrCausedBy, RefusesBy, Keeps};
-ghost use Rattle.wcv_decls.specs.Items.{declare_checks, Declares, Declared};
+ghost use Rattle.wcv_lower.specs.Names.{Names};
+ghost use Rattle.wcv_lower.specs.Trees.{Tree_context, tree_maker};
+ghost use Rattle.wcv_state.specs.Contents.{context_of, StateStands};
+ghost use Rattle.wcv_state.specs.Promises.{MemoryOrCausedBy, Keeps};
+ghost use Rattle.wcv_decls.specs.Items.{declare_checks, Declares, Declared, TypeCaused};
 
 use crate::add::add_built;
 use crate::room::check_types;
@@ -27,8 +28,8 @@ fn declare(
     requires live { state.old.spent ≡ false }
     requires stands { StateStands types.old state.old }
     ensures ok { OnOk result (Declares types.old types.new state.old state.new (type_view ty)) }
-    ensures free { OnOk result ((outer : List Context) → IsFree (declare_checks check_limit (scope_of state.old outer) (context_of types.old state.old) (type_view ty))) }
-    ensures err { IfErr result (λ e. (outer : List Context) → MemoryOrCausedBy (declare_checks check_limit (scope_of state.old outer) (context_of types.old state.old) (type_view ty)) offset e) }
+    ensures free { OnOk result ((n : Names) (p : Place) → IsFree (declare_checks check_limit state.old.features (tree_maker n p) (context_of types.old state.old) (type_view ty))) }
+    ensures err { IfErr result (λ e. (n : Names) (p : Place) → MemoryOrCausedBy (declare_checks check_limit state.old.features (tree_maker n p) (context_of types.old state.old) (type_view ty)) offset e) }
     ensures keeps { OnErr result (Keeps types.old types.new state.old state.new) }
 {
     check_form(is_built_type(&ty), TypeForm(&ty), offset)?;
@@ -46,8 +47,8 @@ pub fn add_type_to(
 ) -> Result<(), Error>
     requires live { state.old.spent ≡ false }
     requires stands { StateStands types.old state.old }
-    ensures ok { OnOk result ((outer : List Context) (p : Place) → Declared check_limit types.old types.new outer p state.old state.new (type_view ty)) }
-    ensures err { IfErr result (λ e. (outer : List Context) → RefusesBy (declare_checks check_limit (scope_of state.old outer) (context_of types.old state.old) (type_view ty)) state.new offset e) }
+    ensures ok { OnOk result ((outer : List Tree_context) (p : Place) → Declared check_limit types.old types.new outer p state.old state.new (type_view ty)) }
+    ensures err { IfErr result (λ e. (p : Place) → (state.new.spent ≡ true) × TypeCaused check_limit types.old types.new p state.old (type_view ty) offset e) }
     ensures keeps { Keeps types.old types.new state.old state.new }
 {
     match declare(ty, state, types, offset, check_limit) {

@@ -1,10 +1,13 @@
 // Resources that are defined.
 ghost use Rattle.std.specs.Prelude.{◌≡◌, [], ◌∷◌, false, not, Option, OnOk, OnErr, IfErr};
 ghost use Rattle.std.specs.Prelude.{ℕ};
+ghost use Rattle.wcv_core.specs.Names.{Place};
 ghost use Rattle.wcv_core.specs.declared.error.ErrorKind.TheVariants as kinds;
 ghost use Rattle.wcv_syntax.specs.Model.{resource_type};
 ghost use Rattle.wcv_lower.specs.Checks.{IsFree};
 ghost use Rattle.wcv_lower.specs.Context.{is_concrete};
+ghost use Rattle.wcv_lower.specs.Names.{Names};
+ghost use Rattle.wcv_lower.specs.Trees.{tree_maker};
 ghost use Rattle.wcv_lower.specs.Types.{rep_checks, tree_checks};
 ghost use Rattle.wcv_state.specs.Contents.{kind_of, context_of, StateStands};
 ghost use Rattle.wcv_state.specs.Promises.{MemoryOrCausedBy, Keeps};
@@ -57,8 +60,8 @@ pub fn add_resource(
     requires live { state.old.spent ≡ false }
     requires stands { StateStands types.old state.old }
     ensures ok { OnOk result ((dtor : Option ℕ) → Declares types.old types.new state.old state.new (resource_type rep dtor)) }
-    ensures free { OnOk result ((dtor : Option ℕ) → IsFree (tree_checks state.old.features (context_of types.old state.old) (resource_type rep dtor))) }
-    ensures err { IfErr result (λ e. (dtor : Option ℕ) → MemoryOrCausedBy (tree_checks state.old.features (context_of types.old state.old) (resource_type rep dtor)) offset e) }
+    ensures free { OnOk result ((dtor : Option ℕ) (n : Names) (p : Place) → IsFree (tree_checks state.old.features (tree_maker n p) (context_of types.old state.old) (resource_type rep dtor))) }
+    ensures err { IfErr result (λ e. (dtor : Option ℕ) (n : Names) (p : Place) → MemoryOrCausedBy (tree_checks state.old.features (tree_maker n p) (context_of types.old state.old) (resource_type rep dtor)) offset e) }
     ensures keeps { OnErr result (Keeps types.old types.new state.old state.new) }
 {
     check_scope(state.kind(), offset)?;

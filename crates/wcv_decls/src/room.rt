@@ -1,6 +1,7 @@
 // Room for types and core types.
 ghost use Rattle.std.specs.Prelude.{OnOk, IfErr};
-ghost use Rattle.wcv_lower.specs.Checks.{IsFree, counts, no_type_room, no_core_type_room};
+ghost use Rattle.wcv_lower.specs.Checks.{IsFree, no_type_room, no_core_type_room};
+ghost use Rattle.wcv_lower.specs.Context.{counts};
 ghost use Rattle.wcv_state.specs.Contents.{context_of};
 ghost use Rattle.wcv_state.specs.Promises.{MemoryOrCausedBy};
 

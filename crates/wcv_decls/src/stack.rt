@@ -42,7 +42,7 @@ pub trait Declare: Sized {
         requires some { 0 < length components.old.items }
         requires open { All (IsOpen types.old) (map contents components.old.items) }
         ensures ok { OnOk result ((p : Place) → DeclaresOn check_limit types.old types.new p (map contents components.old.items) (map contents components.new.items) (type_view ty)) }
-        ensures err { IfErr result (λ e. RefusesOn check_limit types.old (map contents components.old.items) (map contents components.new.items) (type_view ty) offset e) }
+        ensures err { IfErr result (λ e. (p : Place) → RefusesOn check_limit types.old types.new p (map contents components.old.items) (map contents components.new.items) (type_view ty) offset e) }
         ensures keeps { KeepsOn types.old types.new (map contents components.old.items) (map contents components.new.items) };
 
     /// A core type item joins the core types of the innermost state. After an error the states are spent.
@@ -55,7 +55,7 @@ pub trait Declare: Sized {
         requires some { 0 < length components.old }
         requires open { All (IsOpen types.old) (map contents components.old) }
         ensures ok { OnOk result ((p : Place) → GrewOn types.old types.new p (map contents components.old) (map contents components.new) (core_type_item (core_type_view ty))) }
-        ensures err { IfErr result (RefusedOn types.old (map contents components.old) (map contents components.new) (core_type_item (core_type_view ty)) offset) }
+        ensures err { IfErr result (λ e. (p : Place) → RefusedOn types.old types.new p (map contents components.old) (map contents components.new) (core_type_item (core_type_view ty)) offset e) }
         ensures keeps { KeepsOn types.old types.new (map contents components.old) (map contents components.new) };
 
     /// One more core module, of the type of that module, in which no pair of names is imported twice. After an

@@ -5,6 +5,7 @@ ghost use Rattle.wcv_types.specs.Unfold.{tree_of, trees};
 ghost use Rattle.wcv_types.specs.declared.arena.Node.TheVariants as node;
 ghost use Rattle.wcv_lower.specs.Checks.{IsFree};
 ghost use Rattle.wcv_lower.specs.Defined.{size_checks};
+ghost use Rattle.wcv_lower.specs.Trees.{tree_reader};
 ghost use Rattle.wcv_state.specs.Contents.{StateStands};
 ghost use Rattle.wcv_state.specs.Promises.{MemoryOrCausedBy, Keeps};
 ghost use Rattle.wcv_decls.specs.Items.{Stored};
@@ -29,8 +30,8 @@ pub fn store_defined(
     requires stands { StateStands types.old state.old }
     requires fits { Fits types.old (node.Defined shape) }
     ensures ok { OnOk result (Stored types.old types.new state.old state.new (node.Defined shape)) }
-    ensures free { OnOk result (IsFree (size_checks (tree_of (trees types.old.nodes) (node.Defined shape)))) }
-    ensures err { IfErr result (MemoryOrCausedBy (size_checks (tree_of (trees types.old.nodes) (node.Defined shape))) offset) }
+    ensures free { OnOk result (IsFree (size_checks tree_reader (tree_of (trees types.old.nodes) (node.Defined shape)))) }
+    ensures err { IfErr result (MemoryOrCausedBy (size_checks tree_reader (tree_of (trees types.old.nodes) (node.Defined shape))) offset) }
     ensures keeps { OnErr result (Keeps types.old types.new state.old state.new) }
 {
     let id: ComponentDefinedTypeId = types.push_ty(shape)?;
@@ -52,8 +53,8 @@ pub fn store_func(
     requires stands { StateStands types.old state.old }
     requires fits { Fits types.old (node.Func shape) }
     ensures ok { OnOk result (Stored types.old types.new state.old state.new (node.Func shape)) }
-    ensures free { OnOk result (IsFree (size_checks (tree_of (trees types.old.nodes) (node.Func shape)))) }
-    ensures err { IfErr result (MemoryOrCausedBy (size_checks (tree_of (trees types.old.nodes) (node.Func shape))) offset) }
+    ensures free { OnOk result (IsFree (size_checks tree_reader (tree_of (trees types.old.nodes) (node.Func shape)))) }
+    ensures err { IfErr result (MemoryOrCausedBy (size_checks tree_reader (tree_of (trees types.old.nodes) (node.Func shape))) offset) }
     ensures keeps { OnErr result (Keeps types.old types.new state.old state.new) }
 {
     let id: ComponentFuncTypeId = types.push_ty(shape)?;

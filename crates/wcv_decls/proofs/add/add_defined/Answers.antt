@@ -1,14 +1,13 @@
-use Rattle.std.proofs.Common.{[], refl, subst}
+use Rattle.std.proofs.Common.{refl, subst}
 use Rattle.std.proofs.lemmas.Result.{err_from_is_err_and}
-use Rattle.wcv_core.specs.Names.{base}
 use Rattle.wcv_core.specs.declared.features.WasmFeatures.{WasmFeatures}
 use Rattle.wcv_syntax.specs.Model.{Defined_form}
 use Rattle.wcv_syntax.specs.View.{defined_view}
 use Rattle.wcv_types.specs.Arena.{Arena}
 use Rattle.wcv_types.specs.declared.arena.Node.TheVariants as node
 use Rattle.wcv_lower.specs.Checks.{Checks, IsFree, if_found}
-use Rattle.wcv_lower.specs.Context.{Context}
-use Rattle.wcv_lower.specs.Defined.{own_checks, made_checks, handle_index, written_parts, content_checks, size_checks, defined_tree}
+use Rattle.wcv_lower.specs.Defined.{own_checks, made_checks, handle_index, written_parts, content_checks, size_checks, node_checks, defined_made}
+use Rattle.wcv_lower.specs.Trees.{Tree_context, tree_reader, tree_maker}
 use Rattle.wcv_state.specs.Contents.{context_of}
 use Rattle.wcv_state.specs.Promises.{MemoryOrCausedBy}
 use Rattle.wcv_core.proofs.Closing.{caused_same}
@@ -20,15 +19,15 @@ use Rattle.wcv_decls.proofs.add.add_defined.Goals as goal
 pub returns-in_err-check_defined-clause-err : goal.returns-in_err-check_defined-clause-err
 returns-in_err-check_defined-clause-err c =
     let p = err_from_is_err_and c.from_residual.result c.from_residual.ensures.1 in
-    rw (p.1, p.2) (own_caused c.args.state.now.features (context_of c.args.types.now c.args.state.now) (defined_view c.args.ty) c.args.offset c.in_err-check_defined.field-0.0 (subst (λ (fs : WasmFeatures). MemoryOrCausedBy (own_checks fs (defined_view c.args.ty)) c.args.offset c.in_err-check_defined.field-0.0) c.features.ensures c.in_err-check_defined.ensures.err))
+    rw (p.1, p.2) (λ n q. own_caused c.args.state.now.features (tree_maker n q) (context_of c.args.types.now c.args.state.now) (defined_view c.args.ty) c.args.offset c.in_err-check_defined.field-0.0 (subst (λ (fs : WasmFeatures). MemoryOrCausedBy (own_checks fs (defined_view c.args.ty)) c.args.offset c.in_err-check_defined.field-0.0) c.features.ensures c.in_err-check_defined.ensures.err))
 
 pub returns-in_err-shape-clause-err : goal.returns-in_err-shape-clause-err
 returns-in_err-shape-clause-err c =
     let p = err_from_is_err_and c.from_residual-in_err-shape.result c.from_residual-in_err-shape.ensures.1 in
-    let x : Context = context_of c.args.types.now c.args.state.now in
+    let x : Tree_context = context_of c.args.types.now c.args.state.now in
     let d : Defined_form = defined_view c.args.ty in
     let fs : WasmFeatures = c.args.state.now.features in
-    rw p.1 (resolve_caused fs x d c.args.offset p.0 (caused_same (resolve_checks fs x d) c.args.offset c.in_err-shape.field-0.0 p.0 p.2.0 p.2.1 c.in_err-shape.ensures.err))
+    rw p.1 (λ n q. resolve_caused fs (tree_maker n q) x d c.args.offset p.0 (caused_same (resolve_checks fs x d) c.args.offset c.in_err-shape.field-0.0 p.0 p.2.0 p.2.1 c.in_err-shape.ensures.err))
 
 pub store_defined-requires-clause-fits : goal.store_defined-requires-clause-fits
 store_defined-requires-clause-fits c = shape_fits c.args.types.now (context_of c.args.types.now c.args.state.now) (defined_view c.args.ty) c.in_ok-shape.shape c.in_ok-shape.ensures.ok
@@ -37,11 +36,11 @@ pub returns-in_err-store_defined-clause-err : goal.returns-in_err-store_defined-
 returns-in_err-store_defined-clause-err c =
     let p = err_from_is_err_and c.from_residual-in_err-store_defined.result c.from_residual-in_err-store_defined.ensures.1 in
     let a : Arena = c.args.types.now in
-    let x : Context = context_of a c.args.state.now in
+    let x : Tree_context = context_of a c.args.state.now in
     let d : Defined_form = defined_view c.args.ty in
-    rw p.1 (size_caused c.args.state.now.features x d c.args.offset p.0
-    (subst (λ (cs : Checks). MemoryOrCausedBy cs c.args.offset p.0) (sizes_same a x d c.in_ok-shape.shape c.in_ok-shape.ensures.ok)
-    (caused_same (size_checks (tree_of (trees a.nodes) (node.Defined c.in_ok-shape.shape))) c.args.offset c.in_err-store_defined.field-0.0 p.0 p.2.0 p.2.1 c.in_err-store_defined.ensures.err)))
+    rw p.1 (λ n q. size_caused c.args.state.now.features (tree_maker n q) x d c.args.offset p.0
+    (subst (λ (cs : Checks). MemoryOrCausedBy cs c.args.offset p.0) (sizes_same a x d c.in_ok-shape.shape c.in_ok-shape.ensures.ok n q)
+    (caused_same (size_checks tree_reader (tree_of (trees a.nodes) (node.Defined c.in_ok-shape.shape))) c.args.offset c.in_err-store_defined.field-0.0 p.0 p.2.0 p.2.1 c.in_err-store_defined.ensures.err)))
 
 pub returns-clause-ok : goal.returns-clause-ok
 returns-clause-ok c =
@@ -50,7 +49,7 @@ returns-clause-ok c =
 pub returns-clause-free : goal.returns-clause-free
 returns-clause-free c =
     let a : Arena = c.args.types.now in
-    let x : Context = context_of a c.args.state.now in
+    let x : Tree_context = context_of a c.args.state.now in
     let d : Defined_form = defined_view c.args.ty in
     let fs : WasmFeatures = c.args.state.now.features in
-    all_free (own_checks fs d) (made_checks fs x (handle_index d) (written_parts d)) (content_checks x d) (if_found size_checks (defined_tree (base []) x d)) (subst (λ (gs : WasmFeatures). IsFree (own_checks gs (defined_view c.args.ty))) c.features.ensures c.in_ok-check_defined.ensures.ok) c.in_ok-shape.ensures.free (subst IsFree (sizes_same a x d c.in_ok-shape.shape c.in_ok-shape.ensures.ok) c.in_ok-store_defined.ensures.free)
+    λ n q. all_free (own_checks fs d) (made_checks fs x (handle_index d) (written_parts d)) (content_checks x d) (if_found (node_checks (tree_maker n q)) (defined_made x d)) (subst (λ (gs : WasmFeatures). IsFree (own_checks gs (defined_view c.args.ty))) c.features.ensures c.in_ok-check_defined.ensures.ok) c.in_ok-shape.ensures.free (subst IsFree (sizes_same a x d c.in_ok-shape.shape c.in_ok-shape.ensures.ok n q) c.in_ok-store_defined.ensures.free)

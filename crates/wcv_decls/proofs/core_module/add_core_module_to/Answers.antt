@@ -1,9 +1,9 @@
-use Rattle.std.proofs.Common.{map, refl, subst, sym, true}
+use Rattle.std.proofs.Common.{ap, map, refl, subst, sym, true, inl}
 use Rattle.wcv_syntax.specs.View.{code_decl_view}
 use Rattle.wcv_state.specs.Contents.{Contents}
 use Rattle.wcv_state.specs.Promises.{Keeps}
 use Rattle.wcv_state.proofs.Keeping.{state_stands, keeps_grown_marked}
-use Rattle.wcv_decls.proofs.CoreModules.{core_module_grew}
+use Rattle.wcv_decls.proofs.CoreModules.{core_module_grew, core_module_refused}
 use Rattle.wcv_decls.proofs.core_module.add_core_module_to.Goals as goal
 
 pub join_module-requires-clause-stands : goal.join_module-requires-clause-stands
@@ -13,6 +13,14 @@ pub returns-in-Ok-join_module-clause-ok : goal.returns-in-Ok-join_module-clause-
 returns-in-Ok-join_module-clause-ok c =
     core_module_grew c.args.types.now c.declare_module.new.types c.join_module.new.types c.args.state.now c.join_module.new.state c.in-Ok.made c.requires.stands c.in-Ok.ensures.rest c.in-Ok.ensures.grown c.in-Ok-join_module.ensures.ok
     (map code_decl_view c.args.decls.items) c.in-Ok.ensures.ok c.in-Ok.ensures.free
+
+pub returns-in-Err-join_module-clause-err : goal.returns-in-Err-join_module-clause-err
+returns-in-Err-join_module-clause-err c =
+    core_module_refused c.args.types.now c.join_module.new.types c.args.state.now c.join_module.new.state (map code_decl_view c.args.decls.items) c.args.offset c.in-Err-join_module.err c.in-Err-join_module.ensures.spent (inl c.in-Err-join_module.ensures.err)
+
+pub returns-in-Err-clause-err : goal.returns-in-Err-clause-err
+returns-in-Err-clause-err c =
+    core_module_refused c.args.types.now c.declare_module.new.types c.args.state.now c.mark_spent.new.self (map code_decl_view c.args.decls.items) c.args.offset c.in-Err.err (ap (λ (z : Contents). z.spent) c.mark_spent.ensures) c.in-Err.ensures.err
 
 pub returns-in-Err-clause-keeps : goal.returns-in-Err-clause-keeps
 returns-in-Err-clause-keeps c =

@@ -4,7 +4,8 @@ use Rattle.wcv_core.specs.CoreForm.{group_form}
 use Rattle.wcv_core.specs.CoreJoining.{group_checks}
 use Rattle.wcv_types.specs.Arena.{Arena}
 use Rattle.wcv_types.proofs.Grown.{extends_refl}
-use Rattle.wcv_lower.specs.Checks.{IsFree, counts, no_core_type_room}
+use Rattle.wcv_lower.specs.Checks.{IsFree, no_core_type_room}
+use Rattle.wcv_lower.specs.Context.{counts}
 use Rattle.wcv_state.specs.Contents.{Contents, context_of, core_entries_of}
 use Rattle.wcv_state.specs.Promises.{MemoryOrCausedBy}
 use Rattle.wcv_state.proofs.CoreTypes.{entries_known}
@@ -21,8 +22,8 @@ returns-in_err-check_core_types-clause-err c =
     let l : c.len.result ≡ length c.args.rec.types.items = c.len.ensures ∙ c.args.rec.types.ok.0 in
     let e = c.in_err-check_core_types.field-0.0 in
     rw p.1
-    (λ outer. room_caused a a s s c.args.rec c.requires.stands (extends_refl a) outer c.args.offset p.0
-    (subst (λ (n : ℕ). MemoryOrCausedBy (no_core_type_room n (counts (context_of a s))) c.args.offset p.0) l
+    (λ outer n q. room_caused a a s s c.args.rec c.requires.stands (extends_refl a) outer n q c.args.offset p.0
+    (subst (λ (m : ℕ). MemoryOrCausedBy (no_core_type_room m (counts (context_of a s))) c.args.offset p.0) l
     (caused_same (no_core_type_room c.len.result (counts (context_of a s))) c.args.offset e p.0 p.2.0 p.2.1 c.in_err-check_core_types.ensures.err)))
 
 pub returns-in_err-check_core_types-clause-keeps : goal.returns-in_err-check_core_types-clause-keeps
@@ -44,9 +45,9 @@ returns-in-Ok-clause-keeps c =
     group_keeps c.args.types.now c.intern_rec_group.new.self c.args.state.now c.intern_rec_group.new.group c.args.rec c.requires.stands c.in-Ok.ensures.grown c.in-Ok.ensures.group c.in-Ok.ensures.known
 
 pub returns-in-Err-clause-err : goal.returns-in-Err-clause-err
-returns-in-Err-clause-err c = λ outer.
+returns-in-Err-clause-err c = λ outer n p.
     let s : Contents = c.args.state.now in
-    group_caused c.args.types.now c.intern_rec_group.new.self s c.intern_rec_group.new.group c.args.rec c.requires.stands c.in-Err.ensures.grown outer c.args.offset c.from.result
+    group_caused c.args.types.now c.intern_rec_group.new.self s c.intern_rec_group.new.group c.args.rec c.requires.stands c.in-Err.ensures.grown outer n p c.args.offset c.from.result
     (caused_same (group_checks s.features c.args.types.now.core (core_entries_of s) (group_form c.args.rec)) c.args.offset c.in-Err.err c.from.result c.from.ensures.0 c.from.ensures.1 c.in-Err.ensures.cause)
 
 pub returns-in-Err-clause-keeps : goal.returns-in-Err-clause-keeps

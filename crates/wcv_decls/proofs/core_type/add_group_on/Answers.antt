@@ -1,6 +1,7 @@
 use Rattle.std.proofs.Common.{◌≡◌, ℕ, ◌-◌, List, length, refl, sym, subst, slice_index_or, slice_set}
 use Rattle.wcv_syntax.specs.Model.{Form, core_type_item, core_rec}
 use Rattle.wcv_syntax.specs.View.{rec_view}
+use Rattle.wcv_lower.specs.Given.{names_of, none_given}
 use Rattle.wcv_state.specs.Contents.{Contents}
 use Rattle.wcv_decls.specs.Stack.{RefusedOn, KeepsOn, contexts_around}
 use Rattle.wcv_decls.proofs.Stacks.{grew_on, refused_on, kept_on, kept_marked}
@@ -12,7 +13,7 @@ returns-in-Ok-clause-ok c =
     let r = c.index-components-last.result in
     let k : ℕ = length ss - 1 in
     let same : slice_index_or ss k r ≡ slice_index_or ss k (slice_index_or ss k r) = cc (c.index-components-last.is) in
-    λ p. grew_on ss k (slice_index_or ss k r) c.add_group.new.state refl c.requires.some same c.args.types.now c.add_group.new.types p (core_type_item (core_rec (rec_view c.args.rec))) (λ outer e. c.in-Ok.ensures.ok (contexts_around c.args.types.now outer) p)
+    λ p. grew_on ss k (slice_index_or ss k r) c.add_group.new.state refl c.requires.some same c.args.types.now c.add_group.new.types p (core_type_item (core_rec (rec_view c.args.rec))) c.requires.open c.add_group.ensures.keeps.arena (λ outer e. c.in-Ok.ensures.ok (contexts_around c.args.types.now outer) p)
 
 pub returns-in-Ok-clause-keeps : goal.returns-in-Ok-clause-keeps
 returns-in-Ok-clause-keeps c =
@@ -25,13 +26,14 @@ returns-in-Ok-clause-keeps c =
 pub returns-in-Err-clause-err : goal.returns-in-Err-clause-err
 returns-in-Err-clause-err c =
     let a = c.args.types.now in
+    let b = c.add_group.new.types in
     let ss = c.args.components.now in
     let r = c.index-components-last.result in
     let k : ℕ = length ss - 1 in
     let f : Form = core_type_item (core_rec (rec_view c.args.rec)) in
     let same : slice_index_or ss k r ≡ slice_index_or ss k (slice_index_or ss k r) = cc (c.index-components-last.is) in
-    subst (λ (ts : List Contents). RefusedOn a ss ts f c.args.offset c.in-Err.error) (sym c.mark_all_spent.ensures)
-    (refused_on ss k (slice_index_or ss k r) c.add_group.new.state refl c.requires.some same a f c.args.offset c.in-Err.error (λ outer e. c.in-Err.ensures.err (contexts_around a outer)))
+    λ p. subst (λ (ts : List Contents). RefusedOn a b p ss ts f c.args.offset c.in-Err.error) (sym c.mark_all_spent.ensures)
+    (refused_on ss k (slice_index_or ss k r) c.add_group.new.state refl c.requires.some same a b p f c.args.offset c.in-Err.error (λ outer e. c.in-Err.ensures.err (contexts_around a outer) (names_of none_given) p))
 
 pub returns-in-Err-clause-keeps : goal.returns-in-Err-clause-keeps
 returns-in-Err-clause-keeps c =

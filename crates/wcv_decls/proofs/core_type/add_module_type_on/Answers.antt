@@ -1,6 +1,7 @@
 use Rattle.std.proofs.Common.{◌≡◌, ℕ, ◌-◌, List, length, map, refl, sym, subst, slice_index_or, slice_set, inl}
 use Rattle.wcv_syntax.specs.Model.{Form, core_type_item, core_module_type}
 use Rattle.wcv_syntax.specs.View.{module_decl_view}
+use Rattle.wcv_types.proofs.Grown.{extends_trans}
 use Rattle.wcv_lower.specs.Context.{core_types}
 use Rattle.wcv_state.specs.Contents.{Contents, StateStands}
 use Rattle.wcv_state.specs.Promises.{Keeps}
@@ -24,7 +25,7 @@ returns-in-Ok-join_module-clause-ok c =
     let r = c.index-components-last.result in
     let k : ℕ = length ss - 1 in
     let same : slice_index_or ss k r ≡ slice_index_or ss k (slice_index_or ss k r) = cc (c.index-components-last.is) in
-    λ p. grew_on ss k (slice_index_or ss k r) c.join_module.new.state refl c.requires.some same c.args.types.now c.join_module.new.types p (core_type_item (core_module_type (map module_decl_view c.args.decls.items)))
+    λ p. grew_on ss k (slice_index_or ss k r) c.join_module.new.state refl c.requires.some same c.args.types.now c.join_module.new.types p (core_type_item (core_module_type (map module_decl_view c.args.decls.items))) c.requires.open (extends_trans c.args.types.now c.declare_type.new.types c.join_module.new.types c.in-Ok.ensures.grown c.join_module.ensures.keeps.arena)
     (λ outer e. module_type_grew c.args.types.now c.declare_type.new.types c.join_module.new.types (slice_index_or ss k r) c.join_module.new.state c.in-Ok.made (last_stands c.args.types.now ss r c.requires.some c.requires.open)
     c.in-Ok.ensures.rest c.in-Ok.ensures.grown c.in-Ok-join_module.ensures.ok (map module_decl_view c.args.decls.items) ss outer e c.in-Ok.ensures.ok c.in-Ok.ensures.free p)
 
@@ -46,8 +47,8 @@ returns-in-Err-join_module-clause-err c =
     let k : ℕ = length ss - 1 in
     let f : Form = core_type_item (core_module_type (map module_decl_view c.args.decls.items)) in
     let same : slice_index_or ss k r ≡ slice_index_or ss k (slice_index_or ss k r) = cc (c.index-components-last.is) in
-    subst (λ (ts : List Contents). RefusedOn a ss ts f c.args.offset c.in-Err-join_module.error) (sym c.mark_all_spent.ensures)
-    (refused_on ss k (slice_index_or ss k r) c.join_module.new.state refl c.requires.some same a f c.args.offset c.in-Err-join_module.error (λ outer e. inl c.in-Err-join_module.ensures.err))
+    λ p. subst (λ (ts : List Contents). RefusedOn a c.join_module.new.types p ss ts f c.args.offset c.in-Err-join_module.error) (sym c.mark_all_spent.ensures)
+    (refused_on ss k (slice_index_or ss k r) c.join_module.new.state refl c.requires.some same a c.join_module.new.types p f c.args.offset c.in-Err-join_module.error (λ outer e. inl c.in-Err-join_module.ensures.err))
 
 pub returns-in-Err-join_module-clause-keeps : goal.returns-in-Err-join_module-clause-keeps
 returns-in-Err-join_module-clause-keeps c =
@@ -68,8 +69,8 @@ returns-in-Err-clause-err c =
     let a = c.args.types.now in
     let ss = c.args.components.now in
     let f : Form = core_type_item (core_module_type (map module_decl_view c.args.decls.items)) in
-    subst (λ (ts : List Contents). RefusedOn a ss ts f c.args.offset c.in-Err.error) (sym c.mark_all_spent-in-Err.ensures)
-    (refused_before a ss f c.args.offset c.in-Err.error c.requires.some c.in-Err.ensures.err)
+    λ p. subst (λ (ts : List Contents). RefusedOn a c.declare_type.new.types p ss ts f c.args.offset c.in-Err.error) (sym c.mark_all_spent-in-Err.ensures)
+    (refused_before a c.declare_type.new.types p ss f c.args.offset c.in-Err.error c.requires.some c.in-Err.ensures.err)
 
 pub returns-in-Err-clause-keeps : goal.returns-in-Err-clause-keeps
 returns-in-Err-clause-keeps c =

@@ -5,7 +5,8 @@ use Rattle.wcv_types.proofs.Grown.{extends_refl}
 use Rattle.wcv_core.proofs.Closing.{caused_same}
 use Rattle.wcv_decls.proofs.CoreEntries.{around_known}
 use Rattle.wcv_decls.proofs.CoreModules.{made_in, free_in, declared_caused, room_caused}
-use Rattle.wcv_lower.specs.Checks.{counts, no_type_room}
+use Rattle.wcv_lower.specs.Checks.{no_type_room}
+use Rattle.wcv_lower.specs.Context.{counts}
 use Rattle.wcv_state.specs.Contents.{context_of}
 use Rattle.wcv_decls.proofs.core_type.declare_type.Goals as goal
 

@@ -18,7 +18,7 @@ returns-clause-ok c =
 
 pub returns-clause-err : goal.returns-clause-err
 returns-clause-err c =
-    both_mapped (λ ss ss'. IfErr c.add_core_type_on.result (RefusedOn c.args.types.now ss ss' (core_type_item (core_type_view c.args.ty)) c.args.offset))
+    both_mapped (λ ss ss'. IfErr c.add_core_type_on.result (λ e. (p : Place) → RefusedOn c.args.types.now c.add_core_type_on.new.types p ss ss' (core_type_item (core_type_view c.args.ty)) c.args.offset e))
     c.args.components.now c.add_core_type_on.new.components c.add_core_type_on.ensures.err
 
 pub returns-clause-keeps : goal.returns-clause-keeps
