@@ -4,12 +4,13 @@ use Rattle.std.specs.Prelude.{Option}
 use Rattle.std.proofs.lemmas.List.Elements.{All-nil}
 use Rattle.wcv_core.specs.Names.{Name, Place, base, deeper, under}
 use Rattle.wcv_core.specs.declared.core_types.ValType.{ValType}
+use Rattle.wcv_core.specs.declared.features.WasmFeatures.{WasmFeatures}
 use Rattle.wcv_core.proofs.Places.{under-refl, one-item}
 use Rattle.wcv_syntax.specs.Model.{Items, no_items, next_item}
-use Rattle.wcv_lower.specs.Context.{Context, Scope}
 use Rattle.wcv_lower.specs.Growth.{step}
 use Rattle.wcv_lower.specs.Names.{names_by_place}
 use Rattle.wcv_lower.specs.Step.{Step, apply}
+use Rattle.wcv_lower.specs.Trees.{Tree_context, Tree_stack, tree_reader, tree_maker}
 use Rattle.wcv_link.proofs.Growing.{IsKnown, Leads, Adds, adds_none, adds_import, adds_definition, Grows, step-grows}
 use Rattle.wcv_link.proofs.Having.{Has, has-last, Once, once-last}
 use Rattle.wcv_link.proofs.Known.{mapped-some}
@@ -34,7 +35,7 @@ module _ (w : Place) where
       omega (arith, j, l)
 
 -- what holds of the context before the item at position k of the list
-pub record Settles (w : Place) (k : ℕ) (c : Context) : Type 0 where
+pub record Settles (w : Place) (k : ℕ) (c : Tree_context) : Type 0 where
   pub known : IsKnown c
   pub imported : (r : Name) → Has c.imported r → PlacedBefore w k r
   pub defined : (r : Name) → Has c.defined r → PlacedBefore w k r
@@ -43,9 +44,9 @@ pub record Settles (w : Place) (k : ℕ) (c : Context) : Type 0 where
   pub defined_once : Once c.defined
   pub leads : Leads c
 
-pub start-settles : (w : Place) → Settles w 0 start
+pub start-settles : (w : Place) → Settles w 0 start.top
 start-settles w = record {
-  known = record { space = λ k. All-nil _; core = λ k. All-nil _; types = All-nil _; side = λ s. All-nil _ };
+  known = record { space = λ k. All-nil _; core = λ k. All-nil _; side = λ s. All-nil _ };
   imported = λ r h. absurd h;
   defined = λ r h. absurd h;
   apart = λ r h g. absurd h;
@@ -54,7 +55,7 @@ start-settles w = record {
   leads = All-nil _;
 }
 
-module _ (w : Place) (k : ℕ) (c d : Context) (h : Settles w k c) (known : IsKnown d) (leads : Leads d) where
+module _ (w : Place) (k : ℕ) (c d : Tree_context) (h : Settles w k c) (known : IsKnown d) (leads : Leads d) where
   abbrev q : Name
   q = base (deeper w k)
 
@@ -120,9 +121,10 @@ module _ (w : Place) (k : ℕ) (c d : Context) (h : Settles w k c) (known : IsKn
       apart r x (inr e) = not-yet w k (subst (PlacedBefore w k) e (h.imported r x))
 
 -- the items lead to such a context
-pub reading-settles : (w : Place) (sc : Scope) (k : ℕ) (c : Context) (is : Items) (d : Context) → ValidFrom names_by_place w sc k c is d → Settles w k c → (n : ℕ) × Settles w n d
-reading-settles w sc k c no_items d v h = (k, subst (Settles w k) v h)
-reading-settles w sc k c (next_item at f is) d v h =
-    let m = mapped-some (λ (s : Step). apply s c) (step names_by_place (deeper w k) sc c f) v.1.0 v.1.1 in
-    let g : Grows (base (deeper w k)) c v.1.0 = subst (Grows (base (deeper w k)) c) m.2 (step-grows names_by_place (deeper w k) sc c f m.0 m.1) in
-    reading-settles w sc (suc k) v.1.0 is d v.1.2 (settles-more w k c v.1.0 h (g.known h.known) (g.leads h.leads) g.adds)
+pub reading-settles : (fs : WasmFeatures) (w : Place) (k : ℕ) (s : Tree_stack) (is : Items) (t : Tree_stack) → ValidFrom fs names_by_place w k s is t → Settles w k s.top → (n : ℕ) × Settles w n t.top
+reading-settles fs w k s no_items t v h = (k, subst (λ (u : Tree_stack). Settles w k u.top) v h)
+reading-settles fs w k s (next_item at f is) t v h =
+    let p : Place = deeper w k in
+    let m = mapped-some (λ (x : Step tree_reader). apply x s) (step fs (tree_maker names_by_place p) s f) v.1.0 v.1.1 in
+    let g : Grows (base p) s.top v.1.0.top = subst (λ (u : Tree_stack). Grows (base p) s.top u.top) m.2 (step-grows fs names_by_place p s f m.0 m.1) in
+    reading-settles fs w (suc k) v.1.0 is t v.1.2 (settles-more w k s.top v.1.0.top h (g.known h.known) (g.leads h.leads) g.adds)

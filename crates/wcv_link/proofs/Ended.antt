@@ -1,5 +1,5 @@
 -- How the type at an end lists its resources.
-use Rattle.std.proofs.Common.{◌≡◌, ℕ, List, [], ◌∷◌, ◌++◌, map, Bool, true, false, ◌||◌, cond, refl, sym, ◌∙◌, ap, subst, append-nil, Some, None, ◌⊎◌, inl, inr}
+use Rattle.std.proofs.Common.{◌≡◌, ℕ, List, [], ◌∷◌, ◌++◌, Bool, true, false, ◌||◌, cond, refl, sym, ◌∙◌, ap, subst, append-nil, Some, None, ◌⊎◌, inl, inr}
 use Rattle.std.specs.Prelude.{All, Option}
 use Rattle.std.specs.Option.{option_map}
 use Rattle.std.proofs.Math.Bool.{or-true, or-false}
@@ -16,36 +16,39 @@ use Rattle.wcv_types.specs.Tree.{import, export, Parts, none, entries, exports_i
 use Rattle.wcv_types.proofs.FirstPath.{first_path-leads}
 use Rattle.wcv_types.proofs.IsFree.{is_free-free}
 use Rattle.wcv_types.proofs.Lists.{some-inj}
-use Rattle.wcv_lower.specs.Context.{Type_tree, Entries, Context, importing, exporting}
-use Rattle.wcv_lower.specs.Ending.{is_free_among, any_free, keep, kept, type_at_end}
-use Rattle.wcv_lower.specs.Renamed.{Renaming, rename_entry, rename_context}
-use Rattle.wcv_lower.proofs.EndingLaws.{any_free-renamed}
+use Rattle.wcv_lower.specs.Context.{importing, exporting}
+use Rattle.wcv_lower.specs.Ending.{is_free_among, any_free, keep, kept, component_of, type_at_end}
+use Rattle.wcv_lower.specs.Mapped.{map_entries, map_context}
+use Rattle.wcv_lower.specs.Renamed.{Renaming, renaming}
+use Rattle.wcv_lower.specs.Trees.{Type_tree, Entries, Tree_context, Tree_stack, tree_reader, node_tree}
+use Rattle.wcv_lower.proofs.EndingLaws.{any_free-mapped}
+use Rattle.wcv_lower.proofs.Renamed.{renaming_commutes}
 use Rattle.wcv_link.proofs.Apart.{Settles, start-settles, reading-settles}
 use Rattle.wcv_link.proofs.Growing.{In, Leads}
 use Rattle.wcv_link.proofs.Having.{Has, has-contains, contains-has, has-renamed, has-renamed_back, Once, once-both, once-renamed_back, distinct}
 use Rattle.wcv_link.proofs.Known.{mapped-some, then-some, Within}
 use Rattle.wcv_link.specs.Listed.{IsListed, IsImported, IsDefined, ListsResources}
-use Rattle.wcv_link.specs.Valid.{around_root, start, ValidTo}
+use Rattle.wcv_link.specs.Valid.{start, ValidTo}
 
 -- ## Contexts
 
 -- what is free in an entry is listed, on one side alone
-pub record Listing (c : Context) : Type 0 where
-  pub in_imports : (r : Name) → is_free_among r (c.side importing) ≡ true → In c r
-  pub in_exports : (r : Name) → is_free_among r (c.side exporting) ≡ true → In c r
+pub record Listing (c : Tree_context) : Type 0 where
+  pub in_imports : (r : Name) → is_free_among tree_reader r (c.side importing) ≡ true → In c r
+  pub in_exports : (r : Name) → is_free_among tree_reader r (c.side exporting) ≡ true → In c r
   pub apart : (r : Name) → Has c.imported r → Has c.defined r → ⊥
   pub imported_once : Once c.imported
   pub defined_once : Once c.defined
 
-among-within : (P : Name → Type 0) (es : Entries) (r : Name) → All (λ e. Within P e.1) es → is_free_among r es ≡ true → P r
+among-within : (P : Name → Type 0) (es : Entries) (r : Name) → All (λ e. Within P e.1) es → is_free_among tree_reader r es ≡ true → P r
 among-within P [] r a e = absurd (false≢true e)
 among-within P (x ∷ es) r a e = go (is_free r x.1) refl e (λ w. among-within P es r (All-tail (λ e. Within P e.1) x es a) w)
   where
-    go : (b : Bool) → is_free r x.1 ≡ b → (b || is_free_among r es) ≡ true → (is_free_among r es ≡ true → P r) → P r
+    go : (b : Bool) → is_free r x.1 ≡ b → (b || is_free_among tree_reader r es) ≡ true → (is_free_among tree_reader r es ≡ true → P r) → P r
     go true f w later = All-head (λ e. Within P e.1) x es a r (is_free-free r x.1 f)
     go false f w later = later w
 
-pub listing : (w : Place) (k : ℕ) (c : Context) → Settles w k c → Listing c
+pub listing : (w : Place) (k : ℕ) (c : Tree_context) → Settles w k c → Listing c
 listing w k c h = record {
   in_imports = λ r e. among-within (In c) (c.side importing) r (h.known.side importing) e;
   in_exports = λ r e. among-within (In c) (c.side exporting) r (h.known.side exporting) e;
@@ -55,16 +58,16 @@ listing w k c h = record {
 }
 
 -- so before the names were renamed
-module _ (w : Renaming) (c : Context) where
+module _ (w : Renaming) (c : Tree_context) where
   abbrev f : Name → Name
   f = w.resources.to
 
-  abbrev d : Context
-  d = rename_context f w.identities.to c
+  abbrev d : Tree_context
+  d = map_context (renaming w) c
 
-  free-renamed : (r : Name) (es : Entries) → is_free_among r es ≡ true → is_free_among (f r) (map (rename_entry f w.identities.to) es) ≡ true
+  free-renamed : (r : Name) (es : Entries) → is_free_among tree_reader r es ≡ true → is_free_among tree_reader (f r) (map_entries (renaming w).entry es) ≡ true
   free-renamed r es e =
-      sym (or-false (is_free_among (f r) (map (rename_entry f w.identities.to) es))) ∙ any_free-renamed w ((r, None) ∷ []) es ∙ or-false (is_free_among r es) ∙ e
+      sym (or-false (is_free_among tree_reader (f r) (map_entries (renaming w).entry es))) ∙ any_free-mapped (renaming w) (renaming_commutes w) ((r, None) ∷ []) es ∙ or-false (is_free_among tree_reader r es) ∙ e
 
   in-renamed_back : (r : Name) → In d (f r) → In c r
   in-renamed_back r (inl h) = inl (has-renamed_back f w.resources.back w.resources.is_back c.imported r h)
@@ -81,70 +84,70 @@ module _ (w : Renaming) (c : Context) where
 
 -- ## What is kept of the defined resources
 
-any-free : (ds : List (Name × Option ValType)) (es : Entries) (r : Name) → Has ds r → is_free_among r es ≡ true → any_free ds es ≡ true
+any-free : (ds : List (Name × Option ValType)) (es : Entries) (r : Name) → Has ds r → is_free_among tree_reader r es ≡ true → any_free tree_reader ds es ≡ true
 any-free [] es r h e = absurd h
-any-free (d ∷ ds) es r (inl s) e = ap (λ (b : Bool). b || any_free ds es) (sym (ap (λ (q : Name). is_free_among q es) s) ∙ e)
-any-free (d ∷ ds) es r (inr h) e = ap (λ (b : Bool). is_free_among d.0 es || b) (any-free ds es r h e) ∙ or-true (is_free_among d.0 es)
+any-free (d ∷ ds) es r (inl s) e = ap (λ (b : Bool). b || any_free tree_reader ds es) (sym (ap (λ (q : Name). is_free_among tree_reader q es) s) ∙ e)
+any-free (d ∷ ds) es r (inr h) e = ap (λ (b : Bool). is_free_among tree_reader d.0 es || b) (any-free ds es r h e) ∙ or-true (is_free_among tree_reader d.0 es)
 
 module _ (es : Entries) where
   abbrev Paths : Type 0
   Paths = List (Name × List ℕ)
 
-  keep-cases : (q : Name) (old new : Paths) → keep q es old ≡ Some new →
-      ((p : List ℕ) × (first_path q es ≡ Some p) × ((q, p) ∷ old ≡ new)) ⊎ ((is_free_among q es ≡ false) × (old ≡ new))
-  keep-cases q old new e = go (is_free_among q es) refl e
+  keep-cases : (q : Name) (old new : Paths) → keep tree_reader q es old ≡ Some new →
+      ((p : List ℕ) × (first_path q es ≡ Some p) × ((q, p) ∷ old ≡ new)) ⊎ ((is_free_among tree_reader q es ≡ false) × (old ≡ new))
+  keep-cases q old new e = go (is_free_among tree_reader q es) refl e
     where
-      go : (b : Bool) → is_free_among q es ≡ b → cond b (option_map (λ p. (q, p) ∷ old) (first_path q es)) (Some old) ≡ Some new →
-          ((p : List ℕ) × (first_path q es ≡ Some p) × ((q, p) ∷ old ≡ new)) ⊎ ((is_free_among q es ≡ false) × (old ≡ new))
+      go : (b : Bool) → is_free_among tree_reader q es ≡ b → cond b (option_map (λ p. (q, p) ∷ old) (first_path q es)) (Some old) ≡ Some new →
+          ((p : List ℕ) × (first_path q es ≡ Some p) × ((q, p) ∷ old ≡ new)) ⊎ ((is_free_among tree_reader q es ≡ false) × (old ≡ new))
       go true f w = inl (mapped-some (λ (p : List ℕ). (q, p) ∷ old) (first_path q es) new w)
       go false f w = inr (f, some-inj w)
 
   -- each that is free in an entry
-  pub kept-has : (ds : List (Name × Option ValType)) (ks : Paths) (r : Name) → kept ds es ≡ Some ks → Has ds r → is_free_among r es ≡ true → Has ks r
+  pub kept-has : (ds : List (Name × Option ValType)) (ks : Paths) (r : Name) → kept tree_reader ds es ≡ Some ks → Has ds r → is_free_among tree_reader r es ≡ true → Has ks r
   kept-has [] ks r e h free = absurd h
   kept-has (d ∷ ds) ks r e h free =
-      let m = then-some (keep d.0 es) (kept ds es) ks e in
+      let m = then-some (keep tree_reader d.0 es) (kept tree_reader ds es) ks e in
       go m.0 (λ x. kept-has ds m.0 r m.1 x free) h (keep-cases d.0 m.0 ks m.2)
     where
-      go : (old : Paths) → (Has ds r → Has old r) → (r ≡ d.0) ⊎ Has ds r → ((p : List ℕ) × (first_path d.0 es ≡ Some p) × ((d.0, p) ∷ old ≡ ks)) ⊎ ((is_free_among d.0 es ≡ false) × (old ≡ ks)) → Has ks r
+      go : (old : Paths) → (Has ds r → Has old r) → (r ≡ d.0) ⊎ Has ds r → ((p : List ℕ) × (first_path d.0 es ≡ Some p) × ((d.0, p) ∷ old ≡ ks)) ⊎ ((is_free_among tree_reader d.0 es ≡ false) × (old ≡ ks)) → Has ks r
       go old more (inl s) (inl c) = subst (λ (rs : Paths). Has rs r) c.2 (inl s)
-      go old more (inl s) (inr c) = absurd (false≢true (sym c.0 ∙ ap (λ (q : Name). is_free_among q es) (sym s) ∙ free))
+      go old more (inl s) (inr c) = absurd (false≢true (sym c.0 ∙ ap (λ (q : Name). is_free_among tree_reader q es) (sym s) ∙ free))
       go old more (inr x) (inl c) = subst (λ (rs : Paths). Has rs r) c.2 (inr (more x))
       go old more (inr x) (inr c) = subst (λ (rs : Paths). Has rs r) c.1 (more x)
 
   -- and no other
-  pub kept-old : (ds : List (Name × Option ValType)) (ks : Paths) (r : Name) → kept ds es ≡ Some ks → Has ks r → Has ds r
+  pub kept-old : (ds : List (Name × Option ValType)) (ks : Paths) (r : Name) → kept tree_reader ds es ≡ Some ks → Has ks r → Has ds r
   kept-old [] ks r e h = subst (λ (rs : Paths). Has rs r) (sym (some-inj e)) h
   kept-old (d ∷ ds) ks r e h =
-      let m = then-some (keep d.0 es) (kept ds es) ks e in
+      let m = then-some (keep tree_reader d.0 es) (kept tree_reader ds es) ks e in
       go m.0 (λ x. kept-old ds m.0 r m.1 x) (keep-cases d.0 m.0 ks m.2)
     where
       first : (old : Paths) → (Has old r → Has ds r) → (r ≡ d.0) ⊎ Has old r → (r ≡ d.0) ⊎ Has ds r
       first old more (inl s) = inl s
       first old more (inr x) = inr (more x)
 
-      go : (old : Paths) → (Has old r → Has ds r) → ((p : List ℕ) × (first_path d.0 es ≡ Some p) × ((d.0, p) ∷ old ≡ ks)) ⊎ ((is_free_among d.0 es ≡ false) × (old ≡ ks)) → (r ≡ d.0) ⊎ Has ds r
+      go : (old : Paths) → (Has old r → Has ds r) → ((p : List ℕ) × (first_path d.0 es ≡ Some p) × ((d.0, p) ∷ old ≡ ks)) ⊎ ((is_free_among tree_reader d.0 es ≡ false) × (old ≡ ks)) → (r ≡ d.0) ⊎ Has ds r
       go old more (inl c) = first old more (subst (λ (rs : Paths). Has rs r) (sym c.2) h)
       go old more (inr c) = inr (more (subst (λ (rs : Paths). Has rs r) (sym c.1) h))
 
-  pub kept-once : (ds : List (Name × Option ValType)) (ks : Paths) → kept ds es ≡ Some ks → Once ds → Once ks
+  pub kept-once : (ds : List (Name × Option ValType)) (ks : Paths) → kept tree_reader ds es ≡ Some ks → Once ds → Once ks
   kept-once [] ks e o = subst (λ (rs : Paths). Once rs) (some-inj e) tt
   kept-once (d ∷ ds) ks e o =
-      let m = then-some (keep d.0 es) (kept ds es) ks e in
+      let m = then-some (keep tree_reader d.0 es) (kept tree_reader ds es) ks e in
       go m.0 (λ x. o.0 (kept-old ds m.0 d.0 m.1 x)) (kept-once ds m.0 m.1 o.1) (keep-cases d.0 m.0 ks m.2)
     where
-      go : (old : Paths) → (Has old d.0 → ⊥) → Once old → ((p : List ℕ) × (first_path d.0 es ≡ Some p) × ((d.0, p) ∷ old ≡ ks)) ⊎ ((is_free_among d.0 es ≡ false) × (old ≡ ks)) → Once ks
+      go : (old : Paths) → (Has old d.0 → ⊥) → Once old → ((p : List ℕ) × (first_path d.0 es ≡ Some p) × ((d.0, p) ∷ old ≡ ks)) ⊎ ((is_free_among tree_reader d.0 es ≡ false) × (old ≡ ks)) → Once ks
       go old n x (inl c) = subst (λ (rs : Paths). Once rs) c.2 (n, x)
       go old n x (inr c) = subst (λ (rs : Paths). Once rs) c.1 x
 
   -- at a path that leads to it
-  pub kept-leads : (ds : List (Name × Option ValType)) (ks : Paths) → kept ds es ≡ Some ks → All (λ p. PathLeadsTo p.1 p.0 es) ks
+  pub kept-leads : (ds : List (Name × Option ValType)) (ks : Paths) → kept tree_reader ds es ≡ Some ks → All (λ p. PathLeadsTo p.1 p.0 es) ks
   kept-leads [] ks e = subst (All (λ p. PathLeadsTo p.1 p.0 es)) (some-inj e) (All-nil _)
   kept-leads (d ∷ ds) ks e =
-      let m = then-some (keep d.0 es) (kept ds es) ks e in
+      let m = then-some (keep tree_reader d.0 es) (kept tree_reader ds es) ks e in
       go m.0 (kept-leads ds m.0 m.1) (keep-cases d.0 m.0 ks m.2)
     where
-      go : (old : Paths) → All (λ p. PathLeadsTo p.1 p.0 es) old → ((p : List ℕ) × (first_path d.0 es ≡ Some p) × ((d.0, p) ∷ old ≡ ks)) ⊎ ((is_free_among d.0 es ≡ false) × (old ≡ ks)) → All (λ p. PathLeadsTo p.1 p.0 es) ks
+      go : (old : Paths) → All (λ p. PathLeadsTo p.1 p.0 es) old → ((p : List ℕ) × (first_path d.0 es ≡ Some p) × ((d.0, p) ∷ old ≡ ks)) ⊎ ((is_free_among tree_reader d.0 es ≡ false) × (old ≡ ks)) → All (λ p. PathLeadsTo p.1 p.0 es) ks
       go old a (inl c) = subst (All (λ p. PathLeadsTo p.1 p.0 es)) c.2 (All-cons (λ p. PathLeadsTo p.1 p.0 es) (d.0, c.0) old (first_path-leads d.0 es c.0 c.1) a)
       go old a (inr c) = subst (All (λ p. PathLeadsTo p.1 p.0 es)) c.1 a
 
@@ -172,18 +175,18 @@ is-listed r rs es a h =
     let m = has-contains rs r h in
     (m.0, m.1, All-contains (λ p. PathLeadsTo p.1 p.0 es) rs (r, m.0) a m.1)
 
-module _ (i : Name) (c : Context) (h : Listing c) (leads : Leads c) where
+module _ (i : Name) (c : Tree_context) (h : Listing c) (leads : Leads c) where
   abbrev ins : Entries
   ins = c.side importing
 
   abbrev outs : Entries
   outs = c.side exporting
 
-  lists-kept : (ks : List (Name × List ℕ)) → any_free c.defined ins ≡ false → kept c.defined outs ≡ Some ks → ListsResources (component_type i c.imported ks ins outs)
+  lists-kept : (ks : List (Name × List ℕ)) → any_free tree_reader c.defined ins ≡ false → kept tree_reader c.defined outs ≡ Some ks → ListsResources (component_type i c.imported ks ins outs)
   lists-kept ks none_free are_kept = record {
     in_imports = λ r e.
-        imported r (has r (h.in_imports r (subst (λ (es : Entries). is_free_among r es ≡ true) imports-are e)) (subst (λ (es : Entries). is_free_among r es ≡ true) imports-are e));
-    in_exports = λ r e. let free = subst (λ (es : Entries). is_free_among r es ≡ true) exports-are e in either r free (h.in_exports r free);
+        imported r (has r (h.in_imports r (subst (λ (es : Entries). is_free_among tree_reader r es ≡ true) imports-are e)) (subst (λ (es : Entries). is_free_among tree_reader r es ≡ true) imports-are e));
+    in_exports = λ r e. let free = subst (λ (es : Entries). is_free_among tree_reader r es ≡ true) exports-are e in either r free (h.in_exports r free);
     apart = λ r x y. h.apart r (contains-has c.imported r x.0 x.1) (kept-old outs c.defined ks r are_kept (contains-has ks r y.0 y.1));
     once = distinct (c.imported ++ ks) (once-both c.imported ks h.imported_once (kept-once outs c.defined ks are_kept h.defined_once) (λ r x y. h.apart r x (kept-old outs c.defined ks r are_kept y)));
   }
@@ -194,29 +197,30 @@ module _ (i : Name) (c : Context) (h : Listing c) (leads : Leads c) where
       exports-are : exports_in (entries import ins (entries export outs none)) ≡ outs
       exports-are = exports-behind ins (entries export outs none) ∙ all-exports outs
 
-      has : (r : Name) → In c r → is_free_among r ins ≡ true → Has c.imported r
+      has : (r : Name) → In c r → is_free_among tree_reader r ins ≡ true → Has c.imported r
       has r (inl x) e = x
       has r (inr x) e = absurd (false≢true (sym none_free ∙ any-free c.defined ins r x e))
 
       imported : (r : Name) → Has c.imported r → IsImported r (component_type i c.imported ks ins outs)
       imported r x = subst (IsListed r c.imported) (sym imports-are) (is-listed r c.imported ins leads x)
 
-      either : (r : Name) → is_free_among r outs ≡ true → In c r → IsImported r (component_type i c.imported ks ins outs) ⊎ IsDefined r (component_type i c.imported ks ins outs)
+      either : (r : Name) → is_free_among tree_reader r outs ≡ true → In c r → IsImported r (component_type i c.imported ks ins outs) ⊎ IsDefined r (component_type i c.imported ks ins outs)
       either r e (inl x) = inl (imported r x)
       either r e (inr x) = inr (subst (IsListed r ks) (sym exports-are) (is-listed r ks outs (kept-leads outs c.defined ks are_kept) (kept-has outs c.defined ks r are_kept x e)))
 
   -- the type at an end
-  pub lists : (t : Type_tree) → type_at_end i c ≡ Some t → ListsResources t
-  lists t e = go (any_free c.defined ins) refl e
+  pub lists : (t : Type_tree) → type_at_end (node_tree i) c ≡ Some t → ListsResources t
+  lists t e = go (any_free tree_reader c.defined ins) refl e
     where
-      go : (b : Bool) → any_free c.defined ins ≡ b → cond b None (option_map (λ ds. component_type i c.imported ds ins outs) (kept c.defined outs)) ≡ Some t → ListsResources t
+      go : (b : Bool) → any_free tree_reader c.defined ins ≡ b → option_map (node_tree i) (cond b None (option_map (component_of c) (kept tree_reader c.defined outs))) ≡ Some t → ListsResources t
       go true f w = cc
       go false f w =
-          let m = mapped-some (λ (ds : List (Name × List ℕ)). component_type i c.imported ds ins outs) (kept c.defined outs) t w in
-          subst ListsResources m.2 (lists-kept m.0 f m.1)
+          let n = mapped-some (node_tree i) (option_map (component_of c) (kept tree_reader c.defined outs)) t w in
+          let m = mapped-some (component_of c) (kept tree_reader c.defined outs) n.0 n.1 in
+          subst ListsResources (ap (node_tree i) m.2 ∙ n.2) (lists-kept m.0 f m.1)
 
 -- a valid root lists the resources of its type
-pub valid_lists : (features : WasmFeatures) (is : Items) (d : Context) (i : Name) (t : Type_tree) → ValidTo features is d → type_at_end i d ≡ Some t → ListsResources t
-valid_lists features is d i t v e =
-    let s = reading-settles [] (around_root features) 0 start is d v.0 (start-settles []) in
-    lists i d (listing [] s.0 d s.1) s.1.leads t e
+pub valid_lists : (fs : WasmFeatures) (is : Items) (s : Tree_stack) (i : Name) (t : Type_tree) → ValidTo fs is s → type_at_end (node_tree i) s.top ≡ Some t → ListsResources t
+valid_lists fs is s i t v e =
+    let r = reading-settles fs [] 0 start is s v.0 (start-settles []) in
+    lists i s.top (listing [] r.0 s.top r.1) r.1.leads t e

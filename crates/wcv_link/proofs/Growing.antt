@@ -9,8 +9,9 @@ use Rattle.wcv_core.specs.CoreForm.{Group}
 use Rattle.wcv_core.specs.CoreJoining.{group_ids, grown}
 use Rattle.wcv_core.specs.CoreWritten.{closed_group}
 use Rattle.wcv_core.specs.declared.core_types.EntityType.{EntityType}
+use Rattle.wcv_core.specs.declared.features.WasmFeatures.{WasmFeatures}
 use Rattle.wcv_syntax.specs.Model.{Core_type_form, core_rec, core_module_type, Form, core_type_item, core_module_item, core_instance_item, type_item, import_item, export_item, component_item, instance_item, alias_item, start_item, canon_item, unread, Type_form, defined_type, func_type, component_type, instance_type, resource_type}
-use Rattle.wcv_syntax.specs.ModuleTypes.{Module_type, Made, empty_module, all_declared, written_group}
+use Rattle.wcv_syntax.specs.ModuleTypes.{Module_type, Made, written_group}
 use Rattle.wcv_syntax.specs.declared.component_type.ComponentTypeRef.{ComponentTypeRef}
 use Rattle.wcv_syntax.specs.declared.component_type.ComponentTypeRef.TheVariants as ref
 use Rattle.wcv_syntax.specs.declared.component_type.ComponentValType.{ComponentValType}
@@ -20,70 +21,82 @@ use Rattle.wcv_syntax.specs.declared.instance.ComponentExternalKind.{ComponentEx
 use Rattle.wcv_syntax.specs.declared.instance.ComponentExternalKind.TheVariants as kind
 use Rattle.wcv_types.specs.Paths.{PathLeadsTo}
 use Rattle.wcv_types.specs.Resources.{FreeIn}
-use Rattle.wcv_types.specs.Tree.{Text, Extern_name, primitive, Sort, is_value, is_resource, is_func, is_type, is_module, sort, defined, func, core_imports, core_exports, sub_type, node, Parts, none, part, here, nothing, referenced}
+use Rattle.wcv_types.specs.Tree.{Text, Extern_name, Role, primitive, Sort, is_value, is_resource, is_func, is_module, sort, defined, func, core_imports, core_exports, sub_type, node, none, here, nothing}
 use Rattle.wcv_types.proofs.Lists.{some-inj}
 use Rattle.wcv_lower.specs.Checks.{same_sort}
-use Rattle.wcv_lower.specs.Context.{Type_tree, Entries, Context, Scope, Space, in_types, in_funcs, in_values, in_instances, in_components, Core_space, core_types, core_modules, Side, importing, exporting, types, is_concrete, placed, unknown, type_entry}
-use Rattle.wcv_lower.specs.CoreItems.{core_entries, types_join, group_step, module_tree, module_joins, core_type_step, outer_entries}
+use Rattle.wcv_lower.specs.Context.{Space, in_types, in_funcs, in_values, in_instances, in_components, Core_space, core_types, core_modules, Side, importing, exporting, is_concrete, placed, unknown}
+use Rattle.wcv_lower.specs.CoreItems.{core_entries, is_closable, types_join, closed_step, module_joins, core_type_made, core_module_made, core_type_step}
 use Rattle.wcv_lower.specs.Defined.{made_of, former, handle_index, written_parts}
-use Rattle.wcv_lower.specs.Entries.{extern_name, written_at, written, items_of, exported_as, exported}
+use Rattle.wcv_lower.specs.Entries.{extern_name, module_type_at, again_brought, new_resource, written, items_of, exported_as, exported}
 use Rattle.wcv_lower.specs.Growth.{step}
 use Rattle.wcv_lower.specs.Names.{Names, introduced}
-use Rattle.wcv_lower.specs.NewTypes.{renewed, renewing, new_reference, introducing}
-use Rattle.wcv_lower.specs.Step.{Change, appends, lists, introduces, defines, creates, core_appends, interns, Step, change, apply, joins, created_by, enters, Brought, bare}
-use Rattle.wcv_lower.specs.Types.{func_parts, type_tree, added, type_step}
-use Rattle.wcv_lower.specs.Values.{type_at, if_sort, resource_at, value_tree, Written_parts, option_tree, behind, parts_trees}
+use Rattle.wcv_lower.specs.NewTypes.{renewed, new_reference}
+use Rattle.wcv_lower.specs.Readers.{Made_parts, New_node, func_node, defined_node, if_sort}
+use Rattle.wcv_lower.specs.Step.{Change, appends, lists, introduces, defines, creates, core_appends, interns, charges, Step, change, apply, joins, joins_types, enters, Brought, bare}
+use Rattle.wcv_lower.specs.Trees.{Type_tree, Entries, type_entry, referenced, Tree_context, Tree_stack, tree_reader, tree_parts, module_tree, node_tree, tree_maker}
+use Rattle.wcv_lower.specs.Types.{func_parts, type_made, added, type_step}
+use Rattle.wcv_lower.specs.Values.{type_at, type_of_sort, resource_at, value_entry, Written_parts, option_entry, behind, parts_entries}
 use Rattle.wcv_link.proofs.Having.{Has, has-left, has-right}
-use Rattle.wcv_link.proofs.Known.{mapped-some, then-some, all-get, Within, WithinParts, referenced-within, both-within, renewed-within, reference-within, KnownBy, known-weaker, AllFit, apply-known, enters-fit}
+use Rattle.wcv_link.proofs.Known.{mapped-some, then-some, all-get, Within, WithinParts, both-within, referenced-within, renewed-within, reference-within, KnownBy, known-weaker, AllFit, apply-known, enters-fit}
 
 -- the context lists the resource
-abbrev pub In : Context → Name → Type 0
+abbrev pub In : Tree_context → Name → Type 0
 In c r = Has c.imported r ⊎ Has c.defined r
 
 -- what is free in its trees is listed
-abbrev pub IsKnown : Context → Type 0
+abbrev pub IsKnown : Tree_context → Type 0
 IsKnown c = KnownBy (In c) c
 
 -- the paths of the imported resources lead to them
-abbrev pub Leads : Context → Type 0
+abbrev pub Leads : Tree_context → Type 0
 Leads c = All (λ p. PathLeadsTo p.1 p.0 (c.side importing)) c.imported
 
 -- the second context lists what the first does, and maybe one resource more
-pub data Adds (q : Name) (c d : Context) : Type 0 where
+pub data Adds (q : Name) (c d : Tree_context) : Type 0 where
   adds_none : d.imported ≡ c.imported → d.defined ≡ c.defined → Adds q c d
   adds_import : (p : List ℕ) → d.imported ≡ c.imported ++ (q, p) ∷ [] → d.defined ≡ c.defined → Adds q c d
   adds_definition : (v : Option ValType) → d.imported ≡ c.imported → d.defined ≡ c.defined ++ (q, v) ∷ [] → Adds q c d
 
-pub record Grows (q : Name) (c d : Context) : Type 0 where
+pub record Grows (q : Name) (c d : Tree_context) : Type 0 where
   pub known : IsKnown c → IsKnown d
   pub adds : Adds q c d
   pub leads : Leads c → Leads d
 
+-- a step makes the stack's top grow so
+abbrev pub StepGrows : Name → Tree_stack → Step tree_reader → Type 0
+StepGrows q s p = Grows q s.top (apply p s).top
+
 -- ## What was listed stays so
 
-in-change : (x : Change) (c : Context) (r : Name) → In c r → In (change x c) r
-in-change (appends k t) c r h = h
-in-change (lists s n t) c r h = h
-in-change (introduces importing rs) c r (inl h) = inl (has-left c.imported (placed (length (c.side importing)) rs) r h)
-in-change (introduces importing rs) c r (inr h) = inr h
-in-change (introduces exporting rs) c r (inl h) = inl h
-in-change (introduces exporting rs) c r (inr h) = inr (has-left c.defined (unknown rs) r h)
-in-change (defines q v) c r (inl h) = inl h
-in-change (defines q v) c r (inr h) = inr (has-left c.defined ((q, v) ∷ []) r h)
-in-change (creates s is) c r h = h
-in-change (core_appends k t) c r h = h
-in-change (interns gs) c r h = h
+in-change : (x : Change tree_reader) (s : Tree_stack) (r : Name) → In s.top r → In (change x s).top r
+in-change (appends k t) s r h = h
+in-change (lists d n t) s r h = h
+in-change (introduces importing rs) s r (inl h) = inl (has-left s.top.imported (placed (length (s.top.side importing)) rs) r h)
+in-change (introduces importing rs) s r (inr h) = inr h
+in-change (introduces exporting rs) s r (inl h) = inl h
+in-change (introduces exporting rs) s r (inr h) = inr (has-left s.top.defined (unknown rs) r h)
+in-change (defines q v) s r (inl h) = inl h
+in-change (defines q v) s r (inr h) = inr (has-left s.top.defined ((q, v) ∷ []) r h)
+in-change (creates d is) s r h = h
+in-change (core_appends k t) s r h = h
+in-change (interns gs) s r h = h
+in-change (charges zero n) s r h = h
+in-change (charges (suc k) n) s r h = h
 
-pub in-apply : (s : Step) (c : Context) (r : Name) → In c r → In (apply s c) r
-in-apply [] c r h = h
-in-apply (x ∷ xs) c r h = in-apply xs (change x c) r (in-change x c r h)
+pub in-apply : (p : Step tree_reader) (s : Tree_stack) (r : Name) → In s.top r → In (apply p s).top r
+in-apply [] s r h = h
+in-apply (x ∷ xs) s r h = in-apply xs (change x s) r (in-change x s r h)
 
-grown-known : (s : Step) (c : Context) → AllFit (In (apply s c)) s → IsKnown c → IsKnown (apply s c)
-grown-known s c f h = apply-known (In (apply s c)) s c f (known-weaker (In c) (In (apply s c)) c (in-apply s c) h)
+-- what is listed after a step
+abbrev After : Step tree_reader → Tree_stack → Name → Type 0
+After p s = In (apply p s).top
+
+grown-known : (p : Step tree_reader) (s : Tree_stack) → AllFit (After p s) p → IsKnown s.top → IsKnown (apply p s).top
+grown-known p s f h = apply-known (After p s) p s f (known-weaker (In s.top) (After p s) s.top (in-apply p s) h)
 
 -- ## Types by index
 
-sorted-same : (s : Sort) (o : Option Type_tree) (t : Type_tree) → option_and_then (if_sort s) o ≡ Some t → o ≡ Some t
+sorted-same : (s : Sort) (o : Option Type_tree) (t : Type_tree) → option_and_then (if_sort tree_reader s) o ≡ Some t → o ≡ Some t
 sorted-same s None t e = cc
 sorted-same s (Some u) t e = go (same_sort s (sort u)) e
   where
@@ -91,19 +104,19 @@ sorted-same s (Some u) t e = go (same_sort s (sort u)) e
     go true e = e
     go false e = cc
 
-module _ (c : Context) (h : IsKnown c) where
+module _ (c : Tree_context) (h : IsKnown c) where
   abbrev P : Name → Type 0
   P = In c
 
   type-within : (k : ℕ) (t : Type_tree) → type_at c k ≡ Some t → Within P t
   type-within k t e =
-      let m = mapped-some referenced (slice_get (types c) k) t e in
-      subst (Within P) m.2 (referenced-within P m.0 (all-get (λ (u : Type_tree). sort u ≡ is_type) (types c) k m.0 h.types m.1) (all-get (Within P) (types c) k m.0 (h.space in_types) m.1))
+      let m = mapped-some referenced (slice_get (c.space in_types) k) t e in
+      subst (Within P) m.2 (referenced-within P m.0 (all-get (Within P) (c.space in_types) k m.0 (h.space in_types) m.1))
 
-  sorted-within : (s : Sort) (k : ℕ) (t : Type_tree) → option_and_then (if_sort s) (type_at c k) ≡ Some t → Within P t
+  sorted-within : (s : Sort) (k : ℕ) (t : Type_tree) → type_of_sort s c k ≡ Some t → Within P t
   sorted-within s k t e = type-within k t (sorted-same s (type_at c k) t e)
 
-  value-within : (v : ComponentValType) (t : Type_tree) → value_tree c v ≡ Some t → Within P t
+  value-within : (v : ComponentValType) (t : Type_tree) → value_entry c v ≡ Some t → Within P t
   value-within (val.Primitive p) t e = subst (Within P) (some-inj e) bare-within
     where
       bare-within : Within P (node (primitive p) none)
@@ -111,7 +124,7 @@ module _ (c : Context) (h : IsKnown c) where
       bare-within r (inr x) = absurd x.1
   value-within (val.Ty k) t e = sorted-within is_value k t e
 
-  option-within : (o : Option ComponentValType) (t : Type_tree) → option_tree c o ≡ Some t → Within P t
+  option-within : (o : Option ComponentValType) (t : Type_tree) → option_entry c o ≡ Some t → Within P t
   option-within None t e = subst (Within P) (some-inj e) nothing-within
     where
       nothing-within : Within P (node nothing none)
@@ -119,105 +132,113 @@ module _ (c : Context) (h : IsKnown c) where
       nothing-within r (inr x) = absurd x.1
   option-within (Some v) t e = value-within v t e
 
-  parts-within : (ps : Written_parts) (qs : Parts Name Name) → parts_trees c ps ≡ Some qs → WithinParts P qs
-  parts-within [] qs e = subst (WithinParts P) (some-inj e) (λ r x. absurd x)
-  parts-within (p ∷ ps) qs e =
-      let m = then-some (behind p.0 (parts_trees c ps)) (option_tree c p.1) qs e in
-      let n = mapped-some (λ (rest : Parts Name Name). part p.0 m.0 rest) (parts_trees c ps) qs m.2 in
-      subst (WithinParts P) n.2 (both m.0 n.0 (option-within p.1 m.0 m.1) (parts-within ps n.0 n.1))
-    where
-      both : (t : Type_tree) (rest : Parts Name Name) → Within P t → WithinParts P rest → WithinParts P (part p.0 t rest)
-      both t rest w v r (inl x) = w r x
-      both t rest w v r (inr x) = v r x
+  -- the parts of what is made
+  abbrev MadeWithin : Made_parts tree_reader → Type 0
+  MadeWithin qs = WithinParts P (tree_parts qs)
 
-  made-within : (o : Option ℕ) (ps : Written_parts) (qs : Parts Name Name) → made_of c o ps ≡ Some qs → WithinParts P qs
+  parts-within : (ps : Written_parts) (qs : Made_parts tree_reader) → parts_entries c ps ≡ Some qs → MadeWithin qs
+  parts-within [] qs e = subst MadeWithin (some-inj e) (λ r x. absurd x)
+  parts-within (p ∷ ps) qs e =
+      let m = then-some (behind tree_reader p.0 (parts_entries c ps)) (option_entry c p.1) qs e in
+      let n = mapped-some (λ (rest : Made_parts tree_reader). (p.0, m.0) ∷ rest) (parts_entries c ps) qs m.2 in
+      subst MadeWithin n.2 (both p.0 m.0 n.0 (option-within p.1 m.0 m.1) (parts-within ps n.0 n.1))
+    where
+      both : (o : Role) (t : Type_tree) (rest : Made_parts tree_reader) → Within P t → MadeWithin rest → MadeWithin ((o, t) ∷ rest)
+      both o t rest w v r (inl x) = w r x
+      both o t rest w v r (inr x) = v r x
+
+  made-within : (o : Option ℕ) (ps : Written_parts) (qs : Made_parts tree_reader) → made_of c o ps ≡ Some qs → MadeWithin qs
   made-within None ps qs e = parts-within ps qs e
   made-within (Some k) ps qs e =
-      let m = mapped-some (λ (t : Type_tree). part here t none) (resource_at c k) qs e in
-      subst (WithinParts P) m.2 (one m.0 (sorted-within is_resource k m.0 m.1))
+      let m = mapped-some (λ (t : Type_tree). (here, t) ∷ []) (resource_at c k) qs e in
+      subst MadeWithin m.2 (one m.0 (sorted-within is_resource k m.0 m.1))
     where
-      one : (t : Type_tree) → Within P t → WithinParts P (part here t none)
+      one : (t : Type_tree) → Within P t → MadeWithin ((here, t) ∷ [])
       one t w r (inl x) = w r x
       one t w r (inr x) = absurd x
 
-  tree-within : (i : Name) (t : Type_form) (u : Type_tree) → type_tree i c t ≡ Some u → Within P u
-  tree-within i (defined_type d) u e =
-      let m = mapped-some (λ (ps : Parts Name Name). node (defined i (former d)) ps) (made_of c (handle_index d) (written_parts d)) u e in
-      subst (Within P) m.2 (inside m.0 (made-within (handle_index d) (written_parts d) m.0 m.1))
+  -- the node that a type item makes
+  node-within : (i : Name) (t : Type_form) (n : New_node tree_reader) → type_made c t ≡ Some n → Within P (node_tree i n)
+  node-within i (defined_type d) n e =
+      let m = mapped-some (λ (ps : Made_parts tree_reader). defined_node (former d) ps) (made_of c (handle_index d) (written_parts d)) n e in
+      subst (λ (x : New_node tree_reader). Within P (node_tree i x)) m.2 (inside m.0 (made-within (handle_index d) (written_parts d) m.0 m.1))
     where
-      inside : (ps : Parts Name Name) → WithinParts P ps → Within P (node (defined i (former d)) ps)
+      inside : (ps : Made_parts tree_reader) → MadeWithin ps → Within P (node (defined i (former d)) (tree_parts ps))
       inside ps w r (inl x) = absurd x
       inside ps w r (inr x) = w r x.1
-  tree-within i (func_type f) u e =
-      let m = mapped-some (λ (ps : Parts Name Name). node (func i f.async) ps) (parts_trees c (func_parts f)) u e in
-      subst (Within P) m.2 (inside m.0 (parts-within (func_parts f) m.0 m.1))
+  node-within i (func_type f) n e =
+      let m = mapped-some (λ (ps : Made_parts tree_reader). func_node f.async ps) (parts_entries c (func_parts f)) n e in
+      subst (λ (x : New_node tree_reader). Within P (node_tree i x)) m.2 (inside m.0 (parts-within (func_parts f) m.0 m.1))
     where
-      inside : (ps : Parts Name Name) → WithinParts P ps → Within P (node (func i f.async) ps)
+      inside : (ps : Made_parts tree_reader) → MadeWithin ps → Within P (node (func i f.async) (tree_parts ps))
       inside ps w r (inl x) = absurd x
       inside ps w r (inr x) = w r x.1
-  tree-within i (component_type ds) u e = cc
-  tree-within i (instance_type ds) u e = cc
-  tree-within i (resource_type rep dtor) u e = cc
+  node-within i (component_type ds) n e = cc
+  node-within i (instance_type ds) n e = cc
+  node-within i (resource_type rep dtor) n e = cc
 
   -- an entry that refers to the type creates it again
-  renewing-within : (names : Names) (p : Place) (t : Type_tree) → Within P t → Within P (renewing names p t).entity
-  renewing-within names p t w = both-within P (renewed names p t) t (renewed-within P names p t w) w
+  again-within : (names : Names) (p : Place) (t : Type_tree) → Within P t → Within P (again_brought (tree_maker names p) t).entity
+  again-within names p t w = both-within P (renewed names p t) t (renewed-within P names p t w) w
 
 -- ## Type items
 
-pub added-grows : (q : Name) (c : Context) (t : Type_tree) → (IsKnown c → Within (In c) t) → Grows q c (apply (added t) c)
-added-grows q c t w = record {
-  known = λ h. let u = w h in grown-known (added t) c ((both-within (In c) t t u u, λ e. refl), tt) h;
+-- a node joins the types
+node-grows : (q : Name) (names : Names) (p : Place) (s : Tree_stack) (n : New_node tree_reader) → (IsKnown s.top → Within (In s.top) (node_tree (names.identity (introduced p)) n)) → StepGrows q s (added (tree_maker names p) n)
+node-grows q names p s n w = record {
+  known = λ h.
+      let t : Type_tree = node_tree (names.identity (introduced p)) n in
+      let u : Within (In s.top) t = w h in
+      grown-known (added (tree_maker names p) n) s (both-within (In s.top) t t u u, tt) h;
   adds = adds_none refl refl;
   leads = λ h. h;
 }
 
 -- a resource that is defined
-resource-grows : (names : Names) (p : Place) (c : Context) (v : Option ValType) →
-    Grows (names.resource (introduced p)) c (apply (defines (names.resource (introduced p)) v ∷ appends in_types (type_entry (new_reference names p)) ∷ []) c)
-resource-grows names p c v = record {
+resource-grows : (names : Names) (p : Place) (s : Tree_stack) (v : Option ValType) → StepGrows (names.resource (introduced p)) s (defines (names.resource (introduced p)) v ∷ joins_types (type_entry (new_reference names p)))
+resource-grows names p s v = record {
   known = λ h.
-      let s : Step = defines (names.resource (introduced p)) v ∷ appends in_types (type_entry (new_reference names p)) ∷ [] in
-      let u : Within (In (apply s c)) (new_reference names p) =
-      reference-within (In (apply s c)) names p (λ r e. inr (has-right c.defined ((names.resource (introduced p), v) ∷ []) r (inl e))) in
-      grown-known s c (tt, ((both-within (In (apply s c)) (new_reference names p) (new_reference names p) u u, λ e. refl), tt)) h;
+      let x : Step tree_reader = defines (names.resource (introduced p)) v ∷ joins_types (type_entry (new_reference names p)) in
+      let u : Within (After x s) (new_reference names p) =
+      reference-within (After x s) names p (λ r e. inr (has-right s.top.defined ((names.resource (introduced p), v) ∷ []) r (inl e))) in
+      grown-known x s (tt, (both-within (After x s) (new_reference names p) (new_reference names p) u u, tt)) h;
   adds = adds_definition v refl refl;
   leads = λ h. h;
 }
 
-type-grows : (names : Names) (p : Place) (sc : Scope) (c : Context) (t : Type_form) (s : Step) → type_step names p sc c t ≡ Some s → Grows (names.resource (introduced p)) c (apply s c)
-type-grows names p sc c (defined_type d) s e =
-    let m = mapped-some added (type_tree (names.identity (introduced p)) c (defined_type d)) s e in
-    subst (λ (z : Step). Grows (names.resource (introduced p)) c (apply z c)) m.2 (added-grows (names.resource (introduced p)) c m.0 (λ h. tree-within c h (names.identity (introduced p)) (defined_type d) m.0 m.1))
-type-grows names p sc c (func_type f) s e =
-    let m = mapped-some added (type_tree (names.identity (introduced p)) c (func_type f)) s e in
-    subst (λ (z : Step). Grows (names.resource (introduced p)) c (apply z c)) m.2 (added-grows (names.resource (introduced p)) c m.0 (λ h. tree-within c h (names.identity (introduced p)) (func_type f) m.0 m.1))
-type-grows names p sc c (component_type ds) s e = cc
-type-grows names p sc c (instance_type ds) s e = cc
-type-grows names p sc c (resource_type rep dtor) s e = go (is_concrete c.kind) e
+type-grows : (names : Names) (p : Place) (s : Tree_stack) (t : Type_form) (x : Step tree_reader) → type_step (tree_maker names p) s.top t ≡ Some x → StepGrows (names.resource (introduced p)) s x
+type-grows names p s (defined_type d) x e =
+    let m = mapped-some (added (tree_maker names p)) (type_made s.top (defined_type d)) x e in
+    subst (StepGrows (names.resource (introduced p)) s) m.2 (node-grows (names.resource (introduced p)) names p s m.0 (λ h. node-within s.top h (names.identity (introduced p)) (defined_type d) m.0 m.1))
+type-grows names p s (func_type f) x e =
+    let m = mapped-some (added (tree_maker names p)) (type_made s.top (func_type f)) x e in
+    subst (StepGrows (names.resource (introduced p)) s) m.2 (node-grows (names.resource (introduced p)) names p s m.0 (λ h. node-within s.top h (names.identity (introduced p)) (func_type f) m.0 m.1))
+type-grows names p s (component_type ds) x e = cc
+type-grows names p s (instance_type ds) x e = cc
+type-grows names p s (resource_type rep dtor) x e = go (is_concrete s.top.kind) e
   where
-    go : (b : Bool) → cond b (Some (defines (names.resource (introduced p)) (Some rep) ∷ appends in_types (type_entry (new_reference names p)) ∷ [])) None ≡ Some s → Grows (names.resource (introduced p)) c (apply s c)
-    go true k = subst (λ (z : Step). Grows (names.resource (introduced p)) c (apply z c)) (some-inj k) (resource-grows names p c (Some rep))
+    go : (b : Bool) → cond b (Some (defines (names.resource (introduced p)) (Some rep) ∷ joins_types (type_entry (new_reference names p)))) None ≡ Some x → StepGrows (names.resource (introduced p)) s x
+    go true k = subst (StepGrows (names.resource (introduced p)) s) (some-inj k) (resource-grows names p s (Some rep))
     go false k = cc
 
 -- ## Entries
 
 -- what joins a space leaves the rest
-pub record SameLists (c d : Context) : Type 0 where
+pub record SameLists (c d : Tree_context) : Type 0 where
   pub imported : d.imported ≡ c.imported
   pub defined : d.defined ≡ c.defined
   pub imports : d.side importing ≡ c.side importing
 
-joins-same : (o : Sort) (t : Type_tree) (c : Context) → SameLists c (apply (joins o t) c)
-joins-same is_func t c = record { imported = refl; defined = refl; imports = refl }
-joins-same x t c = record { imported = refl; defined = refl; imports = refl }
+joins-same : (o : Sort) (t : Type_tree) (s : Tree_stack) → SameLists s.top (apply (joins tree_reader o t) s).top
+joins-same is_func t s = record { imported = refl; defined = refl; imports = refl }
+joins-same o t s = record { imported = refl; defined = refl; imports = refl }
 
 -- before it joins its space
-abbrev entered : Side → Extern_name → Brought → Context → Context
-entered s n b c = change (creates s (created_by (sort b.entity) b.entity)) (change (lists s n b.entity) (change (introduces s b.resources) c))
+abbrev entered : Side → Extern_name → Brought tree_reader → Tree_stack → Tree_stack
+entered d n b s = change (creates d (tree_reader.creates b.entity)) (change (lists d n b.entity) (change (introduces d b.resources) s))
 
-enters-same : (s : Side) (n : Extern_name) (b : Brought) (c : Context) → SameLists (entered s n b c) (apply (enters s n b) c)
-enters-same s n b c = joins-same (sort b.entity) b.entity (entered s n b c)
+enters-same : (d : Side) (n : Extern_name) (b : Brought tree_reader) (s : Tree_stack) → SameLists (entered d n b s).top (apply (enters d n b) s).top
+enters-same d n b s = joins-same (sort b.entity) b.entity (entered d n b s)
 
 -- one more entry behind the others changes no path
 get-before : {X : Type 0} (xs ys : List X) (k : ℕ) (x : X) → slice_get xs k ≡ Some x → slice_get (xs ++ ys) k ≡ Some x
@@ -234,112 +255,124 @@ path-further [] r es more h = h
 path-further (k ∷ []) r es more h = (h.0, get-before es more k h.0 h.1, h.2)
 path-further (k ∷ j ∷ p) r es more h = (h.0, get-before es more k h.0 h.1, h.2, h.3)
 
--- the paths lead on, and those that are new lead to what is new
-entered-leads : (s : Side) (n : Extern_name) (b : Brought) (c : Context) →
-    All (λ p. PathLeadsTo p.1 p.0 (c.side importing ++ (n, b.entity) ∷ [])) (placed (length (c.side importing)) b.resources) → Leads c → Leads (entered s n b c)
-entered-leads importing n b c new h =
-    All-append (λ p. PathLeadsTo p.1 p.0 (c.side importing ++ (n, b.entity) ∷ [])) c.imported (placed (length (c.side importing)) b.resources)
-    (All-weaker (λ p. PathLeadsTo p.1 p.0 (c.side importing)) (λ p. PathLeadsTo p.1 p.0 (c.side importing ++ (n, b.entity) ∷ [])) (λ p w. path-further p.1 p.0 (c.side importing) ((n, b.entity) ∷ []) w) c.imported h) new
-entered-leads exporting n b c new h = h
+-- the imports with one more
+abbrev with_import : Extern_name → Type_tree → Tree_stack → Entries
+with_import n t s = s.top.side importing ++ (n, t) ∷ []
 
-enters-leads : (s : Side) (n : Extern_name) (b : Brought) (c : Context) →
-    All (λ p. PathLeadsTo p.1 p.0 (c.side importing ++ (n, b.entity) ∷ [])) (placed (length (c.side importing)) b.resources) → Leads c → Leads (apply (enters s n b) c)
-enters-leads s n b c new h =
-    let same = enters-same s n b c in
-    subst (λ (es : Entries). All (λ p. PathLeadsTo p.1 p.0 es) (apply (enters s n b) c).imported) (sym same.imports)
-    (subst (All (λ p. PathLeadsTo p.1 p.0 ((entered s n b c).side importing))) (sym same.imported) (entered-leads s n b c new h))
+-- new paths lead to what is new
+abbrev NewLead : Extern_name → Brought tree_reader → Tree_stack → Type 0
+NewLead n b s = All (λ p. PathLeadsTo p.1 p.0 (with_import n b.entity s)) (placed (length (s.top.side importing)) b.resources)
+
+-- the paths lead on, and so do those that are new
+entered-leads : (d : Side) (n : Extern_name) (b : Brought tree_reader) (s : Tree_stack) → NewLead n b s → Leads s.top → Leads (entered d n b s).top
+entered-leads importing n b s new h =
+    All-append (λ p. PathLeadsTo p.1 p.0 (with_import n b.entity s)) s.top.imported (placed (length (s.top.side importing)) b.resources)
+    (All-weaker (λ p. PathLeadsTo p.1 p.0 (s.top.side importing)) (λ p. PathLeadsTo p.1 p.0 (with_import n b.entity s)) (λ p w. path-further p.1 p.0 (s.top.side importing) ((n, b.entity) ∷ []) w) s.top.imported h) new
+entered-leads exporting n b s new h = h
+
+enters-leads : (d : Side) (n : Extern_name) (b : Brought tree_reader) (s : Tree_stack) → NewLead n b s → Leads s.top → Leads (apply (enters d n b) s).top
+enters-leads d n b s new h =
+    let same = enters-same d n b s in
+    subst (λ (es : Entries). All (λ p. PathLeadsTo p.1 p.0 es) (apply (enters d n b) s).top.imported) (sym same.imports)
+    (subst (All (λ p. PathLeadsTo p.1 p.0 ((entered d n b s).top.side importing))) (sym same.imported) (entered-leads d n b s new h))
 
 -- one that introduces no resource
-pub bare-grows : (q : Name) (s : Side) (n : Extern_name) (t : Type_tree) (c : Context) → (IsKnown c → Within (In c) t) → Grows q c (apply (enters s n (bare t)) c)
-bare-grows q s n t c w = record {
-  known = λ h. grown-known (enters s n (bare t)) c (enters-fit (In (apply (enters s n (bare t)) c)) s n (bare t) (λ r x. in-apply (enters s n (bare t)) c r (w h r x))) h;
-  adds = adds_none (same.imported ∙ imports-none s) (same.defined ∙ defines-none s);
-  leads = enters-leads s n (bare t) c (All-nil _);
+pub bare-grows : (q : Name) (d : Side) (n : Extern_name) (t : Type_tree) (s : Tree_stack) → (IsKnown s.top → Within (In s.top) t) → StepGrows q s (enters d n (bare tree_reader t))
+bare-grows q d n t s w = record {
+  known = λ h. grown-known x s (enters-fit (After x s) d n (bare tree_reader t) (λ r f. in-apply x s r (w h r f))) h;
+  adds = adds_none (same.imported ∙ imports-none d) (same.defined ∙ defines-none d);
+  leads = enters-leads d n (bare tree_reader t) s (All-nil _);
 }
   where
-    same : SameLists (entered s n (bare t) c) (apply (enters s n (bare t)) c)
-    same = enters-same s n (bare t) c
+    x : Step tree_reader
+    x = enters d n (bare tree_reader t)
 
-    imports-none : (s : Side) → (entered s n (bare t) c).imported ≡ c.imported
-    imports-none importing = append-nil c.imported
+    same : SameLists (entered d n (bare tree_reader t) s).top (apply x s).top
+    same = enters-same d n (bare tree_reader t) s
+
+    imports-none : (d : Side) → (entered d n (bare tree_reader t) s).top.imported ≡ s.top.imported
+    imports-none importing = append-nil s.top.imported
     imports-none exporting = refl
 
-    defines-none : (s : Side) → (entered s n (bare t) c).defined ≡ c.defined
+    defines-none : (d : Side) → (entered d n (bare tree_reader t) s).top.defined ≡ s.top.defined
     defines-none importing = refl
-    defines-none exporting = append-nil c.defined
+    defines-none exporting = append-nil s.top.defined
 
 -- an import of a resource
-introducing-grows : (names : Names) (p : Place) (n : Extern_name) (c : Context) → Grows (names.resource (introduced p)) c (apply (enters importing n (introducing names p)) c)
-introducing-grows names p n c = record {
-  known = λ h. grown-known s c (enters-fit (In (apply s c)) importing n b (both-within (In (apply s c)) (new_reference names p) (new_reference names p) inside inside)) h;
-  adds = adds_import (length (c.side importing) ∷ []) same.imported same.defined;
-  leads = enters-leads importing n b c (All-cons (λ r. PathLeadsTo r.1 r.0 entries) (q, length (c.side importing) ∷ []) [] (last, get-last (c.side importing) last, (refl, refl)) (All-nil _));
+new_resource-grows : (names : Names) (p : Place) (n : Extern_name) (s : Tree_stack) → StepGrows (names.resource (introduced p)) s (enters importing n (new_resource (tree_maker names p)))
+new_resource-grows names p n s = record {
+  known = λ h. grown-known x s (enters-fit (After x s) importing n b (both-within (After x s) (new_reference names p) (new_reference names p) inside inside)) h;
+  adds = adds_import (length (s.top.side importing) ∷ []) same.imported same.defined;
+  leads = enters-leads importing n b s (All-cons (λ r. PathLeadsTo r.1 r.0 entries) (q, length (s.top.side importing) ∷ []) [] (last, get-last (s.top.side importing) last, (refl, refl)) (All-nil _));
 }
   where
     q : Name
     q = names.resource (introduced p)
 
-    b : Brought
-    b = introducing names p
+    b : Brought tree_reader
+    b = new_resource (tree_maker names p)
 
-    s : Step
-    s = enters importing n b
+    x : Step tree_reader
+    x = enters importing n b
 
     last : Extern_name × Type_tree
     last = (n, type_entry (new_reference names p))
 
     entries : Entries
-    entries = c.side importing ++ last ∷ []
+    entries = s.top.side importing ++ last ∷ []
 
-    same : SameLists (entered importing n b c) (apply s c)
-    same = enters-same importing n b c
+    same : SameLists (entered importing n b s).top (apply x s).top
+    same = enters-same importing n b s
 
-    inside : Within (In (apply s c)) (new_reference names p)
-    inside = reference-within (In (apply s c)) names p (λ r e. inl (subst (λ (rs : List (Name × List ℕ)). Has rs r) (sym same.imported) (has-right c.imported ((q, length (c.side importing) ∷ []) ∷ []) r (inl e))))
+    inside : Within (After x s) (new_reference names p)
+    inside = reference-within (After x s) names p (λ r e. inl (subst (λ (rs : List (Name × List ℕ)). Has rs r) (sym same.imported) (has-right s.top.imported ((q, length (s.top.side importing) ∷ []) ∷ []) r (inl e))))
 
 -- what stands in a core space
-core-within : (c : Context) → IsKnown c → (k : Core_space) (i : ℕ) (t : Type_tree) → slice_get (c.core k) i ≡ Some t → Within (In c) t
+core-within : (c : Tree_context) → IsKnown c → (k : Core_space) (i : ℕ) (t : Type_tree) → slice_get (c.core k) i ≡ Some t → Within (In c) t
 core-within c h k i t e = all-get (Within (In c)) (c.core k) i t (h.core k) e
 
-import-grows : (names : Names) (p : Place) (sc : Scope) (c : Context) (n : Extern_name) (x : ComponentTypeRef) (b : Brought) → written names p sc c x ≡ Some b → Grows (names.resource (introduced p)) c (apply (enters importing n b) c)
-import-grows names p sc c n (ref.Func k) b e =
-    let m = mapped-some bare (written_at sc c (ref.Func k)) b e in
-    subst (λ (z : Brought). Grows (names.resource (introduced p)) c (apply (enters importing n z) c)) m.2 (bare-grows (names.resource (introduced p)) importing n m.0 c (λ h. sorted-within c h is_func k m.0 m.1))
-import-grows names p sc c n (ref.Ty (bounds.Eq k)) b e =
-    let m = mapped-some (renewing names p) (type_at c k) b e in
-    subst (λ (z : Brought). Grows (names.resource (introduced p)) c (apply (enters importing n z) c)) m.2
-    (bare-grows (names.resource (introduced p)) importing n (renewing names p m.0).entity c (λ h. renewing-within c h names p m.0 (type-within c h k m.0 m.1)))
-import-grows names p sc c n (ref.Ty bounds.SubResource) b e =
-    subst (λ (z : Brought). Grows (names.resource (introduced p)) c (apply (enters importing n z) c)) (some-inj e) (introducing-grows names p n c)
-import-grows names p sc c n (ref.Module k) b e =
-    let m = mapped-some bare (written_at sc c (ref.Module k)) b e in
-    subst (λ (z : Brought). Grows (names.resource (introduced p)) c (apply (enters importing n z) c)) m.2 (bare-grows (names.resource (introduced p)) importing n m.0 c (λ h. core-within c h core_types k m.0 (sorted-same is_module (slice_get (c.core core_types) k) m.0 m.1)))
-import-grows names p sc c n (ref.Value v) b e = cc
-import-grows names p sc c n (ref.Instance k) b e = cc
-import-grows names p sc c n (ref.Component k) b e = cc
+-- what enters makes the stack grow
+abbrev EntersGrows : Name → Side → Extern_name → Tree_stack → Brought tree_reader → Type 0
+EntersGrows q d n s b = StepGrows q s (enters d n b)
+
+import-grows : (names : Names) (p : Place) (s : Tree_stack) (n : Extern_name) (x : ComponentTypeRef) (b : Brought tree_reader) → written (tree_maker names p) s.top x ≡ Some b → EntersGrows (names.resource (introduced p)) importing n s b
+import-grows names p s n (ref.Func k) b e =
+    let m = mapped-some (bare tree_reader) (type_of_sort is_func s.top k) b e in
+    subst (EntersGrows (names.resource (introduced p)) importing n s) m.2 (bare-grows (names.resource (introduced p)) importing n m.0 s (λ h. sorted-within s.top h is_func k m.0 m.1))
+import-grows names p s n (ref.Ty (bounds.Eq k)) b e =
+    let m = mapped-some (again_brought (tree_maker names p)) (type_at s.top k) b e in
+    subst (EntersGrows (names.resource (introduced p)) importing n s) m.2
+    (bare-grows (names.resource (introduced p)) importing n (again_brought (tree_maker names p) m.0).entity s (λ h. again-within s.top h names p m.0 (type-within s.top h k m.0 m.1)))
+import-grows names p s n (ref.Ty bounds.SubResource) b e = subst (EntersGrows (names.resource (introduced p)) importing n s) (some-inj e) (new_resource-grows names p n s)
+import-grows names p s n (ref.Module k) b e =
+    let m = mapped-some (bare tree_reader) (module_type_at s.top k) b e in
+    subst (EntersGrows (names.resource (introduced p)) importing n s) m.2
+    (bare-grows (names.resource (introduced p)) importing n m.0 s (λ h. core-within s.top h core_types k m.0 (sorted-same is_module (slice_get (s.top.core core_types) k) m.0 m.1)))
+import-grows names p s n (ref.Value v) b e = cc
+import-grows names p s n (ref.Instance k) b e = cc
+import-grows names p s n (ref.Component k) b e = cc
 
 -- an item of a space is exported as it is
-item-grows : (names : Names) (p : Place) (c : Context) (n : Extern_name) (k : Space) (i : ℕ) (b : Brought) → option_map bare (slice_get (c.space k) i) ≡ Some b → Grows (names.resource (introduced p)) c (apply (enters exporting n b) c)
-item-grows names p c n k i b e =
-    let m = mapped-some bare (slice_get (c.space k) i) b e in
-    subst (λ (z : Brought). Grows (names.resource (introduced p)) c (apply (enters exporting n z) c)) m.2
-    (bare-grows (names.resource (introduced p)) exporting n m.0 c (λ h. all-get (Within (In c)) (c.space k) i m.0 (h.space k) m.1))
+item-grows : (q : Name) (s : Tree_stack) (n : Extern_name) (k : Space) (i : ℕ) (b : Brought tree_reader) → option_map (bare tree_reader) (slice_get (s.top.space k) i) ≡ Some b → EntersGrows q exporting n s b
+item-grows q s n k i b e =
+    let m = mapped-some (bare tree_reader) (slice_get (s.top.space k) i) b e in
+    subst (EntersGrows q exporting n s) m.2 (bare-grows q exporting n m.0 s (λ h. all-get (Within (In s.top)) (s.top.space k) i m.0 (h.space k) m.1))
 
-export-grows : (names : Names) (p : Place) (c : Context) (n : Extern_name) (x : ComponentExternalKind) (i : ℕ) (b : Brought) → option_map (exported_as names p x) (slice_get (items_of c x) i) ≡ Some b →
-    Grows (names.resource (introduced p)) c (apply (enters exporting n b) c)
-export-grows names p c n kind.Ty i b e =
-    let m = mapped-some (exported_as names p kind.Ty) (slice_get (c.space in_types) i) b e in
-    subst (λ (z : Brought). Grows (names.resource (introduced p)) c (apply (enters exporting n z) c)) m.2
-    (bare-grows (names.resource (introduced p)) exporting n (renewing names p (referenced m.0)).entity c
-    (λ h. renewing-within c h names p (referenced m.0) (type-within c h i (referenced m.0) (ap (option_map referenced) m.1))))
-export-grows names p c n kind.Func i b e = item-grows names p c n in_funcs i b e
-export-grows names p c n kind.Value i b e = item-grows names p c n in_values i b e
-export-grows names p c n kind.Instance i b e = item-grows names p c n in_instances i b e
-export-grows names p c n kind.Component i b e = item-grows names p c n in_components i b e
-export-grows names p c n kind.Module i b e =
-    let m = mapped-some bare (slice_get (c.core core_modules) i) b e in
-    subst (λ (z : Brought). Grows (names.resource (introduced p)) c (apply (enters exporting n z) c)) m.2
-    (bare-grows (names.resource (introduced p)) exporting n m.0 c (λ h. core-within c h core_modules i m.0 m.1))
+export-grows : (names : Names) (p : Place) (s : Tree_stack) (n : Extern_name) (x : ComponentExternalKind) (i : ℕ) (b : Brought tree_reader) → option_map (exported_as (tree_maker names p) x) (slice_get (items_of s.top x) i) ≡ Some b →
+    EntersGrows (names.resource (introduced p)) exporting n s b
+export-grows names p s n kind.Ty i b e =
+    let m = mapped-some (exported_as (tree_maker names p) kind.Ty) (slice_get (s.top.space in_types) i) b e in
+    subst (EntersGrows (names.resource (introduced p)) exporting n s) m.2
+    (bare-grows (names.resource (introduced p)) exporting n (again_brought (tree_maker names p) (referenced m.0)).entity s
+    (λ h. again-within s.top h names p (referenced m.0) (type-within s.top h i (referenced m.0) (ap (option_map referenced) m.1))))
+export-grows names p s n kind.Func i b e = item-grows (names.resource (introduced p)) s n in_funcs i b e
+export-grows names p s n kind.Value i b e = item-grows (names.resource (introduced p)) s n in_values i b e
+export-grows names p s n kind.Instance i b e = item-grows (names.resource (introduced p)) s n in_instances i b e
+export-grows names p s n kind.Component i b e = item-grows (names.resource (introduced p)) s n in_components i b e
+export-grows names p s n kind.Module i b e =
+    let m = mapped-some (bare tree_reader) (slice_get (s.top.core core_modules) i) b e in
+    subst (EntersGrows (names.resource (introduced p)) exporting n s) m.2
+    (bare-grows (names.resource (introduced p)) exporting n m.0 s (λ h. core-within s.top h core_modules i m.0 m.1))
 
 -- ## Core items
 
@@ -364,58 +397,61 @@ sub-closed : (P : Name → Type 0) (i : ℕ) → Within P (sub_type i)
 sub-closed P i r (inl x) = absurd x
 sub-closed P i r (inr x) = absurd x.1
 
-types-fit : (P : Name → Type 0) (is : List ℕ) → AllFit P (types_join is)
+types-fit : (P : Name → Type 0) (is : List ℕ) → AllFit P (types_join tree_reader is)
 types-fit P [] = tt
 types-fit P (i ∷ is) = (sub-closed P i, types-fit P is)
 
 -- core types change no list
-types-same : (is : List ℕ) (c : Context) → SameLists c (apply (types_join is) c)
-types-same [] c = record { imported = refl; defined = refl; imports = refl }
-types-same (i ∷ is) c =
-    let h = types-same is (change (core_appends core_types (sub_type i)) c) in
+types-same : (is : List ℕ) (s : Tree_stack) → SameLists s.top (apply (types_join tree_reader is) s).top
+types-same [] s = record { imported = refl; defined = refl; imports = refl }
+types-same (i ∷ is) s =
+    let h = types-same is (change (core_appends core_types (sub_type i)) s) in
     record { imported = h.imported; defined = h.defined; imports = h.imports }
 
 -- what changes no list
-same-grows : (q : Name) (s : Step) (c : Context) → AllFit (In (apply s c)) s → SameLists c (apply s c) → Grows q c (apply s c)
-same-grows q s c f h = record {
-  known = λ k. grown-known s c f k;
+same-grows : (q : Name) (x : Step tree_reader) (s : Tree_stack) → AllFit (After x s) x → SameLists s.top (apply x s).top → StepGrows q s x
+same-grows q x s f h = record {
+  known = λ k. grown-known x s f k;
   adds = adds_none h.imported h.defined;
-  leads = λ l. subst (λ (es : Entries). All (λ p. PathLeadsTo p.1 p.0 es) (apply s c).imported) (sym h.imports) (subst (All (λ p. PathLeadsTo p.1 p.0 (c.side importing))) (sym h.imported) l);
+  leads = λ l. subst (λ (es : Entries). All (λ p. PathLeadsTo p.1 p.0 es) (apply x s).top.imported) (sym h.imports) (subst (All (λ p. PathLeadsTo p.1 p.0 (s.top.side importing))) (sym h.imported) l);
 }
 
-group-grows : (q : Name) (c : Context) (w : Group) → Grows q c (apply (group_step c w) c)
-group-grows q c w =
-    let g : Group = closed_group (core_entries c) w in
-    same-grows q (group_step c w) c (tt, types-fit (In (apply (group_step c w) c)) (group_ids c.groups g))
-    (let h = types-same (group_ids c.groups g) (change (interns (grown c.groups g)) c) in record { imported = h.imported; defined = h.defined; imports = h.imports })
+closed-grows : (q : Name) (s : Tree_stack) (g : Group) → StepGrows q s (closed_step tree_reader s.groups g)
+closed-grows q s g =
+    let x : Step tree_reader = closed_step tree_reader s.groups g in
+    same-grows q x s (tt, types-fit (After x s) (group_ids s.groups g))
+    (let h = types-same (group_ids s.groups g) (change (interns (grown s.groups g)) s) in record { imported = h.imported; defined = h.defined; imports = h.imports })
 
-module-grows : (q : Name) (k : Core_space) (i : Name) (c : Context) (o : Option Made) (s : Step) → option_map (module_joins k i) o ≡ Some s → Grows q c (apply s c)
-module-grows q k i c o s e =
-    let m = mapped-some (module_joins k i) o s e in
-    subst (λ (z : Step). Grows q c (apply z c)) m.2
-    (same-grows q (module_joins k i m.0) c (tt, (module-closed (In (apply (module_joins k i m.0) c)) i m.0.1, tt)) (record { imported = refl; defined = refl; imports = refl }))
+module-grows : (q : Name) (names : Names) (p : Place) (k : Core_space) (s : Tree_stack) (o : Option Made) (x : Step tree_reader) → option_map (module_joins (tree_maker names p) k) o ≡ Some x → StepGrows q s x
+module-grows q names p k s o x e =
+    let m = mapped-some (module_joins (tree_maker names p) k) o x e in
+    subst (StepGrows q s) m.2
+    (same-grows q (module_joins (tree_maker names p) k m.0) s (tt, (module-closed (After (module_joins (tree_maker names p) k m.0) s) (names.identity (introduced p)) m.0.1, tt)) (record { imported = refl; defined = refl; imports = refl }))
 
-core_type-grows : (names : Names) (p : Place) (sc : Scope) (c : Context) (t : Core_type_form) (s : Step) → core_type_step names p sc c t ≡ Some s → Grows (names.resource (introduced p)) c (apply s c)
-core_type-grows names p sc c (core_rec w) s e = subst (λ (z : Step). Grows (names.resource (introduced p)) c (apply z c)) (some-inj e) (group-grows (names.resource (introduced p)) c (written_group w))
-core_type-grows names p sc c (core_module_type ds) s e =
-    module-grows (names.resource (introduced p)) core_types (names.identity (introduced p)) c (all_declared (outer_entries sc c) c.groups (empty_module sc.features) ds) s e
+core_type-grows : (fs : WasmFeatures) (q : Name) (names : Names) (p : Place) (s : Tree_stack) (t : Core_type_form) (x : Step tree_reader) → core_type_step fs (tree_maker names p) s t ≡ Some x → StepGrows q s x
+core_type-grows fs q names p s (core_rec w) x e = go (is_closable s.groups (core_entries s.top) (written_group w)) e
+  where
+    go : (b : Bool) → cond b (Some (closed_step tree_reader s.groups (closed_group (core_entries s.top) (written_group w)))) None ≡ Some x → StepGrows q s x
+    go true k = subst (StepGrows q s) (some-inj k) (closed-grows q s (closed_group (core_entries s.top) (written_group w)))
+    go false k = cc
+core_type-grows fs q names p s (core_module_type ds) x e = module-grows q names p core_types s (core_type_made fs s (core_module_type ds)) x e
 
 -- ## Items
 
-pub step-grows : (names : Names) (p : Place) (sc : Scope) (c : Context) (x : Form) (s : Step) → step names p sc c x ≡ Some s → Grows (names.resource (introduced p)) c (apply s c)
-step-grows names p sc c (type_item t) s e = type-grows names p sc c t s e
-step-grows names p sc c (import_item i) s e =
-    let m = mapped-some (enters importing (extern_name i.name)) (written names p sc c i.ty) s e in
-    subst (λ (z : Step). Grows (names.resource (introduced p)) c (apply z c)) m.2 (import-grows names p sc c (extern_name i.name) i.ty m.0 m.1)
-step-grows names p sc c (export_item x) s e =
-    let m = mapped-some (enters exporting (extern_name x.name)) (exported names p sc c x) s e in
-    subst (λ (z : Step). Grows (names.resource (introduced p)) c (apply z c)) m.2 (export-grows names p c (extern_name x.name) x.kind x.index m.0 m.1)
-step-grows names p sc c (core_type_item t) s e = core_type-grows names p sc c t s e
-step-grows names p sc c (core_module_item ds) s e = module-grows (names.resource (introduced p)) core_modules (names.identity (introduced p)) c (all_declared [] c.groups (empty_module sc.features) ds) s e
-step-grows names p sc c (core_instance_item i) s e = cc
-step-grows names p sc c (component_item is end) s e = cc
-step-grows names p sc c (instance_item i) s e = cc
-step-grows names p sc c (alias_item a) s e = cc
-step-grows names p sc c (start_item k args results) s e = cc
-step-grows names p sc c (canon_item k) s e = cc
-step-grows names p sc c unread s e = cc
+pub step-grows : (fs : WasmFeatures) (names : Names) (p : Place) (s : Tree_stack) (f : Form) (x : Step tree_reader) → step fs (tree_maker names p) s f ≡ Some x → StepGrows (names.resource (introduced p)) s x
+step-grows fs names p s (type_item t) x e = type-grows names p s t x e
+step-grows fs names p s (import_item i) x e =
+    let m = mapped-some (enters importing (extern_name i.name)) (written (tree_maker names p) s.top i.ty) x e in
+    subst (StepGrows (names.resource (introduced p)) s) m.2 (import-grows names p s (extern_name i.name) i.ty m.0 m.1)
+step-grows fs names p s (export_item i) x e =
+    let m = mapped-some (enters exporting (extern_name i.name)) (exported (tree_maker names p) s.top i) x e in
+    subst (StepGrows (names.resource (introduced p)) s) m.2 (export-grows names p s (extern_name i.name) i.kind i.index m.0 m.1)
+step-grows fs names p s (core_type_item t) x e = core_type-grows fs (names.resource (introduced p)) names p s t x e
+step-grows fs names p s (core_module_item ds) x e = module-grows (names.resource (introduced p)) names p core_modules s (core_module_made fs s ds) x e
+step-grows fs names p s (core_instance_item i) x e = cc
+step-grows fs names p s (component_item is end) x e = cc
+step-grows fs names p s (instance_item i) x e = cc
+step-grows fs names p s (alias_item a) x e = cc
+step-grows fs names p s (start_item k args results) x e = cc
+step-grows fs names p s (canon_item k) x e = cc
+step-grows fs names p s unread x e = cc

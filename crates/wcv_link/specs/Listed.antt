@@ -4,8 +4,8 @@ use Rattle.std.specs.Prelude.{ℕ, List, [], ◌++◌, true, Contains, ◌≡◌
 use Rattle.wcv_core.specs.Names.{Name, same}
 use Rattle.wcv_types.specs.Paths.{PathLeadsTo}
 use Rattle.wcv_types.specs.Tree.{Head, component, firsts, head, imports, exports}
-use Rattle.wcv_lower.specs.Context.{Type_tree, Entries}
 use Rattle.wcv_lower.specs.Ending.{is_free_among}
+use Rattle.wcv_lower.specs.Trees.{Type_tree, Entries, tree_reader}
 
 -- the resources that a component node imports, each with its path
 abbrev pub imported_paths : Head Name Name → List (Name × List ℕ)
@@ -32,8 +32,8 @@ IsDefined r t = IsListed r (defined_paths (head t)) (exports t)
 -- each resource that is free in its entries is imported or defined, and none is both
 pub record ListsResources (t : Type_tree) : Type 0 where
   -- one that is free in an import is imported
-  pub in_imports : (r : Name) → is_free_among r (imports t) ≡ true → IsImported r t
-  pub in_exports : (r : Name) → is_free_among r (exports t) ≡ true → IsImported r t ⊎ IsDefined r t
+  pub in_imports : (r : Name) → is_free_among tree_reader r (imports t) ≡ true → IsImported r t
+  pub in_exports : (r : Name) → is_free_among tree_reader r (exports t) ≡ true → IsImported r t ⊎ IsDefined r t
   pub apart : (r : Name) → IsImported r t → IsDefined r t → ⊥
   -- no resource is listed twice
   pub once : IsDistinct same (firsts (imported_paths (head t) ++ defined_paths (head t)))

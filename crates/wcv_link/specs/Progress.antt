@@ -9,13 +9,13 @@ use Rattle.wcv_syntax.specs.Model.{Form, Items, no_items, next_item}
 use Rattle.wcv_types.specs.Arena.{Arena}
 use Rattle.wcv_types.specs.Standing.{Extends}
 use Rattle.wcv_lower.specs.Checks.{IsFree}
-use Rattle.wcv_lower.specs.Context.{Context, Scope}
 use Rattle.wcv_lower.specs.Given.{GivenNames, names_of, no_numbers, GivesAt}
 use Rattle.wcv_lower.specs.Growth.{grow, checks}
 use Rattle.wcv_lower.specs.Names.{Names, Under}
-use Rattle.wcv_state.specs.Contents.{Contents, context_of, scope_of, StateStands}
+use Rattle.wcv_lower.specs.Trees.{Tree_stack, tree_maker}
+use Rattle.wcv_state.specs.Contents.{Contents, stack_of, StateStands}
 use Rattle.wcv_state.specs.Promises.{numbers_of, MemoryOrCausedBy}
-use Rattle.wcv_link.specs.Valid.{start, around_root, Refused}
+use Rattle.wcv_link.specs.Valid.{start, Refused}
 
 -- the state may be used, and its ids stand in the arena
 pub record IsReady (a : Arena) (s : Contents) : Type 0 where
@@ -24,32 +24,39 @@ pub record IsReady (a : Arena) (s : Contents) : Type 0 where
 
 -- ## One item
 
--- the state grew by the item at that place, by names that the arena gave
+-- the state grew by the item at that place, by names that the arena gave, and the item has no cause
 pub record GrewAt (a b : Arena) (s s' : Contents) (f : Form) (p : Place) : Type 0 where
   pub names : GivenNames
   pub given : GivesAt (Under p) (numbers_of a) (numbers_of b) names
-  pub grown : grow (names_of names) p (scope_of s []) (context_of a s) f ≡ Some (context_of b s')
+  pub grown : grow s.features (tree_maker (names_of names) p) (stack_of a s []) f ≡ Some (stack_of b s' [])
+  pub free : IsFree (checks s.features (tree_maker (names_of names) p) (stack_of a s []) f)
 
--- an item was accepted: it has no cause
+-- an item was accepted, at whatever place
 pub record AcceptsItem (a b : Arena) (s s' : Contents) (f : Form) : Type 0 where
   pub grew : (p : Place) → GrewAt a b s s' f p
-  pub free : IsFree (checks (scope_of s []) (context_of a s) f)
   pub ready : IsReady b s'
   pub arena : Extends a b
   pub features : s'.features ≡ s.features
 
--- the item was refused by a cause of it, or out of memory
-abbrev pub RefusesItem : {M : Type 0} → Arena → Contents → Form → ℕ → Error M → Type 0
-RefusesItem a s f offset e = MemoryOrCausedBy (checks (scope_of s []) (context_of a s) f) offset e
+-- the error is out of memory, or a cause of the item at that place by names that the arena gave
+pub record RefusedAt {M : Type 0} (a b : Arena) (s : Contents) (f : Form) (p : Place) (offset : ℕ) (e : Error M) : Type 0 where
+  pub names : GivenNames
+  pub given : GivesAt (Under p) (numbers_of a) (numbers_of b) names
+  pub caused : MemoryOrCausedBy (checks s.features (tree_maker (names_of names) p) (stack_of a s []) f) offset e
+
+-- an item was refused so, at whatever place
+pub record RefusesItem {M : Type 0} (a b : Arena) (s : Contents) (f : Form) (offset : ℕ) (e : Error M) : Type 0 where
+  pub refused : (p : Place) → RefusedAt a b s f p offset e
+  pub arena : Extends a b
 
 -- ## The items so far
 
--- the items from position k on were read without a cause as far as position n, where the context is d and these are left
-abbrev pub ValidAsFar : Names → Place → Scope → ℕ → Context → Items → ℕ → Context → Items → Type 0
-ValidAsFar names w sc k c no_items n d left = (n ≡ k) × (d ≡ c) × (left ≡ no_items)
-ValidAsFar names w sc k c (next_item at f is) n d left =
-    ((n ≡ k) × (d ≡ c) × (left ≡ next_item at f is)) ⊎
-    (IsFree (checks sc c f) × ((b : Context) × (grow names (deeper w k) sc c f ≡ Some b) × ValidAsFar names w sc (suc k) b is n d left))
+-- the items from position k on were read without a cause as far as position n, where the stack is t and these are left
+abbrev pub ValidAsFar : WasmFeatures → Names → Place → ℕ → Tree_stack → Items → ℕ → Tree_stack → Items → Type 0
+ValidAsFar fs names w k s no_items n t left = (n ≡ k) × (t ≡ s) × (left ≡ no_items)
+ValidAsFar fs names w k s (next_item at f is) n t left =
+    ((n ≡ k) × (t ≡ s) × (left ≡ next_item at f is)) ⊎
+    (IsFree (checks fs (tree_maker names (deeper w k)) s f) × ((u : Tree_stack) × (grow fs (tree_maker names (deeper w k)) s f ≡ Some u) × ValidAsFar fs names w (suc k) u is n t left))
 
 -- in an item of the list that stands before position k
 abbrev pub Before : Place → ℕ → Place → Type 0
@@ -61,7 +68,7 @@ pub record ValidSoFar (a : Arena) (s : Contents) (k : ℕ) (features : WasmFeatu
   pub features_are : s.features ≡ features
   pub names : GivenNames
   pub given : GivesAt (Before [] k) no_numbers (numbers_of a) names
-  pub reads : ValidAsFar (names_of names) [] (around_root features) 0 start is k (context_of a s) left
+  pub reads : ValidAsFar features (names_of names) [] 0 start is k (stack_of a s []) left
 
 -- the root was refused by a cause where it is refused, or out of memory
 abbrev pub MemoryOrRefused : {M : Type 0} → WasmFeatures → Items → ℕ → Error M → Type 0

@@ -20,7 +20,7 @@ pub fn read_core_type(
 ) -> Result<(), Error>
     requires { IsReady types.old state.old }
     ensures ok { OnOk result (AcceptsItem types.old types.new state.old state.new (core_type_item (core_type_view ty))) }
-    ensures err { IfErr result (RefusesItem types.old state.old (core_type_item (core_type_view ty)) offset) }
+    ensures err { IfErr result (RefusesItem types.old types.new state.old (core_type_item (core_type_view ty)) offset) }
 {
     check_core_limits(&ty, offset)?;
     ComponentState::add_core_type(from_mut(state), ty, types, offset)
@@ -35,7 +35,7 @@ pub fn read_core_module(
 ) -> Result<(), Error>
     requires { IsReady types.old state.old }
     ensures ok { OnOk result (AcceptsItem types.old types.new state.old state.new (core_module_item (map code_decl_view decls.items))) }
-    ensures err { IfErr result (RefusesItem types.old state.old (core_module_item (map code_decl_view decls.items)) offset) }
+    ensures err { IfErr result (RefusesItem types.old types.new state.old (core_module_item (map code_decl_view decls.items)) offset) }
 {
     check_core_module_limits(&decls, state, types, offset)?;
     add_core_module_to(decls, state, types, offset)

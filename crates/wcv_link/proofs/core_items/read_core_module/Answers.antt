@@ -6,16 +6,16 @@ use Rattle.wcv_syntax.specs.declared.core_section.ModuleDecl.{ModuleDecl}
 use Rattle.wcv_lower.specs.Checks.{IsFree}
 use Rattle.wcv_lower.specs.CoreItems.{core_module_left}
 use Rattle.wcv_state.specs.Promises.{MemoryOrCausedBy}
-use Rattle.wcv_state.specs.Contents.{context_of, scope_of}
+use Rattle.wcv_state.specs.Contents.{context_of}
 use Rattle.wcv_core.proofs.Closing.{caused_same}
-use Rattle.wcv_link.proofs.Steps.{call_caused, left_caused, item_read}
+use Rattle.wcv_link.proofs.Steps.{item_read, item_refused, built_refused}
 use Rattle.wcv_link.proofs.core_items.read_core_module.Goals as goal
 
 pub returns-in_err-check_core_module_limits-clause-err : goal.returns-in_err-check_core_module_limits-clause-err
 returns-in_err-check_core_module_limits-clause-err c =
     let p = err_from_is_err_and c.from_residual.result c.from_residual.ensures.1 in
     rw p.1
-    (left_caused (scope_of c.args.state.now []) (context_of c.args.types.now c.args.state.now) (core_module_item (map code_decl_view c.args.decls.items)) c.args.offset p.0 refl
+    (built_refused c.args.types.now c.args.state.now (core_module_item (map code_decl_view c.args.decls.items)) c.args.offset p.0 refl
     (subst (λ (ds : List ModuleDecl). MemoryOrCausedBy (core_module_left (context_of c.args.types.now c.args.state.now) (map code_decl_view ds)) c.args.offset p.0) c.deref.ensures.value
     (caused_same (core_module_left (context_of c.args.types.now c.args.state.now) (map code_decl_view c.deref.result.now)) c.args.offset c.in_err-check_core_module_limits.field-0.0 p.0 p.2.0 p.2.1 c.in_err-check_core_module_limits.ensures.err)))
 
@@ -30,5 +30,5 @@ returns-clause-ok c =
 pub returns-clause-err : goal.returns-clause-err
 returns-clause-err c =
     IfErr-weaker c.add_core_module_to.result _ _
-    (λ e g. call_caused (scope_of c.args.state.now []) (context_of c.args.types.now c.args.state.now) (core_module_item (map code_decl_view c.args.decls.items)) c.args.offset e (g []).1)
+    (λ e g. item_refused c.args.types.now c.add_core_module_to.new.types c.args.state.now (core_module_item (map code_decl_view c.args.decls.items)) c.args.offset e c.add_core_module_to.ensures.keeps.arena (λ p. (g [] p).1))
     c.add_core_module_to.ensures.err

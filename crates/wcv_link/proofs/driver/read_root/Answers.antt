@@ -1,4 +1,4 @@
-use Rattle.std.proofs.Common.{arith, ◌≡◌, ◌∙◌, sym, ap, ℕ, suc, List, [], ◌∷◌, ◌++◌, subst, refl, length}
+use Rattle.std.proofs.Common.{arith, ◌≡◌, ◌∙◌, sym, ap, ℕ, suc, List, [], ◌∷◌, ◌++◌, subst, length}
 use Rattle.std.specs.Vec.Iter.{into_iter_items}
 use Rattle.std.proofs.lemmas.List.{nil_from_length, length-append}
 use Rattle.std.proofs.lemmas.Result.{err_from_is_err_and}
@@ -31,7 +31,7 @@ returns-in_err-read_item-clause-err c =
     let x = item_view c.in-Some.item in
     let left = ap items_view c.in-Some.ensures.steps.0 in
     rw (p.1, p.2)
-    (refused_one c.loop-item.types c.loop-item.state (length c.loop-item.yielded) c.args.state.now.features items (items_view (into_iter_items c.next.new.self)) x.offset x.form c.args.end c.in_err-read_item.field-0.0
+    (refused_one c.loop-item.types c.read_item.new.types c.loop-item.state (length c.loop-item.yielded) c.args.state.now.features items (items_view (into_iter_items c.next.new.self)) x.offset x.form c.args.end c.in_err-read_item.field-0.0
     (subst (λ (z : Items). ValidSoFar c.loop-item.types c.loop-item.state (length c.loop-item.yielded) c.args.state.now.features items z) left c.loop-item.invariant.read) c.in_err-read_item.ensures.err)
 
 pub loop-item-preserved : goal.loop-item-preserved
@@ -65,12 +65,11 @@ finish-requires c = record { live = c.loop-item.invariant.read.ready.live; stand
 pub returns-in-Err-clause-err : goal.returns-in-Err-clause-err
 returns-in-Err-clause-err c =
     let left = into_iter_items c.loop-item.item-iterator in
-    refused_end c.loop-item.types c.loop-item.state c.finish.new.self (length c.loop-item.yielded) c.args.state.now.features (items_view c.args.items.items) (items_view left) c.args.end c.in-Err.error
-    c.loop-item.invariant.read (ended left _ c.loop-item.invariant.left c.in-None.ensures.steps.0) c.in-Err.ensures.err
+    refused_end c.loop-item.types c.loop-item.state (length c.loop-item.yielded) c.args.state.now.features (items_view c.args.items.items) (items_view left) c.loop-item.invariant.read c.finish.new.self c.args.end c.in-Err.error (ended left _ c.loop-item.invariant.left c.in-None.ensures.steps.0) c.in-Err.ensures.err
 
 pub returns-in-Ok-clause-ok : goal.returns-in-Ok-clause-ok
 returns-in-Ok-clause-ok c = λ a types state ty none.
     let left = into_iter_items c.loop-item.item-iterator in
     read_all c.loop-item.types c.loop-item.state (length c.loop-item.yielded) c.args.state.now.features (items_view c.args.items.items) (items_view left) c.loop-item.invariant.read a types
     (ended left _ c.loop-item.invariant.left c.in-None.ensures.steps.0) (state ∙ c.in-Ok.ensures.after)
-    (λ outer. subst (λ (z : ComponentType). Finished c.loop-item.types outer c.loop-item.state z) (sym ty) (c.in-Ok.ensures.ok outer)) none
+    (subst (λ (z : ComponentType). Finished c.loop-item.types c.loop-item.state z) (sym ty) c.in-Ok.ensures.ok) none

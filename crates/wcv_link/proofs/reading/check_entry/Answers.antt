@@ -1,5 +1,5 @@
 use Rattle.std.proofs.Common.{cond, subst, sym}
-use Rattle.std.specs.Prelude.{Bool, IfErr}
+use Rattle.std.specs.Prelude.{Bool}
 use Rattle.std.proofs.lemmas.Result.{err_from_is_err_and}
 use Rattle.wcv_lower.specs.Checks.{texts_of, each_too_long, Checks}
 use Rattle.wcv_lower.specs.Entries.{extern_name}
