@@ -1,8 +1,7 @@
 -- The ids that a list of types names, one type after another.
-use Rattle.std.proofs.Common.{◌≡◌, ℕ, ◌+◌, ◌<◌, ◌≤◌, List, ◌++◌, length, get_or, drop, sym, ◌∙◌, ap, append_assoc, append-nil}
-use Rattle.std.proofs.Math.ListN.{drop_of_length-le}
+use Rattle.std.proofs.Common.{◌≡◌, ℕ, ◌+◌, ◌<◌, List, ◌++◌, length, get_or, drop, sym, ◌∙◌, ap, append_assoc}
 use Rattle.std.proofs.lemmas.List.{drop_more}
-use Rattle.wcv_types.specs.CoreText.{all_ids}
+use Rattle.wcv_core.specs.CoreIds.{all_ids}
 
 -- one more
 pub next_ids : {A : Type 0} (f : A → List ℕ) (ids next all : List ℕ) (i : ℕ) (x : A) (xs : List A) → i < length xs → next ≡ ids ++ f (get_or xs i x) →
@@ -10,7 +9,3 @@ pub next_ids : {A : Type 0} (f : A → List ℕ) (ids next all : List ℕ) (i : 
 next_ids {A} f ids next all i x xs within p h =
     ap (λ (y : List ℕ). y ++ all_ids f (drop (i + 1) xs)) p ∙ append_assoc ids (f (get_or xs i x)) (all_ids f (drop (i + 1) xs)) ∙
     sym (ap (λ (ys : List A). ids ++ all_ids f ys) (drop_more xs i x within)) ∙ h
-
--- all
-pub last_ids : {A : Type 0} (f : A → List ℕ) (ids all : List ℕ) (i : ℕ) (xs : List A) → length xs ≤ i → ids ++ all_ids f (drop i xs) ≡ all → ids ≡ all
-last_ids {A} f ids all i xs past h = sym (append-nil ids) ∙ sym (ap (λ (ys : List A). ids ++ all_ids f ys) (drop_of_length-le xs past)) ∙ h

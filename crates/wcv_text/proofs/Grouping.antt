@@ -9,12 +9,14 @@ use Rattle.std.proofs.lemmas.Option.{get_or_from_slice_get, slice_get_within}
 use Rattle.wcv_core.specs.CoreForm.{Group}
 use Rattle.wcv_core.specs.CoreGroups.{place_from}
 use Rattle.wcv_core.specs.declared.core_types.CoreTypeId.{CoreTypeId}
-use Rattle.wcv_types.specs.CoreText.{group_text, ids_in_group, group_first, group_at, older_ids}
+use Rattle.wcv_core.specs.CoreIds.{ids_in_group}
+use Rattle.wcv_types.specs.CoreText.{group_text, group_first, group_at, older_ids}
 use Rattle.wcv_types.specs.Text.{Written, line_text, has_group, with_group, with_new_group, write_group, write_groups}
 use Rattle.wcv_types.specs.Tree.{Text}
 use Rattle.wcv_text.specs.Numbers.{written, Shows}
 use Rattle.wcv_text.specs.declared.numbers.Numbers.{Numbers}
 use Rattle.wcv_text.specs.Groups.{done, all_done, visit_steps, steps_of, all_steps}
+use Rattle.wcv_text.proofs.Folds.{piece_shown}
 use Rattle.wcv_text.specs.declared.groups.Step.{Step}
 use Rattle.wcv_text.specs.declared.groups.Step.TheVariants as step
 
@@ -97,11 +99,7 @@ steps_enough (suc k) (suc m) gs i h l =
 
 -- ## Visits
 
--- of a type whose group has a line
-pub visit_old : (w : Written) (i : ℕ) → has_group w i ≡ true → write_group (suc i) w i ≡ w
-visit_old w i e = ap (λ (b : Bool). cond b w (with_new_group (fold (write_group i) w (older_ids w.core i)) i)) e
-
--- of one whose group has none
+-- of a type whose group has no line
 pub visit_new : (w : Written) (i : ℕ) → has_group w i ≡ false → write_group (suc i) w i ≡ with_new_group (write_groups w (older_ids w.core i)) i
 visit_new w i e =
     ap (λ (b : Bool). cond b w (with_new_group (fold (write_group i) w (older_ids w.core i)) i)) e ∙
@@ -113,21 +111,10 @@ pub visit_longer : (gs : List Group) (i : ℕ) → visit_steps (suc i) gs i ≡ 
 visit_longer gs i =
     ap (λ (n : ℕ). suc (suc n)) (sum_agrees i (visit_steps i gs) (λ j. visit_steps (suc j) gs j) (λ j q. steps_enough i (suc j) gs j q (omega arith)) (older_ids gs i) (older_below gs i))
 
--- each visit takes a step
-pub one_step : (gs : List Group) (s : Step) → 1 ≤ steps_of gs s
-one_step gs (step.Visit i) = omega arith
-one_step gs (step.Line i) = omega arith
-
 -- ## The line of a group
 
-pub line_old : (w : Written) (i : ℕ) → has_group w i ≡ true → with_new_group w i ≡ w
-line_old w i e = ap (λ (b : Bool). cond b w (with_group w i)) e
-
-pub line_new : (w : Written) (i : ℕ) → has_group w i ≡ false → with_new_group w i ≡ with_group w i
-line_new w i e = ap (λ (b : Bool). cond b w (with_group w i)) e
-
 -- it is appended
-pub group_shown : (old new : Numbers) (before text next : Text) (w : Written) (i : ℕ) →
+pub group_shown : (old new : Numbers) (before : Text × Text) (text next : Text) (w : Written) (i : ℕ) →
     ((x : Text) → next ≡ text ++ (codes "g" ++ line_text (length (written old x).groups) (group_text (written old x).core (written old x).groups (group_at (written old x).core i)))) →
     ((x : Text) → written new x ≡ record (written old x) { groups = (written old x).groups ++ group_first (written old x).core i ∷ [] }) →
     Shows old before text w → Shows new before next (with_group w i)
@@ -136,7 +123,7 @@ group_shown old new before text next w i said added h =
     let line : Written → Text = λ v. line_text (length v.groups) (group_text v.core v.groups (group_at v.core i)) in
     let u : Written = written old x in
     subst (λ (z : Written). Shows new before next (with_group z i)) (sym h.numbers_are) (record {
-      text_is = said x ∙ ap (λ (y : Text). y ++ (codes "g" ++ line u)) h.text_is ∙ append_assoc before x (codes "g" ++ line u) ∙ ap (λ (y : Text). before ++ y) (sym (append_assoc x (codes "g") (line u)));
+      text_is = piece_shown before.0 before.1 text next x (codes "g" ++ line u) (said x) h.text_is ∙ ap (λ (y : Text). before.1 ++ y) (sym (append_assoc x (codes "g") (line u)));
       numbers_are = sym (added (x ++ codes "g" ++ line u));
     })
 

@@ -41,11 +41,11 @@ group_keeps (suc k) w i = go (has_group w i) (new_group_keeps older i ∙ fold_k
     go true h = refl
     go false h = h
 
-items_keep : (es : List EntityType) (w : Written) → (write_items es w).nodes ≡ w.nodes
+pub items_keep : (es : List EntityType) (w : Written) → (write_items es w).nodes ≡ w.nodes
 items_keep [] w = refl
 items_keep (e ∷ es) w = items_keep es (write_groups w (item_ids e)) ∙ fold_keeps (λ v i. write_group (suc i) v i) (λ v i. group_keeps (suc i) v i) w (item_ids e)
 
 pub nodes_stay : (old new : Numbers) (text next : Text) (es : List EntityType) → Writes old text new next (write_items es) → (written new []).nodes ≡ (written old []).nodes
 nodes_stay old new text next es h =
-    let shown = h [] (written old text) (record { text_is = refl; numbers_are = refl }) in
+    let shown = h ([], []) (written old text) (record { text_is = refl; numbers_are = refl }) in
     sym (ap (λ (v : Written). v.nodes) shown.numbers_are) ∙ items_keep es (written old text)

@@ -1,5 +1,5 @@
 -- The own line of a node.
-use Rattle.std.proofs.Common.{◌≡◌, ℕ, List, [], ◌∷◌, ◌++◌, length, refl, sym, ◌∙◌, ap, subst, append_assoc, Bool, true, false, cond, Option, Some}
+use Rattle.std.proofs.Common.{◌≡◌, ℕ, List, [], ◌∷◌, ◌++◌, length, refl, sym, ◌∙◌, ap, subst, Bool, true, false, cond, Option, Some}
 use Rattle.std.specs.Prelude.{slice_get}
 use Rattle.std.proofs.lemmas.List.Elements.{All-get_or}
 use Rattle.std.proofs.lemmas.Option.{get_or_from_slice_get, slice_get_within}
@@ -16,11 +16,12 @@ use Rattle.wcv_text.specs.EntryList.{write_items}
 use Rattle.wcv_text.specs.Nodes.{form_of, items_at, own_line, write_all}
 use Rattle.wcv_text.specs.Numbers.{written, Shows}
 use Rattle.wcv_text.specs.declared.numbers.Numbers.{Numbers}
+use Rattle.wcv_text.proofs.Folds.{piece_shown}
 use Rattle.wcv_text.proofs.Parts.{parts_written}
 
 -- ## Numbers of resources leave the lines alone
 
-resource_keeps : (w : Written) (r : Name) → (with_resource w r).nodes ≡ w.nodes
+pub resource_keeps : (w : Written) (r : Name) → (with_resource w r).nodes ≡ w.nodes
 resource_keeps w r = go _
   where
     go : (b : Bool) → (cond b w (record w { resources = w.resources ++ r ∷ [] })).nodes ≡ w.nodes
@@ -52,7 +53,7 @@ resources_keep w (core_item e) = refl
 -- ## The line
 
 -- the line of a type is appended
-pub line_shown : (old mid new : Numbers) (before text next : Text) (w : Written) (number : ℕ) (q : Part) (t : Type_tree) →
+pub line_shown : (old mid new : Numbers) (before : Text × Text) (text next : Text) (w : Written) (number : ℕ) (q : Part) (t : Type_tree) →
     number ≡ length (written old []).nodes → ((x : Text) → written mid x ≡ with_resources (written old x) (head t)) →
     ((x : Text) → next ≡ text ++ line_text number (form_of (written mid x) t)) →
     ((x : Text) → written new x ≡ record (written mid x) { nodes = (written mid x).nodes ++ identity_of q ∷ [] }) →
@@ -63,8 +64,7 @@ line_shown old mid new before text next w number q t count given said added h =
     let same : with_resources w (head t) ≡ u = ap (λ (z : Written). with_resources z (head t)) h.numbers_are ∙ sym (given x) in
     let here : number ≡ length u.nodes = count ∙ sym (ap (λ (z : Written). length z.nodes) (given x) ∙ ap length (resources_keep (written old x) (head t))) in
     subst (λ (z : Written). Shows new before next (with_line z (identity_of q) (head t) (parts t))) (sym same) (record {
-      text_is = said x ∙ ap (λ (k : ℕ). text ++ line_text k (form_of u t)) here ∙ ap (λ (y : Text). y ++ line_text (length u.nodes) (form_of u t)) h.text_is ∙
-          append_assoc before x (line_text (length u.nodes) (form_of u t));
+      text_is = piece_shown before.0 before.1 text next x (line_text (length u.nodes) (form_of u t)) (said x ∙ ap (λ (k : ℕ). text ++ line_text k (form_of u t)) here) h.text_is;
       numbers_are = sym (added (x ++ line_text (length u.nodes) (form_of u t)));
     })
 

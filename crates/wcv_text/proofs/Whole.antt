@@ -1,6 +1,8 @@
 -- The text of a whole component type.
-use Rattle.std.proofs.Common.{◌≡◌, List, [], ◌∷◌, ℕ, codes, map, refl, sym, ◌∙◌, ap, append-nil}
-use Rattle.wcv_core.specs.CoreForm.{Group}
+use Rattle.std.proofs.Common.{◌≡◌, ◌+◌, ◌<◌, List, [], ◌∷◌, ℕ, codes, drop, get_or, length, map, refl, sym, ◌∙◌, ap}
+use Rattle.std.specs.Prelude.{All}
+use Rattle.std.proofs.lemmas.List.{drop_more}
+use Rattle.std.proofs.lemmas.List.Elements.{All-nil}
 use Rattle.wcv_core.specs.Names.{Name}
 use Rattle.wcv_types.specs.Arena.{Arena}
 use Rattle.wcv_types.specs.ComponentTrees.{resource_path, root_tree}
@@ -12,7 +14,9 @@ use Rattle.wcv_types.specs.declared.component_type.ComponentType.{ComponentType}
 use Rattle.wcv_types.specs.declared.ids.ResourceId.{ResourceId}
 use Rattle.wcv_types.specs.declared.item_map.ComponentItem.{ComponentItem}
 use Rattle.wcv_text.specs.Entries.{write_entry, write_list, write_path, write_path_list, write_lines}
-use Rattle.wcv_text.specs.Numbers.{written, Shows}
+use Rattle.wcv_text.specs.LineList.{Adds, LineStands, Lists, rest_of, say, say_all}
+use Rattle.wcv_text.specs.Numbers.{written}
+use Rattle.wcv_text.specs.declared.line_list.Line.{Line}
 use Rattle.wcv_text.specs.declared.numbers.Numbers.{Numbers}
 
 imports_written : (ts : List Type_tree) (w : Written) (es : List (Text × ComponentItem)) (rest : Parts Name Name) →
@@ -39,6 +43,26 @@ all_said a ty =
     ap (λ (w : Written). write_paths (codes "defined ") w (map resource_path ty.defined_resources)) (paths_written (codes "imported ") _ ty.imported_resources) ∙
     paths_written (codes "defined ") _ ty.defined_resources)
 
--- nothing is written yet
-pub nothing_shown : (gs : List Group) (numbers : Numbers) (before : Text) → written numbers [] ≡ nothing_written gs → Shows numbers before before (nothing_written gs)
-nothing_shown gs numbers before h = record { text_is = sym (append-nil before); numbers_are = sym h }
+-- ## The lines of the whole text
+
+module _ (a : Arena) (ty : ComponentType) (lines : List Line) (empty seen : Numbers) (fresh : written empty [] ≡ nothing_written a.core) (listed : Adds a ty empty [] seen lines (write_lines a ty)) where
+  all_listed : Lists a ty seen lines (nothing_written a.core) (write_lines a ty (nothing_written a.core))
+  all_listed = listed (nothing_written a.core) (nothing_written a.core) (record {
+    said = refl;
+    nodes = sym (ap (λ (w : Written). w.nodes) fresh);
+    stand = All-nil (LineStands a);
+  })
+
+  pub all_stand : All (LineStands a) lines
+  all_stand = all_listed.stand
+
+  pub all_left : (numbers : Numbers) → written numbers [] ≡ nothing_written a.core → type_text a.core (root_tree a ty) ≡ (rest_of a ty lines 0 (written numbers [])).text
+  all_left numbers new = all_said a ty ∙ ap (λ (w : Written). w.text) all_listed.said ∙ ap (λ (w : Written). (say_all a ty lines w).text) (sym new)
+
+-- the next line is said
+pub next_left : (a : Arena) (ty : ComponentType) (lines : List Line) (at : ℕ) (l : Line) (old new : Numbers) (said : Text) → at < length lines → l ≡ get_or lines at l →
+    say a ty l (written old said) ≡ written new (say a ty l (written old said)).text →
+    (rest_of a ty lines at (written old said)).text ≡ (rest_of a ty lines (at + 1) (written new (say a ty l (written old said)).text)).text
+next_left a ty lines at l old new said within is same =
+    let w : Written = written old said in
+    ap (λ (ls : List Line). (say_all a ty ls w).text) (drop_more lines at l within ∙ ap (λ (x : Line). x ∷ drop (at + 1) lines) (sym is)) ∙ ap (λ (u : Written). (say_all a ty (drop (at + 1) lines) u).text) same

@@ -20,14 +20,14 @@ first_of i = i.index
 abbrev pub written : Numbers → Text → Written
 written n text = record { core = n.core.now; groups = map first_of n.groups; nodes = map known n.nodes; resources = map name_of n.resources; text = text }
 
--- the text stands behind what stood there before, and the numbers are those that were given
-pub record Shows (numbers : Numbers) (before text : Text) (w : Written) : Type 0 where
-  pub text_is : text ≡ before ++ w.text
+-- the text, behind what was handed on before it, is what has been written, behind what was said before that; and the numbers are those that were given
+pub record Shows (numbers : Numbers) (before : Text × Text) (text : Text) (w : Written) : Type 0 where
+  pub text_is : before.0 ++ text ≡ before.1 ++ w.text
   pub numbers_are : w ≡ written numbers w.text
 
 -- where the text showed what was written so far, it now shows what the step makes of that
 abbrev pub Writes : Numbers → Text → Numbers → Text → (Written → Written) → Type 0
-Writes numbers text more next step = (before : Text) (w : Written) → Shows numbers before text w → Shows more before next (step w)
+Writes numbers text more next step = (before : Text × Text) (w : Written) → Shows numbers before text w → Shows more before next (step w)
 
 -- a piece of a line is appended, which says the same whatever text stands before it
 abbrev pub Appends : Numbers → Text → Text → (Written → Text) → Type 0

@@ -1,7 +1,8 @@
 // The core types that others name, by their ids.
 ghost use Rattle.std.specs.Prelude.{◌≡◌, ◌∷◌, ◌++◌, [], ◌<◌, length, map, slice_get, Some, Option, OnOk, IfOk};
 ghost use Rattle.wcv_core.specs.CoreForm.{composite_form, sub_form};
-ghost use Rattle.wcv_types.specs.CoreText.{all_ids, heap_ids, val_ids, storage_ids, field_ids, composite_ids, super_ids, sub_ids, ids_in_group, item_ids, group_at, older_ids};
+ghost use Rattle.wcv_core.specs.CoreIds.{all_ids, heap_ids, val_ids, storage_ids, field_ids, composite_ids, super_ids, sub_ids, ids_in_group};
+ghost use Rattle.wcv_types.specs.CoreText.{item_ids, group_at, older_ids};
 
 use crate::core_place::place;
 use std::alloc::{AllocError, Global};

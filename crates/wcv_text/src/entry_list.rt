@@ -5,7 +5,7 @@ ghost use Rattle.wcv_types.specs.Text.{path_text, with_each, with_paths};
 ghost use Rattle.wcv_types.specs.Tree.{Text};
 ghost use Rattle.wcv_types.specs.Unfold.{resource_names, resource_path};
 ghost use Rattle.wcv_text.specs.EntryList.{one_entry, entries_said, own_said, paths_said, instance_said, component_said};
-ghost use Rattle.wcv_text.specs.Mentions.{comma};
+ghost use Rattle.wcv_text.specs.Mentions.{comma, entry_said};
 ghost use Rattle.wcv_text.specs.Numbers.{Appends, name_of, written};
 
 use crate::mentions::{comma_at, push_entity, push_name};
@@ -18,7 +18,7 @@ use wcv_core::Text;
 use wcv_types::{ComponentInstanceType, ComponentItem, ComponentType, ItemMap, Paths, ResourceSet};
 
 /// Appends an entry behind a word.
-pub fn push_entry(
+fn push_entry(
     text: &mut String,
     numbers: &Numbers<'_>,
     word: &str,
@@ -31,6 +31,19 @@ pub fn push_entry(
     text.push_str(" ")?;
     push_entity(text, numbers, entry.1.ty)?;
     push_name(text, entry)
+}
+
+/// Appends the line of an entry whose nodes have lines.
+pub fn push_entry_line(
+    text: &mut String,
+    numbers: &Numbers<'_>,
+    word: &str,
+    entry: &(Text, ComponentItem),
+) -> Result<(), AllocError>
+    ensures { OnOk result (Appends numbers.now (string_bytes text.old) (string_bytes text.new) (entry_said word.now entry.now)) }
+{
+    push_entry(text, numbers, word, entry)?;
+    text.push_str("\n")
 }
 
 /// Appends entries behind a word, with commas between them, the first behind a comma where that is so.

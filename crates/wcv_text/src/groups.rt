@@ -98,7 +98,7 @@ fn take_step(
     steps: &mut Vec<Step>,
     step: Step,
 ) -> Result<(), AllocError>
-    ensures goes { OnOk result ((before : Text) (w : Written) → Shows numbers.old before (string_bytes text.old) w → (v : Written) × Shows numbers.new before (string_bytes text.new) v × (all_done steps.new.items v ≡ all_done steps.old.items (done step w))) }
+    ensures goes { OnOk result ((before : Text × Text) (w : Written) → Shows numbers.old before (string_bytes text.old) w → (v : Written) × Shows numbers.new before (string_bytes text.new) v × (all_done steps.new.items v ≡ all_done steps.old.items (done step w))) }
     ensures count { OnOk result (all_steps numbers.old.core.now steps.new.items < all_steps numbers.old.core.now steps.old.items + steps_of numbers.old.core.now step) }
     ensures core { numbers.new.core ≡ numbers.old.core }
 {

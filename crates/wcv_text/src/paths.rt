@@ -2,14 +2,14 @@
 ghost use Rattle.std.specs.Prelude.{◌≡◌, ◌++◌, [], codes, string_bytes, OnOk};
 ghost use Rattle.std.specs.Fmt.{decimal};
 ghost use Rattle.wcv_types.specs.Text.{positions_text};
-ghost use Rattle.wcv_text.specs.Entries.{write_path, write_path_list};
+ghost use Rattle.wcv_text.specs.Entries.{write_path};
 ghost use Rattle.wcv_text.specs.Numbers.{Writes};
 
 use crate::mentions::separator_at;
 use crate::numbers::Numbers;
 use std::alloc::AllocError;
 use std::fmt::Write;
-use wcv_types::{Paths, ResourceId};
+use wcv_types::ResourceId;
 
 /// Appends positions with commas between them.
 fn push_positions(text: &mut String, positions: &[u64]) -> Result<(), AllocError>
@@ -37,9 +37,9 @@ pub fn push_path_text(
 }
 
 /// Appends the line of a resource and its path behind a word. The resource gets a number where it has none.
-fn push_path(
+pub fn push_path(
     text: &mut String,
-    numbers: &mut Numbers,
+    numbers: &mut Numbers<'_>,
     word: &str,
     resource: ResourceId,
     positions: &[u64],
@@ -49,24 +49,4 @@ fn push_path(
     let number = numbers.resource(resource)?;
     push_path_text(text, word, number, positions)?;
     text.push_str("\n")
-}
-
-/// Appends the lines of resources and their paths behind one word.
-pub fn push_paths(
-    text: &mut String,
-    numbers: &mut Numbers,
-    word: &str,
-    paths: &Paths,
-) -> Result<(), AllocError>
-    ensures { OnOk result (Writes numbers.old (string_bytes text.old) numbers.new (string_bytes text.new) (write_path_list word.now paths.now)) }
-{
-    for k in 0..paths.len() {
-        match paths.get_index(k) {
-            Some((resource, place)) => {
-                push_path(text, numbers, word, *resource, place.positions())?
-            }
-            None => unreachable!(),
-        }
-    }
-    Ok(())
 }

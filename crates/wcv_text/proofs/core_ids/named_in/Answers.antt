@@ -1,6 +1,7 @@
 use Rattle.std.proofs.Common.{◌≡◌, ◌++◌, ◌∙◌, ◌<◌, length, get_or, ap, subst, sym, rules}
 use Rattle.wcv_core.specs.CoreForm.{SubForm, sub_form}
-use Rattle.wcv_types.specs.CoreText.{sub_ids, ids_in_group, group_at}
+use Rattle.wcv_core.specs.CoreIds.{sub_ids, ids_in_group}
+use Rattle.wcv_types.specs.CoreText.{group_at}
 use Rattle.wcv_text.proofs.Firsts.{group_length, group_get}
 use Rattle.wcv_text.proofs.Gathering.{next_ids}
 use Rattle.wcv_text.proofs.core_ids.named_in.Goals as goal

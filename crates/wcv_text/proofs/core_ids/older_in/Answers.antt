@@ -3,7 +3,8 @@ use Rattle.std.specs.Prelude.{slice_get, Some}
 use Rattle.std.specs.List.{filter}
 use Rattle.std.proofs.lemmas.List.Elements.{filter_more}
 use Rattle.std.proofs.lemmas.Option.{get_or_from_slice_get, slice_get_within}
-use Rattle.wcv_types.specs.CoreText.{ids_in_group, group_at}
+use Rattle.wcv_core.specs.CoreIds.{ids_in_group}
+use Rattle.wcv_types.specs.CoreText.{group_at}
 use Rattle.wcv_text.proofs.core_ids.older_in.Goals as goal
 use Rattle.wcv_text.proofs.core_ids.older_in.Goals.{then-named-first+in_ok-push, else-named-first}
 

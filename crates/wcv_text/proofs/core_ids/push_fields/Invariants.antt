@@ -1,5 +1,5 @@
 use Rattle.std.proofs.Common.{◌≡◌, ◌++◌, drop}
-use Rattle.wcv_types.specs.CoreText.{all_ids, field_ids}
+use Rattle.wcv_core.specs.CoreIds.{all_ids, field_ids}
 use Rattle.wcv_text.proofs.core_ids.push_fields.Given as goal
 
 abbrev pub invariant-loop-field : goal.invariant-loop-field

@@ -1,5 +1,5 @@
 use Rattle.std.proofs.Common.{◌≡◌, ◌++◌, drop}
-use Rattle.wcv_types.specs.CoreText.{all_ids, val_ids}
+use Rattle.wcv_core.specs.CoreIds.{all_ids, val_ids}
 use Rattle.wcv_text.proofs.core_ids.push_vals.Given as goal
 
 abbrev pub invariant-loop-ty : goal.invariant-loop-ty

@@ -8,7 +8,7 @@ use Rattle.wcv_text.proofs.groups.push_group.Given as goal
 -- what was written, with what is left to be done, is what is to be written
 abbrev pub invariant-loop-step : goal.invariant-loop-step
 invariant-loop-step l = record {
-  goes : (before : Text) (w : Written) → Shows l.initial.numbers before (string_bytes l.initial.text) w →
+  goes : (before : Text × Text) (w : Written) → Shows l.initial.numbers before (string_bytes l.initial.text) w →
       (v : Written) × Shows l.numbers before (string_bytes l.text) v × (all_done l.steps.items v ≡ write_groups w (l.fn.id.index ∷ []));
   core : l.numbers.core ≡ l.initial.numbers.core;
 }
