@@ -8,15 +8,23 @@ use Rattle.std.specs.Io.KnownBytes.{Appends, Consumes, IsAtEnd}
 use Rattle.wcv_main.specs.declared.status.Status.{Status}
 use Rattle.wcv_main.specs.declared.status.Status.TheVariants as status
 use Rattle.wcv_core.specs.declared.error.ErrorKind.{ErrorKind}
-use Rattle.wcv_lower.specs.Context.{Context}
-use Rattle.wcv_main.specs.Due.{Due, wrong_words, too_long, no_json, no_shape, sections, due_of_bytes, due_over, usage, IsExpected, accepted_text, refusal_text}
+use Rattle.wcv_core.specs.declared.features.WasmFeatures.{WasmFeatures}
+use Rattle.wcv_syntax.specs.Model.{Items}
+use Rattle.wcv_lower.specs.Ending.{type_at_end}
+use Rattle.wcv_lower.specs.Trees.{Type_tree, Tree_stack, node_tree}
+use Rattle.wcv_main.specs.Due.{Due, wrong_words, too_long, no_json, no_shape, sections, due_of_bytes, due_over, usage, IsReport, IsExpected, accepted_text, refusal_text}
 use Rattle.wcv_core.specs.Names.{base}
-use Rattle.wcv_state.proofs.EndChecks.{end_has_type}
-use Rattle.wcv_link.specs.Valid.{around_root, ValidTo, Refused}
+use Rattle.wcv_lower.proofs.EndingLaws.{has_type}
+use Rattle.wcv_link.specs.Valid.{ValidTo, Refused}
 use Rattle.wcv_link.proofs.Decided.{valid_or_refused}
+use Rattle.wcv_link.proofs.Ended.{valid_lists}
 use Rattle.wcv_main.specs.Pump.{AppendsPrefix}
-use Rattle.wcv_main.specs.Answers.{IsAnswer, IsOfListing, MayStandIn, Answers, Cuts, Finishes}
+use Rattle.wcv_main.specs.Answers.{IsAnswer, MayStandIn, Answers, Cuts, Finishes}
 use Rattle.wcv_main.proofs.Known.{appends_nothing}
+
+-- the report of a valid root is due
+pub reported : (features : WasmFeatures) (is : Items) (d : Tree_stack) (t : Type_tree) → ValidTo features is d → type_at_end (node_tree (base [])) d.top ≡ Some t → IsReport features is status.Done (accepted_text d t)
+reported features is d t v e = record { context = d; ty = t; valid = v; typed = e; listed = valid_lists features is d (base []) t v e; status_is = refl; text_is = refl }
 
 -- something is always due
 pub some_due : (d : Due) → (s : Status) × (text : List ℕ) × IsExpected d s text
@@ -26,10 +34,10 @@ some_due no_json = (status.Listing, _, (refl, refl))
 some_due (no_shape at) = (status.Listing, _, (refl, refl))
 some_due (sections features is end) = by_answer (valid_or_refused features is end)
   where
-    by_answer : ((d : Context) × ValidTo features is d) ⊎ ((kind : ErrorKind) × (offset : ℕ) × Refused features is end kind offset) → (s : Status) × (text : List ℕ) × IsExpected (sections features is end) s text
+    by_answer : ((d : Tree_stack) × ValidTo features is d) ⊎ ((kind : ErrorKind) × (offset : ℕ) × Refused features is end kind offset) → (s : Status) × (text : List ℕ) × IsExpected (sections features is end) s text
     by_answer (inl v) =
-        let t = end_has_type (base []) (around_root features) v.0 v.1.1 in
-        (status.Done, accepted_text v.0 t.0, inl (v.0, t.0, v.1, t.1, refl, refl))
+        let t = has_type (node_tree (base [])) v.0.top v.1.1 in
+        (status.Done, accepted_text v.0 t.0, inl (reported features is v.0 t.0 v.1 t.1))
     by_answer (inr r) = (status.Refused, refusal_text r.0 r.1 [], inr (r.0, r.1, r.2, refl, ([], refl)))
 
 -- nothing was written yet
@@ -45,16 +53,6 @@ no_stand_in : (s : Status) → IsAnswer s → MayStandIn s → ⊥
 no_stand_in s is (inl e) = subst IsAnswer e is
 no_stand_in s is (inr e) = subst IsAnswer e is
 
-pub of_listing_answers : (s : Status) → IsOfListing s → IsAnswer s
-of_listing_answers status.Done h = h
-of_listing_answers status.Refused h = h
-of_listing_answers status.Words h = absurd h
-of_listing_answers status.Listing h = h
-of_listing_answers status.TooLong h = h
-of_listing_answers status.ReadFault h = absurd h
-of_listing_answers status.WriteFault h = absurd h
-of_listing_answers status.Memory h = absurd h
-
 -- where the text that was written is the one that is due
 module _ (words : List (List ℕ)) (left old new : Option (List ℕ)) (result s : Status) (text : List ℕ) (before now : ℕ) (answer : IsAnswer s) where
   abbrev IsDue : Option Due → Type 0
@@ -66,7 +64,8 @@ module _ (words : List (List ℕ)) (left old new : Option (List ℕ)) (result s 
       answers_told : (told : Option Due) → IsDue told → Finishes result s old new text before now → IsAnswer result → IfSome told (λ due. (t : List ℕ) × IsExpected due result t × Appends old new t)
       answers_told None due done is = tt
       answers_told (Some d) due (inl w) is = (text, subst (λ r. IsExpected d r text) (sym w.0) due, w.1)
-      answers_told (Some d) due (inr w) is = absurd (subst IsAnswer w.0 is)
+      answers_told (Some d) due (inr (inl w)) is = absurd (subst IsAnswer w.0 is)
+      answers_told (Some d) due (inr (inr w)) is = absurd (subst IsAnswer w.0 is)
 
   pub cuts_after : IfSome (due_over words left) (λ due. IsExpected due s text) → Finishes result s old new text before now → Cuts words left result old new
   cuts_after due done may = cuts_told (due_over words left) due done may
@@ -74,9 +73,10 @@ module _ (words : List (List ℕ)) (left old new : Option (List ℕ)) (result s 
       cuts_told : (told : Option Due) → IsDue told → Finishes result s old new text before now → MayStandIn result → IfSome told (λ due. (d : Status) × (t : List ℕ) × IsExpected due d t × AppendsPrefix old new t)
       cuts_told None due done may = tt
       cuts_told (Some d) due (inl w) may = absurd (no_stand_in s answer (subst MayStandIn w.0 may))
-      cuts_told (Some d) due (inr w) may = (s, text, due, w.1)
+      cuts_told (Some d) due (inr (inl w)) may = (s, text, due, w.1)
+      cuts_told (Some d) due (inr (inr w)) may = (s, text, due, w.1)
 
-long_due : (bytes : List ℕ) → max_listing < length bytes → due_of_bytes bytes ≡ too_long
+pub long_due : (bytes : List ℕ) → max_listing < length bytes → due_of_bytes bytes ≡ too_long
 long_due bytes long = grind (arith, nat_tests)
 
 -- What is due is the same for the bytes that were read as for all that were left.

@@ -1,11 +1,11 @@
 -- What a run answers, and what it has then read and written.
-use Rattle.std.specs.Prelude.{ℕ, ◌≡◌, ◌⊎◌, List, Option, IfSome, ⊤}
+use Rattle.std.specs.Prelude.{ℕ, ◌≡◌, ◌≤◌, ◌⊎◌, List, Option, IfSome, ⊤}
 use Rattle.std.specs.Io.KnownBytes.{Appends}
 use Rattle.wcv_main.specs.declared.status.Status.{Status}
 use Rattle.wcv_main.specs.declared.status.Status.TheVariants as status
 use Rattle.wcv_main.specs.Pump.{AppendsPrefix}
 use Rattle.wcv_main.specs.Faults.{Rose}
-use Rattle.wcv_main.specs.Due.{due_over, IsExpected}
+use Rattle.wcv_main.specs.Due.{Due, due_over, IsExpected}
 
 -- a status that tells of no fault
 abbrev pub IsAnswer : Status → Type 0
@@ -17,17 +17,6 @@ IsAnswer status.TooLong = ⊤
 IsAnswer status.ReadFault = ⊥
 IsAnswer status.WriteFault = ⊥
 IsAnswer status.Memory = ⊥
-
--- a status that tells of a listing
-abbrev pub IsOfListing : Status → Type 0
-IsOfListing status.Done = ⊤
-IsOfListing status.Refused = ⊤
-IsOfListing status.Words = ⊥
-IsOfListing status.Listing = ⊤
-IsOfListing status.TooLong = ⊤
-IsOfListing status.ReadFault = ⊥
-IsOfListing status.WriteFault = ⊥
-IsOfListing status.Memory = ⊥
 
 -- a status that may stand in place of any other
 abbrev pub MayStandIn : Status → Type 0
@@ -42,7 +31,12 @@ abbrev pub Cuts : List (List ℕ) → Option (List ℕ) → Status → Option (L
 Cuts words left s old new = MayStandIn s
     → IfSome (due_over words left) (λ due. (s : Status) × (text : List ℕ) × IsExpected due s text × AppendsPrefix old new text)
 
--- the whole text was written, or a prefix of it before a fault
+-- the whole text was written, or a prefix of it before a fault or out of memory
 abbrev pub Finishes : Status → Status → Option (List ℕ) → Option (List ℕ) → List ℕ → ℕ → ℕ → Type 0
 Finishes result s old new text before now =
-    (result ≡ s) × Appends old new text × (now ≡ before) ⊎ (result ≡ status.WriteFault) × AppendsPrefix old new text × Rose before now
+    (result ≡ s) × Appends old new text × (now ≡ before) ⊎ (result ≡ status.WriteFault) × AppendsPrefix old new text × Rose before now × (before ≤ now)
+    ⊎ (result ≡ status.Memory) × AppendsPrefix old new text × (now ≡ before)
+
+-- so with a text that is due with a listing
+abbrev pub Ends : Due → Status → Option (List ℕ) → Option (List ℕ) → ℕ → ℕ → Type 0
+Ends due result old new before now = (s : Status) × (text : List ℕ) × IsExpected due s text × Finishes result s old new text before now

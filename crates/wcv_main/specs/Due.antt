@@ -14,8 +14,10 @@ use Rattle.wcv_types.specs.Text.{type_text}
 use Rattle.wcv_listing.specs.Listing.{Outcome, not_json, bad_shape, listed, outcome_of}
 use Rattle.wcv_main.specs.declared.status.Status.{Status}
 use Rattle.wcv_main.specs.declared.status.Status.TheVariants as status
-use Rattle.wcv_lower.specs.Context.{Type_tree, Context, lengths}
+use Rattle.wcv_lower.specs.Context.{lengths}
 use Rattle.wcv_lower.specs.Ending.{type_at_end}
+use Rattle.wcv_lower.specs.Trees.{Type_tree, Tree_stack, node_tree}
+use Rattle.wcv_link.specs.Listed.{ListsResources}
 use Rattle.wcv_link.specs.Valid.{ValidTo, Refused}
 use Rattle.wcv_main.specs.Report.{line, report}
 
@@ -54,8 +56,8 @@ abbrev pub usage : List ℕ
 usage = line (codes "usage: wcv validate, wcv link TURNS or wcv make N")
 
 -- the report of a valid root: the lengths of its index spaces, and its type at the end
-abbrev pub accepted_text : Context → Type_tree → List ℕ
-accepted_text d t = report (lengths d) ++ type_text d.groups t
+abbrev pub accepted_text : Tree_stack → Type_tree → List ℕ
+accepted_text d t = report (lengths d.top) ++ type_text d.groups t
 
 -- the two lines of a refusal; the words of the message are not promised
 abbrev pub refusal_text : ErrorKind → ℕ → List ℕ → List ℕ
@@ -65,9 +67,16 @@ refusal_text kind offset message = line (codes "refused " ++ kind_name kind ++ c
 abbrev pub IsRefusalText : ErrorKind → ℕ → List ℕ → Type 0
 IsRefusalText kind offset text = (message : List ℕ) × (text ≡ refusal_text kind offset message)
 
--- the root is valid: its report
-abbrev pub IsReport : WasmFeatures → Items → Status → List ℕ → Type 0
-IsReport features is s text = (d : Context) × (t : Type_tree) × ValidTo features is d × (type_at_end (base []) d ≡ Some t) × (s ≡ status.Done) × (text ≡ accepted_text d t)
+-- the root is valid: its report, of a type that lists each free resource as imported or defined, never both, at a path that leads to it
+pub record IsReport (features : WasmFeatures) (is : Items) (s : Status) (text : List ℕ) : Type 0 where
+  -- the stack at the root's end, and the type there
+  pub context : Tree_stack
+  pub ty : Type_tree
+  pub valid : ValidTo features is context
+  pub typed : type_at_end (node_tree (base [])) context.top ≡ Some ty
+  pub listed : ListsResources ty
+  pub status_is : s ≡ status.Done
+  pub text_is : text ≡ accepted_text context ty
 
 -- the root is refused: a kind that is a cause at the place of refusal, and its offset
 abbrev pub IsRefusal : WasmFeatures → Items → ℕ → Status → List ℕ → Type 0

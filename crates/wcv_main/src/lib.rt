@@ -6,6 +6,7 @@ mod ends;
 mod memory;
 mod pump;
 mod report;
+mod report_lines;
 mod status;
 mod steady;
 mod steady_run;

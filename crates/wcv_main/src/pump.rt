@@ -4,6 +4,7 @@ ghost use Rattle.std.specs.Io.KnownBytes.{Appends, Consumes, IsAtEnd, Keeps};
 ghost use Rattle.wcv_main.specs.Faults.{Rose, HasCause};
 ghost use Rattle.wcv_main.specs.Pump.{AppendsPrefix, ConsumesAtMost};
 ghost use Rattle.wcv_main.specs.declared.pump.ReadError.TheVariants.{Memory};
+ghost use Rattle.wcv_main.specs.declared.pump.WriteError.TheVariants as write_error;
 
 use crate::ends::{Failed, Sink, Source};
 use std::alloc::{AllocError, Global};
@@ -26,6 +27,31 @@ impl From<AllocError> for ReadError {
 
     fn from(_: AllocError) -> ReadError {
         ReadError::Memory
+    }
+}
+
+/// Why not all was written.
+#[derive(Clone, Copy)]
+pub enum WriteError {
+    /// A write failed.
+    Failed,
+    /// Out of memory.
+    Memory,
+}
+
+impl From<AllocError> for WriteError {
+    ghost from_gives = { λ _ e. e ≡ write_error.Memory };
+
+    fn from(_: AllocError) -> WriteError {
+        WriteError::Memory
+    }
+}
+
+impl From<Failed> for WriteError {
+    ghost from_gives = { λ _ e. e ≡ write_error.Failed };
+
+    fn from(_: Failed) -> WriteError {
+        WriteError::Failed
     }
 }
 

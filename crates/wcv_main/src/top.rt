@@ -1,5 +1,5 @@
 // The top call.
-ghost use Rattle.std.specs.Prelude.{◌≡◌, ◌≢◌, ◌+◌, ◌≤◌, ◌<◌, ◌⊎◌, ◌++◌, List, [], false, length, string_bytes, IfOk};
+ghost use Rattle.std.specs.Prelude.{◌≡◌, ◌≢◌, ◌+◌, ◌≤◌, ◌<◌, ◌⊎◌, ◌++◌, ℕ, List, [], false, length, string_bytes, IfOk};
 ghost use Rattle.std.specs.Io.KnownBytes.{Appends, IsAtEnd};
 ghost use Rattle.wcv_core.specs.Refusal.{error_kind, error_offset};
 ghost use Rattle.wcv_core.specs.declared.features.WasmFeatures.{WasmFeatures};
@@ -10,13 +10,13 @@ ghost use Rattle.wcv_types.specs.ComponentTrees.{root_tree};
 ghost use Rattle.wcv_link.specs.Accepts.{Accepts};
 ghost use Rattle.wcv_main.specs.Faults.{Rose};
 ghost use Rattle.wcv_main.specs.Pump.{ConsumesAtMost, ConsumesExactly};
-ghost use Rattle.wcv_main.specs.Due.{is_validate, due_of_bytes, due_of, IsExpected, usage, sections, IsRefusalText};
+ghost use Rattle.wcv_main.specs.Due.{is_validate, due_of_bytes, due_of, IsExpected, usage, sections, no_shape as no_shape_at, IsRefusalText};
 ghost use Rattle.wcv_main.specs.Report.{report, space_lengths as lengths_of_spaces};
-ghost use Rattle.wcv_main.specs.Answers.{IsOfListing, MayStandIn, Answers, Cuts, Finishes};
+ghost use Rattle.wcv_main.specs.Answers.{MayStandIn, Answers, Cuts, Ends, Finishes};
 
 use crate::ends::{Sink, Source};
-use crate::pump::{ReadError, read_all, write_all};
-use crate::report::push_report;
+use crate::pump::{ReadError, WriteError, read_all, write_all};
+use crate::report_lines::write_report;
 use crate::status::Status;
 use crate::words::Words;
 use std::alloc::{AllocError, Global};
@@ -24,8 +24,6 @@ use wcv_core::limits::MAX_LISTING;
 use wcv_core::{Error, ErrorKind};
 use wcv_link::{Accepted, validate_sections};
 use wcv_listing::{Listing, ListingError, read_listing};
-use wcv_state::{ComponentState, Space};
-use wcv_text::push_type;
 
 /// Whether the words are the command `validate`.
 fn is_validate_command(words: &Words) -> bool
@@ -38,38 +36,6 @@ fn is_validate_command(words: &Words) -> bool
         Some(word) => word == "validate",
         None => false,
     }
-}
-
-/// The lengths of the thirteen index spaces.
-fn space_lengths(state: &ComponentState) -> [u64; 13]
-    ensures { result ≡ lengths_of_spaces state.now.spaces }
-{
-    [
-        state.space_len(Space::CoreTypes) as u64,
-        state.space_len(Space::CoreFuncs) as u64,
-        state.space_len(Space::CoreTags) as u64,
-        state.space_len(Space::CoreModules) as u64,
-        state.space_len(Space::CoreInstances) as u64,
-        state.space_len(Space::CoreMemories) as u64,
-        state.space_len(Space::CoreTables) as u64,
-        state.space_len(Space::CoreGlobals) as u64,
-        state.space_len(Space::Types) as u64,
-        state.space_len(Space::Funcs) as u64,
-        state.space_len(Space::Values) as u64,
-        state.space_len(Space::Instances) as u64,
-        state.space_len(Space::Components) as u64,
-    ]
-}
-
-/// The report of a valid root.
-fn report_text(alloc: Global, accepted: &Accepted) -> Result<String, AllocError>
-    requires { (features : WasmFeatures) × ((is : Items) × Accepts features is accepted.now) }
-    ensures { IfOk result (λ text. string_bytes text ≡ report (lengths_of_spaces accepted.now.state.spaces) ++ type_text accepted.now.types.core (root_tree accepted.now.types accepted.now.ty)) }
-{
-    let mut text = String::new(alloc);
-    push_report(&mut text, &space_lengths(&accepted.state))?;
-    push_type(alloc, &mut text, &accepted.types, &accepted.ty)?;
-    Ok(text)
 }
 
 /// The two lines of a refusal.
@@ -85,67 +51,90 @@ fn refusal_text(alloc: Global, error: &Error) -> Result<String, AllocError>
     Ok(text)
 }
 
-/// The report of a valid root, which is read no more.
-fn report_of(alloc: Global, accepted: Accepted) -> Result<String, AllocError>
-    requires { (features : WasmFeatures) × ((is : Items) × Accepts features is accepted) }
-    ensures { IfOk result (λ text. string_bytes text ≡ report (lengths_of_spaces accepted.state.spaces) ++ type_text accepted.types.core (root_tree accepted.types accepted.ty)) }
-{
-    report_text(alloc, &accepted)
-}
-
-/// The status and the text that are due with a listing.
-fn answer_listing(alloc: Global, listing: Listing) -> Result<(Status, String), AllocError>
-    ensures kind { IfOk result (λ answer. IsOfListing answer.0) }
-    ensures short { IfOk result (λ answer. answer.0 ≢ Status.TooLong) }
-    ensures due { IfOk result (λ answer. IsExpected (sections listing.features (items_view listing.items.items) listing.end) answer.0 (string_bytes answer.1)) }
-{
-    match validate_sections(alloc, listing.features, listing.items, listing.end) {
-        Ok(accepted) => {
-            let text = report_of(alloc, accepted)?;
-            Ok((Status::Done, text))
-        }
-        Err(error) => {
-            if error.kind() == ErrorKind::OutOfMemory {
-                return Err(AllocError);
-            }
-            let text = refusal_text(alloc, &error)?;
-            Ok((Status::Refused, text))
-        }
-    }
-}
-
-/// The status and the text that are due with the bytes of a listing.
-fn answer(alloc: Global, bytes: &[u8]) -> Result<(Status, String), AllocError>
-    ensures kind { IfOk result (λ answer. IsOfListing answer.0) }
-    ensures long { IfOk result (λ answer. answer.0 ≡ Status.TooLong → MAX_LISTING < length bytes.now) }
-    ensures due { IfOk result (λ answer. IsExpected (due_of_bytes bytes.now) answer.0 (string_bytes answer.1)) }
-{
-    if bytes.len() > MAX_LISTING {
-        let text = String::from_str(alloc, "listing is longer than 67108864 bytes\n")?;
-        return Ok((Status::TooLong, text));
-    }
-    match read_listing(alloc, bytes) {
-        Ok(listing) => answer_listing(alloc, listing),
-        Err(ListingError::NotJson) => {
-            let text = String::from_str(alloc, "bad listing: not JSON\n")?;
-            Ok((Status::Listing, text))
-        }
-        Err(ListingError::BadShape { at }) => {
-            let text = format!(in alloc; "bad listing at {at}\n")?;
-            Ok((Status::Listing, text))
-        }
-        Err(ListingError::OutOfMemory) => Err(AllocError),
-    }
-}
-
 /// Writes the text, and answers the status, or that a write failed.
 fn finish<K: Sink>(sink: &mut K, status: Status, text: &str) -> Status
-    ensures finishes { Finishes result status (K.taken sink.old) (K.taken sink.new) text.now (K.faults sink.old) (K.faults sink.new) }
-    ensures later { K.faults sink.old ≤ K.faults sink.new }
+    ensures { Finishes result status (K.taken sink.old) (K.taken sink.new) text.now (K.faults sink.old) (K.faults sink.new) }
 {
     match write_all(sink, text.as_bytes()) {
         Ok(()) => status,
         Err(_) => Status::WriteFault,
+    }
+}
+
+/// Writes the report of a valid root, and answers that all is done, or what failed.
+fn accept<K: Sink>(alloc: Global, sink: &mut K, accepted: &Accepted) -> Status
+    requires { (features : WasmFeatures) × ((is : Items) × Accepts features is accepted.now) }
+    ensures { Finishes result Status.Done (K.taken sink.old) (K.taken sink.new) (report (lengths_of_spaces accepted.now.state.spaces) ++ type_text accepted.now.types.core (root_tree accepted.now.types accepted.now.ty)) (K.faults sink.old) (K.faults sink.new) }
+{
+    match write_report(alloc, sink, accepted) {
+        Ok(()) => Status::Done,
+        Err(WriteError::Failed) => Status::WriteFault,
+        Err(WriteError::Memory) => Status::Memory,
+    }
+}
+
+/// So for a root that is read no more.
+fn accept_last<K: Sink>(alloc: Global, sink: &mut K, accepted: Accepted) -> Status
+    requires { (features : WasmFeatures) × ((is : Items) × Accepts features is accepted) }
+    ensures { Finishes result Status.Done (K.taken sink.old) (K.taken sink.new) (report (lengths_of_spaces accepted.state.spaces) ++ type_text accepted.types.core (root_tree accepted.types accepted.ty)) (K.faults sink.old) (K.faults sink.new) }
+{
+    let status = accept(alloc, sink, &accepted);
+    drop(accepted);
+    status
+}
+
+/// Writes the two lines of a refusal.
+fn refuse<K: Sink>(alloc: Global, sink: &mut K, error: &Error) -> Status
+    ensures { (text : List ℕ) × IsRefusalText (error_kind error.now) (error_offset error.now) text × Finishes result Status.Refused (K.taken sink.old) (K.taken sink.new) text (K.faults sink.old) (K.faults sink.new) }
+{
+    match refusal_text(alloc, error) {
+        Ok(text) => finish(sink, Status::Refused, text.as_str()),
+        Err(_) => Status::Memory,
+    }
+}
+
+/// Writes what is due with a listing.
+fn answer_listing<K: Sink>(alloc: Global, sink: &mut K, listing: Listing) -> Status
+    ensures { Ends (sections listing.features (items_view listing.items.items) listing.end) result (K.taken sink.old) (K.taken sink.new) (K.faults sink.old) (K.faults sink.new) }
+{
+    match validate_sections(alloc, listing.features, listing.items, listing.end) {
+        Ok(accepted) => accept_last(alloc, sink, accepted),
+        Err(error) => {
+            if error.kind() == ErrorKind::OutOfMemory {
+                Status::Memory
+            } else {
+                refuse(alloc, sink, &error)
+            }
+        }
+    }
+}
+
+/// Writes that JSON is no listing, and where.
+fn no_shape<K: Sink>(alloc: Global, sink: &mut K, at: u64) -> Status
+    ensures { Ends (no_shape_at at) result (K.taken sink.old) (K.taken sink.new) (K.faults sink.old) (K.faults sink.new) }
+{
+    match format!(in alloc; "bad listing at {at}\n") {
+        Ok(text) => finish(sink, Status::Listing, text.as_str()),
+        Err(_) => Status::Memory,
+    }
+}
+
+/// Writes what is due with the bytes of a listing.
+fn answer<K: Sink>(alloc: Global, sink: &mut K, bytes: &[u8]) -> Status
+    ensures { Ends (due_of_bytes bytes.now) result (K.taken sink.old) (K.taken sink.new) (K.faults sink.old) (K.faults sink.new) }
+{
+    if bytes.len() > MAX_LISTING {
+        return finish(
+            sink,
+            Status::TooLong,
+            "listing is longer than 67108864 bytes\n",
+        );
+    }
+    match read_listing(alloc, bytes) {
+        Ok(listing) => answer_listing(alloc, sink, listing),
+        Err(ListingError::NotJson) => finish(sink, Status::Listing, "bad listing: not JSON\n"),
+        Err(ListingError::BadShape { at }) => no_shape(alloc, sink, at),
+        Err(ListingError::OutOfMemory) => Status::Memory,
     }
 }
 
@@ -185,8 +174,5 @@ pub fn run<S: Source, K: Sink>(alloc: Global, words: &Words, source: &mut S, sin
         Err(ReadError::Failed) => return Status::ReadFault,
         Err(ReadError::Memory) => return Status::Memory,
     };
-    match answer(alloc, &bytes) {
-        Ok((status, text)) => finish(sink, status, text.as_str()),
-        Err(_) => Status::Memory,
-    }
+    answer(alloc, sink, &bytes)
 }
