@@ -1,5 +1,4 @@
 pub mod Closing
-pub mod Known
 pub mod Owning
 pub mod Standing
 pub mod Opened

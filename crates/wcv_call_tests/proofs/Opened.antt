@@ -1,6 +1,6 @@
 -- A state with nothing in it, and modules that join one.
 use Rattle.std.proofs.Common.{◌≡◌, sym, subst, false}
-use Rattle.std.specs.Prelude.{List, All}
+use Rattle.std.specs.Prelude.{List}
 use Rattle.std.proofs.lemmas.List.Elements.{All-nil}
 use Rattle.wcv_core.specs.declared.features.WasmFeatures.{WasmFeatures}
 use Rattle.wcv_types.specs.Arena.{Arena}

@@ -1,4 +1,4 @@
--- What stands in an arena, and in one that grew.
+-- What stands in an arena.
 use Rattle.std.proofs.Common.{◌≡◌, sym, subst}
 use Rattle.std.specs.Prelude.{List, [], ◌∷◌, ◌++◌, All}
 use Rattle.std.proofs.lemmas.List.Elements.{All-nil, All-cons, All-head, All-tail, All-push, All-append}
@@ -15,16 +15,9 @@ use Rattle.wcv_names.specs.Externs.{entry_of}
 abbrev Entry : Type 0
 Entry = Text × ComponentItem
 
--- entries of a list, and one more behind them
-pub one_more_stands : (a : Arena) (es later : List (Text × ComponentItem)) (n : ComponentExternName) (x : ComponentEntityType) → later ≡ es ++ entry_of n x ∷ [] → EntityStands a x → All (EntryStands a) es → All (EntryStands a) later
-one_more_stands a es later n x e h k = subst (All (EntryStands a)) (sym e) (All-push (EntryStands a) es (entry_of n x) k h)
-
--- so a list with one alone
-pub one_item_stands : (a : Arena) (es later : List (Text × ComponentItem)) (e : Text × ComponentItem) → es ≡ [] → later ≡ es ++ e ∷ [] → EntityStands a e.1.ty → All (EntryStands a) later
-one_item_stands a es later e n q h = subst (All (EntryStands a)) (sym q) (All-push (EntryStands a) es e (subst (All (EntryStands a)) (sym n) (All-nil (EntryStands a))) h)
-
-pub none_stand : (a : Arena) (es : List Entry) → es ≡ [] → All (EntryStands a) es
-none_stand a es e = subst (All (EntryStands a)) (sym e) (All-nil (EntryStands a))
+-- one entry behind none
+pub one_stands : (a : Arena) (es later : List Entry) (n : ComponentExternName) (x : ComponentEntityType) → es ≡ [] → later ≡ es ++ entry_of n x ∷ [] → EntityStands a x → All (EntryStands a) later
+one_stands a es later n x e q h = subst (All (EntryStands a)) (sym q) (All-push (EntryStands a) es (entry_of n x) (subst (All (EntryStands a)) (sym e) (All-nil (EntryStands a))) h)
 
 -- ## The parts of entries that stand
 

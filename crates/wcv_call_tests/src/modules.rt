@@ -1,73 +1,159 @@
-// What a core module is while its declarations are read.
-use crate::core_types::group;
+// A module that is made call by call, joins a state, and is exported.
+ghost use Rattle.std.specs.Prelude.{◌≡◌, IfOk, OnOk};
+ghost use Rattle.wcv_decls.specs.Stack.{IsOpen};
+ghost use Rattle.wcv_module.specs.Kept.{IsCounted};
+ghost use Rattle.wcv_syntax.specs.declared.core_section.TypeRef.TheVariants as reference;
+ghost use Rattle.wcv_types.specs.Entities.{EntityStands};
+ghost use Rattle.wcv_types.specs.Standing.{Stands};
+ghost use Rattle.wcv_types.specs.declared.ids.Part.TheVariants as part;
+
+use crate::lists::MEMORY;
 use bitflags::Flags;
 use std::alloc::Global;
-use std::test::Fail;
-use wcv_core::{ErrorKind, MemoryType, Text, WasmFeatures};
+use wcv_core::{Error, OutOfMemory, Text, WasmFeatures};
+use wcv_decls::Declare;
 use wcv_module::{Module, NoOuter};
-use wcv_syntax::{Import, ModuleTypeDeclaration, TypeRef};
-use wcv_types::TypeAlloc;
+use wcv_state::ComponentState;
+use wcv_syntax::{ComponentExport, ComponentExternName, ComponentExternalKind, Import, TypeRef};
+use wcv_types::{ComponentCoreModuleTypeId, ComponentEntityType, TypeAlloc};
 
-pub const MEMORY: MemoryType = MemoryType {
-    initial: 1,
-    maximum: None,
-    memory64: false,
-    shared: false,
-    page_size_log2: 16,
-};
-
-// A function type and another name for it, a memory that is imported, and a function that is exported.
-fn declarations(alloc: Global) -> Result<Vec<ModuleTypeDeclaration>, Fail> {
-    let mut decls = Vec::new(alloc);
-    decls.push(ModuleTypeDeclaration::Ty(group(alloc)?))?;
-    decls.push(ModuleTypeDeclaration::OuterAlias { count: 0, index: 0 })?;
-    decls.push(ModuleTypeDeclaration::Import(Import {
+/// A memory under two names.
+fn memory(alloc: Global) -> Result<Import, OutOfMemory>
+    ensures { IfOk result (λ import. import.ty ≡ reference.Memory MEMORY) }
+{
+    Ok(Import {
         module: Text::new(alloc, "m")?,
         name: Text::new(alloc, "n")?,
         ty: TypeRef::Memory(MEMORY),
-    }))?;
-    decls.push(ModuleTypeDeclaration::Export {
-        name: Text::new(alloc, "f")?,
-        ty: TypeRef::Func(1),
-    })?;
-    Ok(decls)
+    })
 }
 
-/// The module of these declarations, with nothing around it.
-#[tactic(auto, using(crate::proofs::Known::none_around))]
-fn declared(alloc: Global, types: &mut TypeAlloc) -> Result<Module, Fail> {
-    let decls = declarations(alloc)?;
-    let made = Module::declare(alloc, WasmFeatures::all(), decls, &NoOuter, types, 0);
-    Ok(made.ok().ok_or("no module")?)
+/// A module that imports it.
+fn importing(alloc: Global, types: &TypeAlloc) -> Result<Module, Error>
+    ensures { IfOk result (λ made. IsCounted types.now.core made) }
+{
+    let import = memory(alloc)?;
+    let mut made = Module::new(alloc, WasmFeatures::all());
+    match made.add_import(import, types.core_types(), 0) {
+        Ok(()) => Ok(made),
+        Err(error) => Err(Error::from(error)),
+    }
 }
 
-/// How many types, imports and exports it has, and how large it is.
-fn counts(made: &Module) -> (usize, usize, usize, u64) {
-    (
+// How many imports a module has as a type.
+fn imports(made: &Module) -> usize {
+    match made.imports_for_module_type(9) {
+        Ok(imports) => imports.len(),
+        Err(_) => 9,
+    }
+}
+
+// Whether it has one import, and nothing is open around it.
+fn has_one_import(made: &Module) -> bool {
+    let is_open = made.outer_type_at(&NoOuter, 1, 0, 9).is_ok();
+    let counts = [
         made.types().len(),
         made.imports().len(),
         made.exports().len(),
-        made.size(),
-    )
+        imports(made),
+    ];
+    counts == [0, 1, 0, 1] && made.size() == 2 && !is_open
 }
 
-#[test]
-fn declarations_make_a_module(rt: HostRuntime) -> Result<(), Fail> {
-    let mut types = TypeAlloc::new(rt.alloc(), WasmFeatures::all());
-    let made = declared(rt.alloc(), &mut types)?;
-    assert!(rt; counts(&made) == (2, 1, 1, 3));
-    assert!(rt;
-        made.imports_for_module_type(9)
-            .ok()
-            .ok_or("no imports")?
-            .len()
-            == 1
-    );
-    match made.outer_type_at(&NoOuter, 1, 0, 9) {
-        Ok(_) => Err("nothing is open around a module".into()),
-        Err(error) => {
-            assert!(rt; error.kind() == ErrorKind::OutOfBounds && error.offset() == 9);
-            Ok(())
+/// A module joins a state.
+fn join(made: Module, state: &mut ComponentState, types: &mut TypeAlloc) -> Result<(), Error>
+    requires open { IsOpen types.old state.old }
+    requires counted { IsCounted types.old.core made }
+    ensures { OnOk result (IsOpen types.new state.new) }
+{
+    match state.add_core_module(made, types, 7) {
+        Ok(()) => Ok(()),
+        Err(error) => Err(error),
+    }
+}
+
+// The export of the first module.
+fn first(alloc: Global) -> Result<ComponentExport, OutOfMemory> {
+    Ok(ComponentExport {
+        name: ComponentExternName {
+            name: Text::new(alloc, "c")?,
+            implements: None,
+            version_suffix: None,
+            external_id: None,
+        },
+        kind: ComponentExternalKind::Module,
+        index: 0,
+        ty: None,
+    })
+}
+
+/// The entity of an export.
+fn exported(
+    export: &ComponentExport,
+    state: &mut ComponentState,
+    types: &mut TypeAlloc,
+) -> Result<ComponentEntityType, Error>
+    requires { IsOpen types.old state.old }
+    ensures open { OnOk result (IsOpen types.new state.new) }
+    ensures stands { IfOk result (EntityStands types.new) }
+{
+    match state.export_to_entity_type(export, types, 0) {
+        Ok(ty) => Ok(ty),
+        Err(error) => Err(error),
+    }
+}
+
+/// A module is exported under a name.
+fn add_entry(
+    name: ComponentExternName,
+    id: ComponentCoreModuleTypeId,
+    state: &mut ComponentState,
+    types: &mut TypeAlloc,
+) -> bool
+    requires open { IsOpen types.old state.old }
+    requires stands { Stands types.old (part.Module id) }
+{
+    state
+        .add_export(name, ComponentEntityType::Module(id), types, 0, true)
+        .is_ok()
+}
+
+/// So by an export: its entity, and then the entry.
+fn add_export(export: ComponentExport, state: &mut ComponentState, types: &mut TypeAlloc) -> bool
+    requires { IsOpen types.old state.old }
+{
+    match exported(&export, state, types) {
+        Ok(ComponentEntityType::Module(id)) => add_entry(export.name, id, state, types),
+        _ => false,
+    }
+}
+
+/// The first module is exported.
+fn is_exported(alloc: Global, state: &mut ComponentState, types: &mut TypeAlloc) -> bool
+    requires { IsOpen types.old state.old }
+{
+    match first(alloc) {
+        Ok(export) => add_export(export, state, types) && state.exports().len() == 1,
+        Err(_) => false,
+    }
+}
+
+/// A module that imports a memory joins a state, and is exported there.
+pub fn a_module_is_exported(
+    alloc: Global,
+    state: &mut ComponentState,
+    types: &mut TypeAlloc,
+) -> bool
+    requires { IsOpen types.old state.old }
+{
+    match importing(alloc, types) {
+        Ok(made) => {
+            let counts = has_one_import(&made);
+            match join(made, state, types) {
+                Ok(()) => counts && is_exported(alloc, state, types),
+                Err(_) => false,
+            }
         }
+        Err(_) => false,
     }
 }

@@ -1,87 +1,38 @@
 // Calls of the arena over an instance, a component and a core instance.
-ghost use Rattle.std.specs.Prelude.{◌≡◌, ◌<◌, IfOk, OnOk};
+ghost use Rattle.std.specs.Prelude.{◌≡◌, ◌<◌, All, OnOk};
 ghost use Rattle.wcv_call_tests.specs.Sorts.{AreOf};
-ghost use Rattle.wcv_types.specs.Entities.{any_part};
+ghost use Rattle.wcv_types.specs.Entities.{any_part, EntryStands};
 ghost use Rattle.wcv_types.specs.Standing.{KeepsTrees, Stands};
 ghost use Rattle.wcv_types.specs.declared.ids.Part.TheVariants as part;
 
-use crate::sorts::{Sorts, of_each_sort};
+use crate::sorts::{Sorts, U32, one_entry};
 use bitflags::Flags;
-use std::alloc::Global;
-use std::fmt::Write;
 use std::marker::Brand;
 use std::sync::ledger::{Blank, Ledger};
-use std::test::Fail;
 use wcv_core::{OutOfMemory, PrimitiveValType, WasmFeatures};
+use wcv_text::push_type;
 use wcv_types::{
-    ComponentAnyTypeId, ComponentFuncType, ComponentFuncTypeId, ComponentInstanceTypeId,
-    ComponentTypeId, ComponentValType, CoreInstanceTypeKind, NodeSort, NodeStore, Part,
+    ComponentAnyTypeId, ComponentEntityType, ComponentInstanceTypeId, ComponentType,
+    ComponentValType, CoreInstanceTypeKind, ItemMap, NodeSort, NodeStore, Part, Paths, ResourceId,
     ResourceSet, Steps, TypeAlloc, TypeInfo, TypeSet, TypeSort,
 };
 
-// A type in words: its sort and its place, or of a reference the resource and the stamp.
-fn part_words(alloc: Global, part: Part) -> Result<String, Fail> {
-    let (sort, index) = match part {
-        Part::Defined(id) => ("defined", id.index),
-        Part::Func(id) => ("func", id.index),
-        Part::Instance(id) => ("instance", id.index),
-        Part::Component(id) => ("component", id.index),
-        Part::Module(id) => ("module", id.index),
-        Part::CoreInstance(id) => ("core-instance", id.index),
-        Part::Core(id) => ("core", id.index),
-        Part::Resource(id) => ("resource", id.stamp),
-    };
-    Ok(format!(in alloc; "{sort} {index}")?)
-}
-
-/// A node with its size, its depth and its parts.
-fn node<S: NodeSort>(alloc: Global, types: &TypeAlloc, id: S) -> Result<String, Fail>
+/// The size and the depth of a node, how many parts it has, and of the first one which place it has.
+fn node<S: NodeSort>(types: &TypeAlloc, id: S) -> [u64; 4]
     requires { Stands types.now (S.as_part id) }
 {
     let info = id.info(types);
-    let name = part_words(alloc, id.part())?;
-    let mut line = format!(in alloc; "{name}: {} {}", info.size, info.depth)?;
-    for k in 0..id.part_count(types) {
-        let part = part_words(alloc, id.part_at(types, k))?;
-        write!(line, " {part}")?;
-    }
-    Ok(line)
-}
-
-/// Of each sort a node.
-fn nodes(alloc: Global, types: &TypeAlloc, ids: Sorts) -> Result<String, Fail>
-    requires { AreOf types.now ids }
-{
-    let instance = node(alloc, types, ids.instance)?;
-    let component = node(alloc, types, ids.component)?;
-    let made = node(alloc, types, ids.made)?;
-    Ok(format!(in alloc; "{instance}\n{component}\n{made}")?)
-}
-
-const NODES: &str = "\
-instance 0: 2 2 resource 0 resource 0
-component 1: 3 3 instance 0
-core-instance 2: 1 1";
-
-#[test]
-fn nodes_have_sizes_depths_and_parts(rt: HostRuntime) -> Result<(), Fail> {
-    let (types, ids) = of_each_sort(rt.alloc())?;
-    let found = nodes(rt.alloc(), &types, ids)?;
-    assert_eq!(rt; found.as_str(), NODES);
-    Ok(())
-}
-
-/// How many exports the types have.
-fn shapes(types: &TypeAlloc, ids: Sorts) -> [usize; 3]
-    requires { AreOf types.now ids }
-{
-    let made = match &types.get(ids.made).kind {
-        CoreInstanceTypeKind::Instantiated(_) => 9,
-        CoreInstanceTypeKind::Exports(exports) => exports.len(),
+    let count = id.part_count(types);
+    let place = if count == 0 {
+        9
+    } else {
+        match id.part_at(types, 0) {
+            Part::Resource(id) => id.stamp,
+            Part::Instance(id) => id.index,
+            _ => 8,
+        }
     };
-    let instance = types.get(ids.instance).exports.len();
-    let component = types.get(ids.component).exports.len();
-    [instance, component, made]
+    [info.size as u64, info.depth as u64, count as u64, place]
 }
 
 /// How many exports an instance has, by a view that is counted.
@@ -95,144 +46,173 @@ fn viewed<L: Ledger>(types: &TypeAlloc, id: ComponentInstanceTypeId, blank: Blan
     types.view(id, &mut steps).exports.len()
 }
 
-/// So in a count of its own.
-fn viewed_once(types: &TypeAlloc, ids: Sorts) -> usize
+/// How many exports the types have, and how many imports the component.
+fn shapes(types: &TypeAlloc, ids: Sorts) -> [usize; 4]
     requires { AreOf types.now ids }
 {
-    viewed::<Brand>(types, ids.instance, Blank::new(1))
+    let made = match &types.get(ids.made).kind {
+        CoreInstanceTypeKind::Instantiated(_) => 9,
+        CoreInstanceTypeKind::Exports(exports) => exports.len(),
+    };
+    let component = types.get(ids.component);
+    let instance = viewed::<Brand>(types, ids.instance, Blank::new(1));
+    [
+        instance,
+        component.imports.len(),
+        component.exports.len(),
+        made,
+    ]
 }
 
-#[test]
-fn nodes_are_read(rt: HostRuntime) -> Result<(), Fail> {
-    let (types, ids) = of_each_sort(rt.alloc())?;
-    assert!(rt; shapes(&types, ids) == [1, 1, 0]);
-    assert!(rt; viewed_once(&types, ids) == 1);
-    Ok(())
+/// Each of the types has the size, the depth and the parts that are due, and as many entries.
+pub fn nodes_are_read(types: &TypeAlloc, ids: Sorts) -> bool
+    requires { AreOf types.now ids }
+{
+    let nodes = [
+        node(types, ids.instance),
+        node(types, ids.component),
+        node(types, ids.made),
+    ];
+    nodes == [[2, 2, 2, 0], [4, 3, 1, 0], [1, 1, 0, 9]] && shapes(types, ids) == [1, 1, 1, 0]
 }
 
-/// The one resource that is free in a type.
-fn free_in(types: &TypeAlloc, id: ComponentAnyTypeId) -> Result<(usize, bool), Fail>
+/// How many resources are free in a type.
+fn free(types: &TypeAlloc, id: ComponentAnyTypeId) -> usize
     requires { Stands types.now (any_part id) }
 {
     let mut free = ResourceSet::new(types.allocator());
-    types.free_variables_any_type_id(id, &mut free)?;
-    match free.get_index(0) {
-        Some(id) => Ok((free.len(), id.index == 0)),
-        None => Ok((0, false)),
+    match types.free_variables_any_type_id(id, &mut free) {
+        Ok(()) => free.len(),
+        Err(_) => 9,
     }
 }
 
 /// Whether the contents of a type are named by the empty set.
-fn named(types: &TypeAlloc, id: ComponentAnyTypeId) -> Result<bool, OutOfMemory>
+fn is_named(types: &TypeAlloc, id: ComponentAnyTypeId) -> bool
     requires { Stands types.now (any_part id) }
 {
-    types.all_valtypes_named(&id, &TypeSet::new(types.allocator()))
+    let set = TypeSet::new(types.allocator());
+    match types.all_valtypes_named(&id, &set) {
+        Ok(named) => named,
+        Err(_) => false,
+    }
 }
 
-/// Of an instance and a component what is free in them, and whether their contents are named.
-fn asked(types: &TypeAlloc, ids: Sorts) -> Result<[(usize, bool, bool); 2], Fail>
+/// The resource is free in the instance and in the component, and nothing in them has to be named.
+pub fn resources_are_free(types: &TypeAlloc, ids: Sorts) -> bool
     requires { AreOf types.now ids }
 {
     let instance = ComponentAnyTypeId::Instance(ids.instance);
     let component = ComponentAnyTypeId::Component(ids.component);
-    let (first, is_first) = free_in(types, instance)?;
-    let (second, is_second) = free_in(types, component)?;
-    Ok([
-        (first, is_first, named(types, instance)?),
-        (second, is_second, named(types, component)?),
-    ])
+    [free(types, instance), free(types, component)] == [1, 1]
+        && [is_named(types, instance), is_named(types, component)] == [true, true]
 }
 
-#[test]
-fn resources_are_free_and_contents_named(rt: HostRuntime) -> Result<(), Fail> {
-    let (types, ids) = of_each_sort(rt.alloc())?;
-    assert!(rt; asked(&types, ids)? == [(1, true, true), (1, true, true)]);
-    Ok(())
+/// Whether the path to the first resource is that through the first entry.
+fn is_first(paths: &Paths) -> bool {
+    match paths.get(&ResourceId { index: 0 }) {
+        Some(place) => place.positions() == [0, 0].as_slice(),
+        None => false,
+    }
 }
 
-const U32: ComponentValType = ComponentValType::Primitive(PrimitiveValType::U32);
-
-const U8: ComponentValType = ComponentValType::Primitive(PrimitiveValType::U8);
-
-#[test]
-fn value_types_are_equal(rt: HostRuntime) -> Result<(), Fail> {
-    let types = TypeAlloc::new(rt.alloc(), WasmFeatures::all());
-    assert!(rt; types.val_type_eq(&U32, &U32) && !types.val_type_eq(&U32, &U8));
-    Ok(())
+/// Whether the path to the first resource among the items is.
+fn leads(types: &TypeAlloc, items: &ItemMap) -> bool
+    requires { All (EntryStands types.now) items.now }
+{
+    let mut set = ResourceSet::new(types.allocator());
+    let _ = set.push(ResourceId { index: 0 });
+    match types.explicit_resource_paths(items, &set) {
+        Ok(paths) => is_first(&paths),
+        Err(_) => false,
+    }
 }
 
-/// Whether nothing has to be named in a function type and in a value type.
-#[tactic(auto, using(wcv_types::proofs::Fitting::fits_plain))]
-fn plain(alloc: Global, types: &mut TypeAlloc) -> Result<[bool; 2], OutOfMemory> {
-    let shape = ComponentFuncType {
-        async_: true,
-        info: TypeInfo { size: 2, depth: 2 },
-        params: Vec::new(alloc),
-        result: Some(U32),
+/// A path leads through the instance.
+pub fn a_path_leads_through(types: &mut TypeAlloc, ids: Sorts) -> bool
+    requires { AreOf types.old ids }
+{
+    let ty = ComponentEntityType::Instance(ids.instance);
+    match one_entry("i", ty, &WasmFeatures::all(), types) {
+        Ok(items) => leads(types, &items),
+        Err(_) => false,
+    }
+}
+
+const TEXT: &str = r#"0: resource r0
+1: instance {export "r" type 0 of 0}
+2: component {import "v" value u32, export "i" instance 1 implements "a:b/c@1.2" suffix ".3" id "e"}
+import "c" component 2
+"#;
+
+/// Whether the text of a component that imports these is that one.
+fn is_text(types: &TypeAlloc, imports: ItemMap) -> bool
+    requires { All (EntryStands types.now) imports }
+{
+    let alloc = types.allocator();
+    let ty = ComponentType {
+        info: TypeInfo { size: 1, depth: 1 },
+        imports,
+        exports: ItemMap::new(alloc),
+        imported_resources: Paths::new(alloc),
+        defined_resources: Paths::new(alloc),
     };
-    let id: ComponentFuncTypeId = types.push_ty(shape)?;
-    Ok([types.is_plain_func(id), types.is_plain_value(&U32)])
+    let mut text = String::new(alloc);
+    let _ = push_type(alloc, &mut text, types, &ty);
+    text.as_str() == TEXT
 }
 
-#[test]
-fn numbers_need_no_name(rt: HostRuntime) -> Result<(), Fail> {
-    let mut types = TypeAlloc::new(rt.alloc(), WasmFeatures::all());
-    assert!(rt; plain(rt.alloc(), &mut types)? == [true, true]);
-    Ok(())
+/// The component has its text.
+pub fn types_have_their_text(types: &mut TypeAlloc, ids: Sorts) -> bool
+    requires { AreOf types.old ids }
+{
+    let ty = ComponentEntityType::Component(ids.component);
+    match one_entry("c", ty, &WasmFeatures::all(), types) {
+        Ok(imports) => is_text(types, imports),
+        Err(_) => false,
+    }
 }
 
 /// The same type under a new identity.
 fn again(types: &mut TypeAlloc, id: ComponentAnyTypeId) -> Result<ComponentAnyTypeId, OutOfMemory>
     requires { Stands types.old (any_part id) }
-    ensures made { IfOk result (λ made. Stands types.new (any_part made)) }
-    ensures stay { OnOk result (KeepsTrees types.old types.new) }
+    ensures { OnOk result (KeepsTrees types.old types.new) }
 {
     types.with_unique(id)
 }
 
-/// The place of an instance under a new identity, and how many exports it has.
-fn instance_again(types: &mut TypeAlloc, id: ComponentInstanceTypeId) -> Result<(u64, usize), Fail>
-    requires { Stands types.old (part.Instance id) }
+/// The instance and the component get new identities.
+pub fn types_get_new_identities(types: &mut TypeAlloc, ids: Sorts) -> bool
+    requires { AreOf types.old ids }
 {
-    match again(types, ComponentAnyTypeId::Instance(id))? {
-        ComponentAnyTypeId::Instance(id) => Ok((id.index, types.get(id).exports.len())),
-        _ => Err("an instance is none".into()),
+    match again(types, ComponentAnyTypeId::Instance(ids.instance)) {
+        Ok(ComponentAnyTypeId::Instance(made)) => {
+            match again(types, ComponentAnyTypeId::Component(ids.component)) {
+                Ok(ComponentAnyTypeId::Component(other)) => [made.index, other.index] == [3, 4],
+                _ => false,
+            }
+        }
+        _ => false,
     }
 }
 
-/// So of a component.
-fn component_again(types: &mut TypeAlloc, id: ComponentTypeId) -> Result<(u64, usize), Fail>
-    requires { Stands types.old (part.Component id) }
-{
-    match again(types, ComponentAnyTypeId::Component(id))? {
-        ComponentAnyTypeId::Component(id) => Ok((id.index, types.get(id).exports.len())),
-        _ => Err("a component is none".into()),
+/// A reference that is built again without parts stays as it is.
+pub fn a_reference_has_no_parts(types: &mut TypeAlloc) -> bool {
+    match types.alloc_resource_id() {
+        Ok(id) => {
+            let parts = types.no_parts();
+            match types.rebuild(id, &parts) {
+                Ok(made) => made == id && types.resources_made() == 2,
+                Err(_) => false,
+            }
+        }
+        Err(_) => false,
     }
 }
 
-#[test]
-fn types_get_new_identities(rt: HostRuntime) -> Result<(), Fail> {
-    let (mut types, ids) = of_each_sort(rt.alloc())?;
-    assert!(rt; instance_again(&mut types, ids.instance)? == (3, 1));
-    let (mut types, ids) = of_each_sort(rt.alloc())?;
-    assert!(rt; component_again(&mut types, ids.component)? == (3, 1));
-    Ok(())
-}
+const U8: ComponentValType = ComponentValType::Primitive(PrimitiveValType::U8);
 
-/// Whether a reference that is built again without parts stays as it is.
-fn resource_rebuilt(types: &mut TypeAlloc) -> Result<bool, OutOfMemory> {
-    let id = types.alloc_resource_id()?;
-    let parts = types.no_parts();
-    let made = types.rebuild(id, &parts)?;
-    Ok(made == id)
-}
-
-#[test]
-fn a_reference_has_no_parts(rt: HostRuntime) -> Result<(), Fail> {
-    let mut types = TypeAlloc::new(rt.alloc(), WasmFeatures::all());
-    assert!(rt; resource_rebuilt(&mut types)?);
-    assert!(rt; types.resources_made() == 1);
-    let second = types.alloc_resource_id()?;
-    assert!(rt; (second.resource().index, second.stamp) == (1, 1));
-    Ok(())
+/// A value type equals itself and no other one.
+pub fn value_types_are_equal(types: &mut TypeAlloc) -> bool {
+    [types.val_type_eq(&U32, &U32), types.val_type_eq(&U32, &U8)] == [Ok(true), Ok(false)]
 }

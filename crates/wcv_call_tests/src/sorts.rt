@@ -1,24 +1,26 @@
 // Types of the sorts that no item makes yet: an instance, a component and a core instance.
-ghost use Rattle.std.specs.Prelude.{All, IfOk, OnOk};
+ghost use Rattle.std.specs.Prelude.{◌≡◌, All, IfOk, OnOk};
 ghost use Rattle.wcv_call_tests.specs.Sorts.{AreOf};
 ghost use Rattle.wcv_types.specs.Entities.{EntityStands, EntryStands};
-ghost use Rattle.wcv_types.specs.Standing.{Fits, KeepsTrees, Stands};
-ghost use Rattle.wcv_types.specs.declared.arena.Node.TheVariants as node;
+ghost use Rattle.wcv_types.specs.Standing.{KeepsTrees, Stands};
 ghost use Rattle.wcv_types.specs.declared.ids.Part.TheVariants as part;
 
 use bitflags::Flags;
 use std::alloc::Global;
-use std::test::Fail;
-use wcv_core::{OutOfMemory, Text, WasmFeatures};
+use wcv_core::{Error, ExternKind, OutOfMemory, PrimitiveValType, Text, WasmFeatures};
+use wcv_names::{ComponentNameContext, NameSet};
+use wcv_syntax::ComponentExternName;
 use wcv_types::{
     AliasableResourceId, ComponentAnyTypeId, ComponentCoreInstanceTypeId, ComponentEntityType,
-    ComponentInstanceType, ComponentInstanceTypeId, ComponentItem, ComponentType, ComponentTypeId,
-    CoreInstanceTypeKind, ExportMap, InstanceType, ItemMap, Paths, ResourceSet, TypeAlloc,
-    TypeInfo,
+    ComponentInstanceType, ComponentInstanceTypeId, ComponentType, ComponentTypeId,
+    ComponentValType, CoreInstanceTypeKind, ExportMap, InstanceType, ItemMap, Paths, ResourceSet,
+    TypeAlloc, TypeInfo,
 };
 
-/// The types: the instance exports the type of a resource, the component exports the instance, and the core instance
-/// exports nothing.
+pub const U32: ComponentValType = ComponentValType::Primitive(PrimitiveValType::U32);
+
+/// The types: the instance exports the type of a resource, the component imports a value and exports the instance, and
+/// the core instance exports nothing.
 #[derive(Clone, Copy)]
 pub struct Sorts {
     pub instance: ComponentInstanceTypeId,
@@ -26,28 +28,84 @@ pub struct Sorts {
     pub made: ComponentCoreInstanceTypeId,
 }
 
-/// A list with one entry.
-#[tactic(auto, using(crate::proofs::Standing::one_item_stands))]
-fn one_entry(name: &str, ty: ComponentEntityType, types: &TypeAlloc) -> Result<ItemMap, OutOfMemory>
-    requires { EntityStands types.now ty }
-    ensures { IfOk result (All (EntryStands types.now)) }
+// The text behind a key, where it is that key.
+fn beside(alloc: Global, words: &str, key: &str) -> Result<Option<Text>, OutOfMemory> {
+    for word in words.split(' ') {
+        if let Some((found, text)) = word.split_once('=') {
+            if found == key {
+                return Ok(Some(Text::new(alloc, text)?));
+            }
+        }
+    }
+    Ok(None)
+}
+
+// A whole name: the name, and maybe texts beside it.
+fn whole_name(alloc: Global, words: &str) -> Result<ComponentExternName, OutOfMemory> {
+    let (name, _) = words.split_once(' ').unwrap_or((words, ""));
+    Ok(ComponentExternName {
+        name: Text::new(alloc, name)?,
+        implements: beside(alloc, words, "implements")?,
+        version_suffix: beside(alloc, words, "suffix")?,
+        external_id: beside(alloc, words, "id")?,
+    })
+}
+
+/// An entity joins a list with nothing in it.
+#[tactic(auto, using(crate::proofs::Standing::one_stands))]
+fn join(
+    name: &ComponentExternName,
+    ty: ComponentEntityType,
+    features: &WasmFeatures,
+    types: &mut TypeAlloc,
+) -> Result<ItemMap, Error>
+    requires { EntityStands types.old ty }
+    ensures items { IfOk result (All (EntryStands types.old)) }
+    ensures types { types.new ≡ types.old }
 {
-    let mut map = ItemMap::new(types.allocator());
-    let item = ComponentItem {
-        ty,
-        implements: None,
-        version_suffix: None,
-        external_id: None,
-    };
-    map.push((Text::new(types.allocator(), name)?, item))?;
-    Ok(map)
+    let alloc = types.allocator();
+    let mut keys = NameSet::new(alloc);
+    let mut items = ItemMap::new(alloc);
+    let mut info = TypeInfo { size: 1, depth: 1 };
+    let context = ComponentNameContext::new(alloc);
+    match context.validate_extern(
+        name,
+        ExternKind::Import,
+        &ty,
+        types,
+        0,
+        &mut keys,
+        &mut items,
+        &mut info,
+        features,
+    ) {
+        Ok(()) => Ok(items),
+        Err(error) => Err(error),
+    }
+}
+
+/// A list with one entity under a whole name.
+pub fn one_entry(
+    words: &str,
+    ty: ComponentEntityType,
+    features: &WasmFeatures,
+    types: &mut TypeAlloc,
+) -> Result<ItemMap, Error>
+    requires { EntityStands types.old ty }
+    ensures items { IfOk result (All (EntryStands types.old)) }
+    ensures types { types.new ≡ types.old }
+{
+    match whole_name(types.allocator(), words) {
+        Ok(name) => join(&name, ty, features, types),
+        Err(error) => Err(Error::from(error)),
+    }
 }
 
 /// The type of an instance that exports the type of the resource, and owns none.
 fn add_instance(
     types: &mut TypeAlloc,
     id: AliasableResourceId,
-) -> Result<ComponentInstanceTypeId, OutOfMemory>
+) -> Result<ComponentInstanceTypeId, Error>
     requires { Stands types.old (part.Resource id) }
     ensures stands { IfOk result (λ id. Stands types.new (part.Instance id)) }
     ensures stay { OnOk result (KeepsTrees types.old types.new) }
@@ -57,53 +115,57 @@ fn add_instance(
         created,
         referenced: created,
     };
-    let exports = one_entry("r", ty, types)?;
+    let exports = one_entry("r", ty, &WasmFeatures::all(), types)?;
     let owned = ResourceSet::new(types.allocator());
     let shape = ComponentInstanceType::over(types, owned, exports);
-    types.push_ty(shape)
+    Ok(types.push_ty(shape)?)
 }
 
-/// The type of a component that exports the instance.
+/// The type of a component that imports these, exports those, and has no resource.
+fn over(imports: ItemMap, exports: ItemMap, types: &mut TypeAlloc) -> Result<ComponentTypeId, Error>
+    requires imports { All (EntryStands types.old) imports }
+    requires exports { All (EntryStands types.old) exports }
+    ensures stands { IfOk result (λ id. Stands types.new (part.Component id)) }
+    ensures stay { OnOk result (KeepsTrees types.old types.new) }
+{
+    let imported = Paths::new(types.allocator());
+    let defined = Paths::new(types.allocator());
+    let shape = ComponentType::over(types, imports, exports, imported, defined);
+    Ok(types.push_ty(shape)?)
+}
+
+/// The type of a component that imports a value and exports the instance.
 fn add_component(
     types: &mut TypeAlloc,
     id: ComponentInstanceTypeId,
-) -> Result<ComponentTypeId, OutOfMemory>
+) -> Result<ComponentTypeId, Error>
     requires { Stands types.old (part.Instance id) }
     ensures stands { IfOk result (λ id. Stands types.new (part.Component id)) }
     ensures stay { OnOk result (KeepsTrees types.old types.new) }
 {
-    let alloc = types.allocator();
-    let exports = one_entry("i", ComponentEntityType::Instance(id), types)?;
-    let imports = ItemMap::new(alloc);
-    let imported = Paths::new(alloc);
-    let defined = Paths::new(alloc);
-    let shape = ComponentType::over(types, imports, exports, imported, defined);
-    types.push_ty(shape)
+    let features = WasmFeatures::all();
+    let imports = one_entry("v", ComponentEntityType::Value(U32), &features, types)?;
+    let words = "i implements=a:b/c@1.2 suffix=.3 id=e";
+    let exports = one_entry(words, ComponentEntityType::Instance(id), &features, types)?;
+    over(imports, exports, types)
 }
 
 /// The type of a core instance that exports nothing.
 #[tactic(auto, using(crate::proofs::Owning::bare_fits))]
-fn bare(types: &TypeAlloc) -> InstanceType
-    ensures { Fits types.now (node.CoreInstance result) }
-{
-    InstanceType {
-        info: TypeInfo { size: 1, depth: 1 },
-        kind: CoreInstanceTypeKind::Exports(ExportMap::new(types.allocator())),
-    }
-}
-
-/// So in the arena.
 fn add_bare(types: &mut TypeAlloc) -> Result<ComponentCoreInstanceTypeId, OutOfMemory>
     ensures stands { IfOk result (λ id. Stands types.new (part.CoreInstance id)) }
     ensures stay { OnOk result (KeepsTrees types.old types.new) }
 {
-    let shape = bare(types);
+    let shape = InstanceType {
+        info: TypeInfo { size: 1, depth: 1 },
+        kind: CoreInstanceTypeKind::Exports(ExportMap::new(types.allocator())),
+    };
     types.push_ty(shape)
 }
 
 /// The types over a new resource.
 #[tactic(auto, using(crate::proofs::Owning::new_resource))]
-fn add_all(types: &mut TypeAlloc) -> Result<Sorts, OutOfMemory>
+pub fn add_all(types: &mut TypeAlloc) -> Result<Sorts, Error>
     ensures { IfOk result (AreOf types.new) }
 {
     let resource = types.alloc_resource_id()?;
@@ -115,13 +177,4 @@ fn add_all(types: &mut TypeAlloc) -> Result<Sorts, OutOfMemory>
         component,
         made,
     })
-}
-
-/// So in an arena of their own.
-pub fn of_each_sort(alloc: Global) -> Result<(TypeAlloc, Sorts), Fail>
-    ensures { IfOk result (λ p. AreOf p.0 p.1) }
-{
-    let mut types = TypeAlloc::new(alloc, WasmFeatures::all());
-    let ids = add_all(&mut types)?;
-    Ok((types, ids))
 }

@@ -1,14 +1,16 @@
-// Two states with nothing in them, one around the other, and an arena: one function owns them, and a question is asked
-// over them.
+// What is asked over two states with nothing in them, one around the other, and an arena: one function owns them.
 ghost use Rattle.std.specs.Prelude.{◌≡◌, ◌<◌, false, length, All, IfOk};
 ghost use Rattle.wcv_decls.specs.Stack.{IsOpen};
 ghost use Rattle.wcv_state.specs.Contents.{StateStands};
 ghost use Rattle.wcv_types.specs.Arena.{Arena};
 
+use crate::joining::{a_function_type_is_looked_at, a_resource_is_represented, types_are_laid_out};
+use crate::modules::a_module_is_exported;
+use crate::stacks::{spent_by_core_type, spent_by_type};
+use crate::state::what_is_pushed_stands;
 use bitflags::Flags;
 use std::alloc::Global;
-use std::test::Fail;
-use wcv_core::{Error, OutOfMemory, WasmFeatures};
+use wcv_core::{OutOfMemory, WasmFeatures};
 use wcv_state::{ComponentKind, ComponentState};
 use wcv_types::TypeAlloc;
 
@@ -31,33 +33,63 @@ fn two(alloc: Global) -> Result<Vec<ComponentState>, OutOfMemory>
     Ok(states)
 }
 
-/// What is asked over two states and an arena with nothing in them.
-pub trait Question: Drop {
-    ghost use Rattle.std.specs.Prelude.{◌<◌, length, All};
-    ghost use Rattle.wcv_decls.specs.Stack.{IsOpen};
-
-    /// The answer, or a refusal.
-    fn answer(
-        self,
-        alloc: Global,
-        states: &mut Vec<ComponentState>,
-        types: &mut TypeAlloc,
-    ) -> Result<String, Error>
-        requires some { 0 < length states.old.items }
-        requires open { All (IsOpen types.old) states.old.items };
+/// What is asked.
+#[derive(Clone, Copy)]
+pub enum Question {
+    Pushed,
+    Module,
+    Resource,
+    Func,
+    Layout,
+    // how many states are spent by a type, and by a core type, that is refused or not
+    ByType(bool),
+    ByCoreType(bool),
 }
 
-// The answer over them.
-fn answer_over<Q: Question>(alloc: Global, question: Q) -> Result<String, Error> {
-    let mut states = two(alloc)?;
-    let mut types = TypeAlloc::new(alloc, WasmFeatures::all());
-    question.answer(alloc, &mut states, &mut types)
-}
-
-// In words.
-pub fn answer_words<Q: Question>(alloc: Global, question: Q) -> Result<String, Fail> {
-    match answer_over(alloc, question) {
-        Ok(words) => Ok(words),
-        Err(error) => Ok(format!(in alloc; "{} at {}", error.kind(), error.offset())?),
+/// Whether the answer is the one that is due.
+fn answers(
+    alloc: Global,
+    question: Question,
+    line: &str,
+    states: &mut Vec<ComponentState>,
+    types: &mut TypeAlloc,
+) -> bool
+    requires some { 0 < length states.old.items }
+    requires open { All (IsOpen types.old) states.old.items }
+{
+    match question {
+        Question::Pushed => what_is_pushed_stands(&mut states[0]),
+        Question::Module => a_module_is_exported(alloc, &mut states[0], types),
+        Question::Resource => a_resource_is_represented(&mut states[0], types),
+        Question::Func => a_function_type_is_looked_at(alloc, &mut states[0], types),
+        Question::Layout => types_are_laid_out(alloc, line, &mut states[0], types),
+        Question::ByType(refused) => {
+            spent_by_type(refused, states, types) == usize::from(refused) * 2
+        }
+        Question::ByCoreType(refused) => {
+            let spent = spent_by_core_type(alloc, refused, states.as_mut_slice(), types);
+            spent == usize::from(refused) * 2
+        }
     }
+}
+
+// So over two states and an arena with nothing in them.
+pub fn holds(alloc: Global, question: Question, line: &str) -> bool {
+    match two(alloc) {
+        Ok(mut states) => {
+            let mut types = TypeAlloc::new(alloc, WasmFeatures::all());
+            answers(alloc, question, line, &mut states, &mut types)
+        }
+        Err(_) => false,
+    }
+}
+
+/// The first layout that is another than is due, or no text.
+pub fn other_layout<'a>(alloc: Global, lines: &'a str) -> &'a str {
+    for line in lines.split('\n') {
+        if !holds(alloc, Question::Layout, line) {
+            return line;
+        }
+    }
+    ""
 }

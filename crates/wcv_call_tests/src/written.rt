@@ -1,105 +1,165 @@
-// Items that are written as in a listing, and types that join a state.
-ghost use Rattle.std.specs.Prelude.{◌<◌, length, All, IfOk, OnOk};
-ghost use Rattle.wcv_decls.specs.Stack.{IsOpen};
-ghost use Rattle.wcv_types.specs.Entities.{SlotStands};
-ghost use Rattle.wcv_types.specs.Unfold.{value_slot};
-
+// Defined types that are written as a form and value types behind it.
 use std::alloc::Global;
-use std::fmt::Write;
-use std::test::Fail;
-use wcv_core::{Error, ErrorKind};
-use wcv_decls::add_type_to;
-use wcv_listing::read_listing;
-use wcv_state::{ComponentState, Space};
-use wcv_syntax::{ComponentType, Item, Section};
-use wcv_types::{ComponentValType, TypeAlloc};
+use wcv_core::{OutOfMemory, PrimitiveValType, Text};
+use wcv_syntax::{ComponentDefinedType, ComponentValType, VariantCase};
 
-// The listing of items, parted by ` ; `: of each its form and its body.
-fn listing(alloc: Global, items: &str) -> Result<String, Fail> {
-    let mut text = String::from_str(alloc, "{\"version\":1,\"items\":[")?;
-    for (k, item) in items.split(" ; ").enumerate() {
-        let comma = if k == 0 { "" } else { "," };
-        let (form, body) = item.split_once(' ').ok_or("an item has no body")?;
-        write!(text, "{comma}{{\"at\":0,\"{form}\":{body}}}")?;
-    }
-    text.push_str("],\"end\":9}")?;
-    Ok(text)
-}
+const PRIMITIVES: &[(&str, PrimitiveValType)] = &[
+    ("bool", PrimitiveValType::Bool),
+    ("s8", PrimitiveValType::S8),
+    ("u8", PrimitiveValType::U8),
+    ("s16", PrimitiveValType::S16),
+    ("u16", PrimitiveValType::U16),
+    ("s32", PrimitiveValType::S32),
+    ("u32", PrimitiveValType::U32),
+    ("s64", PrimitiveValType::S64),
+    ("u64", PrimitiveValType::U64),
+    ("f32", PrimitiveValType::F32),
+    ("f64", PrimitiveValType::F64),
+    ("char", PrimitiveValType::Char),
+    ("string", PrimitiveValType::String),
+    ("error-context", PrimitiveValType::ErrorContext),
+];
 
-// The items.
-pub fn written(alloc: Global, items: &str) -> Result<Vec<Item>, Fail> {
-    let text = listing(alloc, items)?;
-    match read_listing(alloc, text.as_bytes()) {
-        Ok(listing) => Ok(listing.items),
-        Err(error) => Err(Fail::new(format_args!("{error}"))),
-    }
-}
-
-/// A type joins.
-fn add(ty: ComponentType, state: &mut ComponentState, types: &mut TypeAlloc) -> Result<(), Error>
-    requires { IsOpen types.old state.old }
-    ensures { OnOk result (IsOpen types.new state.new) }
-{
-    match add_type_to(ty, state, types, 0, true) {
-        Ok(()) => Ok(()),
-        Err(error) => Err(error),
-    }
-}
-
-// The type that an item holds, if it holds one.
-fn type_of(section: Section) -> Option<ComponentType> {
-    match section {
-        Section::Ty(ty) => Some(ty),
-        _other => None,
-    }
-}
-
-/// The types among items join, one by one.
-fn add_all(items: Vec<Item>, state: &mut ComponentState, types: &mut TypeAlloc) -> Result<(), Error>
-    requires { IsOpen types.old state.old }
-    ensures { OnOk result (IsOpen types.new state.new) }
-{
-    for item in items {
-        if let Some(ty) = type_of(item.section) {
-            add(ty, state, types)?;
+// A value type: an index, or a primitive by its name.
+fn value(word: &str) -> Option<ComponentValType> {
+    for (name, ty) in PRIMITIVES {
+        if *name == word {
+            return Some(ComponentValType::Primitive(*ty));
         }
     }
-    Ok(())
-}
-
-// The index of the last type.
-fn last_index(state: &ComponentState) -> Result<u32, Error> {
-    let last = state.space_len(Space::Types).saturating_sub(1);
-    match u32::try_from(last) {
-        Ok(index) => Ok(index),
-        Err(_) => Err(Error::told(ErrorKind::Limit, 0, "too many types")),
+    match word.parse() {
+        Ok(index) => Some(ComponentValType::Ty(index)),
+        Err(_) => None,
     }
 }
 
-/// The last type, which is a defined one.
-fn last_type(state: &ComponentState, types: &TypeAlloc) -> Result<ComponentValType, Error>
-    requires { IsOpen types.now state.now }
-    ensures { IfOk result (λ v. SlotStands types.now (value_slot v)) }
-{
-    let _ = types;
-    let index = last_index(state)?;
-    match state.defined_type_at(index, 0) {
-        Ok(id) => Ok(ComponentValType::Ty(id)),
-        Err(error) => Err(Error::from(error)),
+// The value types of words, where `256*u8` stands for 256 of them.
+fn values(alloc: Global, words: &str) -> Result<Vec<Option<ComponentValType>>, OutOfMemory> {
+    let mut values = Vec::new(alloc);
+    for word in words.split(' ') {
+        let (count, word) = word.split_once('*').unwrap_or(("1", word));
+        let count: usize = count.parse().unwrap_or(0);
+        for _ in 0..count {
+            values.push(value(word))?;
+        }
+    }
+    Ok(values)
+}
+
+// The name at a position.
+fn name(alloc: Global, k: usize) -> Result<Text, OutOfMemory> {
+    let name = format!(in alloc; "n{k}")?;
+    Text::new(alloc, name.as_str())
+}
+
+fn fields(
+    alloc: Global,
+    values: &[Option<ComponentValType>],
+) -> Result<Vec<(Text, ComponentValType)>, OutOfMemory> {
+    let mut fields = Vec::new(alloc);
+    for k in 0..values.len() {
+        if let Some(ty) = values[k] {
+            fields.push((name(alloc, k)?, ty))?;
+        }
+    }
+    Ok(fields)
+}
+
+fn cases(
+    alloc: Global,
+    values: &[Option<ComponentValType>],
+) -> Result<Vec<VariantCase>, OutOfMemory> {
+    let mut cases = Vec::new(alloc);
+    for k in 0..values.len() {
+        cases.push(VariantCase {
+            name: name(alloc, k)?,
+            ty: values[k],
+        })?;
+    }
+    Ok(cases)
+}
+
+fn names(alloc: Global, count: usize) -> Result<Vec<Text>, OutOfMemory> {
+    let mut names = Vec::new(alloc);
+    for k in 0..count {
+        names.push(name(alloc, k)?)?;
+    }
+    Ok(names)
+}
+
+fn all(
+    alloc: Global,
+    values: &[Option<ComponentValType>],
+) -> Result<Vec<ComponentValType>, OutOfMemory> {
+    let mut types = Vec::new(alloc);
+    for value in values {
+        if let Some(ty) = value {
+            types.push(*ty)?;
+        }
+    }
+    Ok(types)
+}
+
+// The type at a position, where there is one.
+fn at(values: &[Option<ComponentValType>], k: usize) -> Option<ComponentValType> {
+    match values.get(k) {
+        Some(ty) => *ty,
+        None => None,
     }
 }
 
-/// The last of the types that are written.
-pub fn last_written(
-    items: Vec<Item>,
-    states: &mut [ComponentState],
-    types: &mut TypeAlloc,
-) -> Result<ComponentValType, Error>
-    requires some { 0 < length states.old }
-    requires open { All (IsOpen types.old) states.old }
-    ensures { IfOk result (λ v. SlotStands types.new (value_slot v)) }
-{
-    let state = &mut states[0];
-    add_all(items, state, types)?;
-    last_type(state, types)
+// A number is written as an index is.
+fn number(ty: ComponentValType) -> u32 {
+    match ty {
+        ComponentValType::Ty(number) => number,
+        ComponentValType::Primitive(_) => 0,
+    }
+}
+
+// A form without names.
+fn plain(
+    form: &str,
+    a: Option<ComponentValType>,
+    b: Option<ComponentValType>,
+) -> ComponentDefinedType {
+    let none = ComponentValType::Primitive(PrimitiveValType::Bool);
+    let (first, second) = (a.unwrap_or(none), b.unwrap_or(none));
+    match form {
+        "list" => ComponentDefinedType::List(first),
+        "map" => ComponentDefinedType::Map(first, second),
+        "fixed-list" => ComponentDefinedType::FixedLengthList(first, number(second)),
+        "option" => ComponentDefinedType::Option(first),
+        "result" => ComponentDefinedType::Result { ok: a, err: b },
+        "own" => ComponentDefinedType::Own(number(first)),
+        "borrow" => ComponentDefinedType::Borrow(number(first)),
+        "future" => ComponentDefinedType::Future(a),
+        "stream" => ComponentDefinedType::Stream(a),
+        _ => match value(form) {
+            Some(ComponentValType::Primitive(ty)) => ComponentDefinedType::Primitive(ty),
+            _ => ComponentDefinedType::Own(9),
+        },
+    }
+}
+
+// A form over value types.
+fn shape(
+    alloc: Global,
+    form: &str,
+    values: &[Option<ComponentValType>],
+) -> Result<ComponentDefinedType, OutOfMemory> {
+    match form {
+        "record" => Ok(ComponentDefinedType::Record(fields(alloc, values)?)),
+        "variant" => Ok(ComponentDefinedType::Variant(cases(alloc, values)?)),
+        "tuple" => Ok(ComponentDefinedType::Tuple(all(alloc, values)?)),
+        "flags" => Ok(ComponentDefinedType::Flags(names(alloc, values.len())?)),
+        "enum" => Ok(ComponentDefinedType::Enum(names(alloc, values.len())?)),
+        _ => Ok(plain(form, at(values, 0), at(values, 1))),
+    }
+}
+
+/// The type.
+pub fn written(alloc: Global, text: &str) -> Result<ComponentDefinedType, OutOfMemory> {
+    let (form, words) = text.split_once(' ').unwrap_or((text, ""));
+    let values = values(alloc, words)?;
+    shape(alloc, form, values.as_slice())
 }

@@ -1,5 +1,5 @@
 use Rattle.std.proofs.Common.{[]}
-use Rattle.wcv_call_tests.proofs.items.add_module.Goals as goal
+use Rattle.wcv_call_tests.proofs.joining.add.Goals as goal
 
 pub returns-in-Ok : goal.returns-in-Ok
 returns-in-Ok c = record { live = (c.in-Ok.ensures.ok [] []).live; stands = c.in-Ok.ensures.keeps.stands }

@@ -1,5 +1,5 @@
 use Rattle.wcv_call_tests.proofs.Opened.{module_new, module_unnamed}
-use Rattle.wcv_call_tests.proofs.items.add_entry.Goals as goal
+use Rattle.wcv_call_tests.proofs.modules.add_entry.Goals as goal
 
 pub add_export-requires-clause-introduced : goal.add_export-requires-clause-introduced
 add_export-requires-clause-introduced c = module_new c.args.state.now c.args.id

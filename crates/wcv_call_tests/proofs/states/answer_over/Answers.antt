@@ -1,4 +1,0 @@
-use Rattle.wcv_call_tests.proofs.states.answer_over.Goals as goal
-
-pub answer-requires-clause-open : goal.answer-requires-clause-open
-answer-requires-clause-open g c = c.in_ok-states.ensures.open c.new-types.result

@@ -1,0 +1,152 @@
+// Types that join a state, and what is read from it then.
+ghost use Rattle.std.specs.Prelude.{OnOk};
+ghost use Rattle.wcv_decls.specs.Stack.{IsOpen};
+ghost use Rattle.wcv_types.specs.Entities.{EntityStands, SlotStands};
+ghost use Rattle.wcv_types.specs.Unfold.{value_slot};
+
+use crate::written::written;
+use std::alloc::{AllocError, Global};
+use wcv_core::{Error, ValType};
+use wcv_decls::add_type_to;
+use wcv_state::{ComponentState, Space};
+use wcv_syntax::{ComponentDefinedType, ComponentFuncType, ComponentType, ComponentTypeRef};
+use wcv_types::{AbiInfo, ComponentEntityType, ComponentValType, ResourceSet, TypeAlloc};
+
+/// A type joins.
+fn add(ty: ComponentType, state: &mut ComponentState, types: &mut TypeAlloc) -> Result<(), Error>
+    requires { IsOpen types.old state.old }
+    ensures { OnOk result (IsOpen types.new state.new) }
+{
+    match add_type_to(ty, state, types, 0, true) {
+        Ok(()) => Ok(()),
+        Err(error) => Err(error),
+    }
+}
+
+/// So a resource, which `i64` represents.
+fn add_resource(state: &mut ComponentState, types: &mut TypeAlloc) -> Result<(), Error>
+    requires { IsOpen types.old state.old }
+    ensures { OnOk result (IsOpen types.new state.new) }
+{
+    let rep = ValType::I64;
+    add(ComponentType::Resource { rep, dtor: None }, state, types)
+}
+
+/// A resource that joins is known with what represents it.
+pub fn a_resource_is_represented(state: &mut ComponentState, types: &mut TypeAlloc) -> bool
+    requires { IsOpen types.old state.old }
+{
+    let is_in = add_resource(state, types).is_ok();
+    match state.local_rep(0, 4) {
+        Ok((id, ValType::I64)) => is_in && id.index == 0,
+        _ => false,
+    }
+}
+
+/// A function type gives its entity.
+pub fn a_function_type_is_looked_at(
+    alloc: Global,
+    state: &mut ComponentState,
+    types: &mut TypeAlloc,
+) -> bool
+    requires { IsOpen types.old state.old }
+{
+    let ty = ComponentType::Func(ComponentFuncType {
+        async_: false,
+        params: Vec::new(alloc),
+        result: None,
+    });
+    match add(ty, state, types) {
+        Ok(()) => match state.check_type_ref(&ComponentTypeRef::Func(0), types, 5) {
+            Ok(ComponentEntityType::Func(_)) => true,
+            _ => false,
+        },
+        Err(_) => false,
+    }
+}
+
+/// Defined types join, behind a resource and its handles.
+fn add_all(
+    alloc: Global,
+    row: &str,
+    state: &mut ComponentState,
+    types: &mut TypeAlloc,
+) -> Result<(), Error>
+    requires { IsOpen types.old state.old }
+    ensures { OnOk result (IsOpen types.new state.new) }
+{
+    add_resource(state, types)?;
+    add(
+        ComponentType::Defined(ComponentDefinedType::Own(0)),
+        state,
+        types,
+    )?;
+    add(
+        ComponentType::Defined(ComponentDefinedType::Borrow(0)),
+        state,
+        types,
+    )?;
+    for text in row.split(" ; ") {
+        let ty = written(alloc, text)?;
+        add(ComponentType::Defined(ty), state, types)?;
+    }
+    Ok(())
+}
+
+/// Whether a resource is free in a value of the type.
+fn is_free(types: &TypeAlloc, ty: ComponentValType) -> bool
+    requires { SlotStands types.now (value_slot ty) }
+{
+    let mut free = ResourceSet::new(types.allocator());
+    let _ = types.free_variables_component_entity(&ComponentEntityType::Value(ty), &mut free);
+    free.get_index(0).is_some()
+}
+
+// The numbers of a layout, and words for what stands in it.
+fn layout_words(alloc: Global, abi: AbiInfo, free: bool) -> Result<String, AllocError> {
+    let marks = match (abi.contains_handle, abi.contains_borrow, free) {
+        (false, _, _) => "",
+        (true, false, false) => " handle",
+        (true, false, true) => " handle free",
+        (true, true, false) => " handle borrow",
+        (true, true, true) => " handle borrow free",
+    };
+    let pointer = if abi.contains_ptr { " pointer" } else { "" };
+    let (size32, align32) = (abi.size32, abi.align32);
+    let (size64, align64) = (abi.size64, abi.align64);
+    format!(in alloc; "{size32} {align32} {size64} {align64}{pointer}{marks}")
+}
+
+/// Whether the last type has the layout that is due.
+fn is_laid_out(alloc: Global, due: &str, state: &ComponentState, types: &TypeAlloc) -> bool
+    requires { IsOpen types.now state.now }
+{
+    let last = state.space_len(Space::Types).saturating_sub(1);
+    let index = u32::try_from(last).unwrap_or(0);
+    match state.defined_type_at(index, 0) {
+        Ok(id) => {
+            let ty = ComponentValType::Ty(id);
+            match layout_words(alloc, types.abi_info(&ty), is_free(types, ty)) {
+                Ok(words) => words.as_str() == due,
+                Err(_) => false,
+            }
+        }
+        Err(_) => false,
+    }
+}
+
+/// So of the types of a row.
+pub fn types_are_laid_out(
+    alloc: Global,
+    line: &str,
+    state: &mut ComponentState,
+    types: &mut TypeAlloc,
+) -> bool
+    requires { IsOpen types.old state.old }
+{
+    let (row, due) = line.split_once(" => ").unwrap_or((line, ""));
+    match add_all(alloc, row, state, types) {
+        Ok(()) => is_laid_out(alloc, due, state, types),
+        Err(_) => false,
+    }
+}

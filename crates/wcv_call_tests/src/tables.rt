@@ -1,0 +1,51 @@
+// All tables, and the one test over them.
+use crate::arena::{Asked, holds_of_arena};
+use crate::base::{a_label_is_kept, a_map_gives_its_pairs};
+use crate::layouts::LAYOUTS;
+use crate::lists::{
+    a_list_has_its_parts, a_set_of_resources_is_copied, a_set_of_types_is_copied,
+    exports_are_copied, items_are_found,
+};
+use crate::names::a_setter_has_a_getter;
+use crate::printed::{a_group_is_printed, items_are_printed};
+use crate::states::{Question, holds, other_layout};
+use std::alloc::Global;
+
+// Whether each case is answered as is due.
+fn cases(alloc: Global) -> [bool; 27] {
+    [
+        a_label_is_kept(alloc),
+        a_group_is_printed(alloc),
+        items_are_printed(alloc),
+        a_map_gives_its_pairs(alloc),
+        a_setter_has_a_getter(alloc),
+        a_list_has_its_parts(alloc),
+        a_set_of_types_is_copied(alloc),
+        a_set_of_resources_is_copied(alloc),
+        exports_are_copied(alloc),
+        items_are_found(alloc),
+        holds_of_arena(alloc, Asked::CoreTypes),
+        holds_of_arena(alloc, Asked::Nodes),
+        holds_of_arena(alloc, Asked::Names),
+        holds_of_arena(alloc, Asked::Free),
+        holds_of_arena(alloc, Asked::Path),
+        holds_of_arena(alloc, Asked::Text),
+        holds_of_arena(alloc, Asked::Identities),
+        holds_of_arena(alloc, Asked::Reference),
+        holds_of_arena(alloc, Asked::Equal),
+        holds(alloc, Question::Pushed, ""),
+        holds(alloc, Question::Module, ""),
+        holds(alloc, Question::Resource, ""),
+        holds(alloc, Question::Func, ""),
+        holds(alloc, Question::ByType(false), ""),
+        holds(alloc, Question::ByType(true), ""),
+        holds(alloc, Question::ByCoreType(false), ""),
+        holds(alloc, Question::ByCoreType(true), ""),
+    ]
+}
+
+#[test]
+fn all_is_answered_as_is_due(rt: HostRuntime) {
+    assert_eq!(rt; cases(rt.alloc()), [true; 27]);
+    assert_eq!(rt; other_layout(rt.alloc(), LAYOUTS), "");
+}
