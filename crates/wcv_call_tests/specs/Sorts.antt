@@ -2,7 +2,7 @@
 use Rattle.wcv_types.specs.Arena.{Arena}
 use Rattle.wcv_types.specs.Standing.{Stands}
 use Rattle.wcv_types.specs.declared.ids.Part.TheVariants as part
-use Rattle.wcv_call_tests.specs.declared.sorts.Sorts.{Sorts}
+use Rattle.wcv_call_tests.specs.declared.ids.Sorts.{Sorts}
 
 pub record AreOf (a : Arena) (s : Sorts) : Type 0 where
   pub instance : Stands a (part.Instance s.instance)

@@ -3,7 +3,8 @@ ghost use Rattle.std.specs.Prelude.{◌≡◌};
 ghost use Rattle.wcv_call_tests.specs.Sorts.{AreOf};
 ghost use Rattle.wcv_types.specs.Entities.{EntityStands};
 
-use crate::sorts::{Sorts, U32, one_entry};
+use crate::ids::Sorts;
+use crate::sorts::{U32, one_entry};
 use bitflags::Flags;
 use wcv_core::{ErrorKind, WasmFeatures};
 use wcv_types::{ComponentEntityType, TypeAlloc};

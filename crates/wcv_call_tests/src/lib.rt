@@ -10,6 +10,7 @@ mod base;
 mod core_types;
 #[cfg(test)]
 mod externs;
+mod ids;
 #[cfg(test)]
 mod joining;
 #[cfg(test)]

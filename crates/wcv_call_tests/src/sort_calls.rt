@@ -5,7 +5,8 @@ ghost use Rattle.wcv_types.specs.Entities.{any_part, EntryStands};
 ghost use Rattle.wcv_types.specs.Standing.{KeepsTrees, Stands};
 ghost use Rattle.wcv_types.specs.declared.ids.Part.TheVariants as part;
 
-use crate::sorts::{Sorts, U32, one_entry};
+use crate::ids::Sorts;
+use crate::sorts::{U32, one_entry};
 use bitflags::Flags;
 use std::marker::Brand;
 use std::sync::ledger::{Blank, Ledger};

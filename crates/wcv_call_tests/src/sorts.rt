@@ -5,6 +5,7 @@ ghost use Rattle.wcv_types.specs.Entities.{EntityStands, EntryStands};
 ghost use Rattle.wcv_types.specs.Standing.{KeepsTrees, Stands};
 ghost use Rattle.wcv_types.specs.declared.ids.Part.TheVariants as part;
 
+use crate::ids::Sorts;
 use bitflags::Flags;
 use std::alloc::Global;
 use wcv_core::{Error, ExternKind, OutOfMemory, PrimitiveValType, Text, WasmFeatures};
@@ -18,15 +19,6 @@ use wcv_types::{
 };
 
 pub const U32: ComponentValType = ComponentValType::Primitive(PrimitiveValType::U32);
-
-/// The types: the instance exports the type of a resource, the component imports a value and exports the instance, and
-/// the core instance exports nothing.
-#[derive(Clone, Copy)]
-pub struct Sorts {
-    pub instance: ComponentInstanceTypeId,
-    pub component: ComponentTypeId,
-    pub made: ComponentCoreInstanceTypeId,
-}
 
 // The text behind a key, where it is that key.
 fn beside(alloc: Global, words: &str, key: &str) -> Result<Option<Text>, OutOfMemory> {
