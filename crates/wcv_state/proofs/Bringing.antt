@@ -22,7 +22,7 @@ use Rattle.wcv_types.specs.declared.shapes.ComponentEntityType.{ComponentEntityT
 use Rattle.wcv_types.specs.declared.shapes.ComponentEntityType.TheVariants as entity
 use Rattle.wcv_types.proofs.Each.{map-push, length-mapped}
 use Rattle.wcv_lower.specs.Context.{Side}
-use Rattle.wcv_state.specs.Contents.{Contents, Listed, sides, names, LeadsToImport, StateStands}
+use Rattle.wcv_state.specs.Contents.{Contents, Listed, sides, names, LeadsToImport, StateStands, IsSized}
 use Rattle.wcv_state.specs.Looking.{is_built_entity, entered, introduced_by, introduced_id, import_paths, export_reps}
 use Rattle.wcv_state.specs.Promises.{IsPrefix, Keeps}
 use Rattle.wcv_state.proofs.Keeping.{state_stands, keeps_grown, keeps_trans, keeps_entry, same_imported, one_imported, same_defined, one_defined}
@@ -124,6 +124,6 @@ pub keeps_entry_in : (a b : Arena) (s z s' : Contents) (e : Text × ComponentIte
     ((d : Side) → (sides s' d ≡ sides z d) ⊎ (sides s' d ≡ sides z d ++ e ∷ [])) →
     (StateStands b z → IsPrefix z.imported_resources s'.imported_resources × All (λ (p : ResourceId × List ℕ). ResourceStands b p.0) s'.imported_resources × All (LeadsToImport b s'.imports) s'.imported_resources) →
     (StateStands b z → IsPrefix z.defined_resources s'.defined_resources × All (λ (p : ResourceId × Option ValType). ResourceStands b p.0) s'.defined_resources) →
-    (StateStands b z → (d : Side) → IsPrefix (names z d) (names s' d) × AllStand b (names s' d)) → s'.kind ≡ z.kind → s'.features ≡ z.features → Keeps a b s s'
-keeps_entry_in a b s z s' e g ez h built stands spaces lists imported defined named kind features =
-    keeps_trans a b b s s s' (keeps_grown a b s g h) (keeps_entry b s z s' e ez (state_stands a b g s h) built stands spaces lists imported defined named kind features)
+    (StateStands b z → (d : Side) → IsPrefix (names z d) (names s' d) × AllStand b (names s' d)) → (IsSized (trees b.nodes) z → IsSized (trees b.nodes) s') → s'.kind ≡ z.kind → s'.features ≡ z.features → Keeps a b s s'
+keeps_entry_in a b s z s' e g ez h built stands spaces lists imported defined named sized kind features =
+    keeps_trans a b b s s s' (keeps_grown a b s g h) (keeps_entry b s z s' e ez (state_stands a b g s h) built stands spaces lists imported defined named sized kind features)

@@ -59,13 +59,13 @@ loop-item-preserved c =
 ended : (xs : List Item) (n : ℕ) → n ≡ length xs → n ≡ 0 → items_view xs ≡ no_items
 ended xs n e z = ap items_view (nil_from_length xs (sym e ∙ z))
 
-pub finish-requires : goal.finish-requires
-finish-requires c = record { live = c.loop-item.invariant.read.ready.live; stands = c.loop-item.invariant.read.ready.stands }
+pub take_type-requires : goal.take_type-requires
+take_type-requires c = record { live = c.loop-item.invariant.read.ready.live; stands = c.loop-item.invariant.read.ready.stands }
 
 pub returns-in-Err-clause-err : goal.returns-in-Err-clause-err
 returns-in-Err-clause-err c =
     let left = into_iter_items c.loop-item.item-iterator in
-    refused_end c.loop-item.types c.loop-item.state (length c.loop-item.yielded) c.args.state.now.features (items_view c.args.items.items) (items_view left) c.loop-item.invariant.read c.finish.new.self c.args.end c.in-Err.error (ended left _ c.loop-item.invariant.left c.in-None.ensures.steps.0) c.in-Err.ensures.err
+    refused_end c.loop-item.types c.loop-item.state (length c.loop-item.yielded) c.args.state.now.features (items_view c.args.items.items) (items_view left) c.loop-item.invariant.read c.take_type.new.self c.args.end c.in-Err.error (ended left _ c.loop-item.invariant.left c.in-None.ensures.steps.0) c.in-Err.ensures.err
 
 pub returns-in-Ok-clause-ok : goal.returns-in-Ok-clause-ok
 returns-in-Ok-clause-ok c = λ a types state ty none.
