@@ -1,14 +1,17 @@
 -- By place each resource is new where it is introduced, so that none is both imported and defined.
-use Rattle.std.proofs.Common.{◌≡◌, ℕ, suc, ◌<◌, List, [], ◌∷◌, ◌++◌, true, sym, subst, arith, ◌⊎◌, inl, inr}
+use Rattle.std.proofs.Common.{◌≡◌, ℕ, suc, ◌<◌, List, [], ◌∷◌, ◌++◌, Bool, true, false, cond, refl, sym, subst, arith, ◌⊎◌, inl, inr}
 use Rattle.std.specs.Prelude.{Option}
 use Rattle.std.proofs.lemmas.List.Elements.{All-nil}
 use Rattle.wcv_core.specs.Names.{Name, Place, base, deeper, under}
 use Rattle.wcv_core.specs.declared.core_types.ValType.{ValType}
 use Rattle.wcv_core.specs.declared.features.WasmFeatures.{WasmFeatures}
 use Rattle.wcv_core.proofs.Places.{under-refl, one-item}
-use Rattle.wcv_syntax.specs.Model.{Items, no_items, next_item}
-use Rattle.wcv_lower.specs.Growth.{step}
-use Rattle.wcv_lower.specs.Names.{names_by_place}
+use Rattle.wcv_syntax.specs.Model.{Form, Items, no_items, next_item}
+use Rattle.std.proofs.lemmas.Bool.{false≢true}
+use Rattle.wcv_syntax.specs.Built.{is_built}
+use Rattle.wcv_lower.specs.Checks.{IsFree}
+use Rattle.wcv_lower.specs.Growth.{step, form_checks, left_checks, unbuilt, checks}
+use Rattle.wcv_lower.specs.Names.{Names, names_by_place}
 use Rattle.wcv_lower.specs.Step.{Step, apply}
 use Rattle.wcv_lower.specs.Trees.{Tree_context, Tree_stack, tree_reader, tree_maker}
 use Rattle.wcv_link.proofs.Growing.{IsKnown, Leads, Adds, adds_none, adds_import, adds_definition, Grows, step-grows}
@@ -120,11 +123,19 @@ module _ (w : Place) (k : ℕ) (c d : Tree_context) (h : Settles w k c) (known :
       apart r x (inl y) = h.apart r x y
       apart r x (inr e) = not-yet w k (subst (PlacedBefore w k) e (h.imported r x))
 
+-- an item without a cause is of a form that is built
+built_here : (fs : WasmFeatures) (names : Names) (p : Place) (s : Tree_stack) (f : Form) → IsFree (checks fs (tree_maker names p) s f) → is_built f ≡ true
+built_here fs names p s f h = go (is_built f) refl h
+  where
+    go : (b : Bool) → is_built f ≡ b → IsFree (cond b (form_checks fs (tree_maker names p) s f ++ left_checks s.top f) unbuilt) → is_built f ≡ true
+    go true e h = e
+    go false e h = absurd (false≢true (sym h.0))
+
 -- the items lead to such a context
 pub reading-settles : (fs : WasmFeatures) (w : Place) (k : ℕ) (s : Tree_stack) (is : Items) (t : Tree_stack) → ValidFrom fs names_by_place w k s is t → Settles w k s.top → (n : ℕ) × Settles w n t.top
 reading-settles fs w k s no_items t v h = (k, subst (λ (u : Tree_stack). Settles w k u.top) v h)
 reading-settles fs w k s (next_item at f is) t v h =
     let p : Place = deeper w k in
     let m = mapped-some (λ (x : Step tree_reader). apply x s) (step fs (tree_maker names_by_place p) s f) v.1.0 v.1.1 in
-    let g : Grows (base p) s.top v.1.0.top = subst (λ (u : Tree_stack). Grows (base p) s.top u.top) m.2 (step-grows fs names_by_place p s f m.0 m.1) in
+    let g : Grows (base p) s.top v.1.0.top = subst (λ (u : Tree_stack). Grows (base p) s.top u.top) m.2 (step-grows fs names_by_place p s f m.0 (built_here fs names_by_place p s f v.0) m.1) in
     reading-settles fs w (suc k) v.1.0 is t v.1.2 (settles-more w k s.top v.1.0.top h (g.known h.known) (g.leads h.leads) g.adds)

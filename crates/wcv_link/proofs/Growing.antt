@@ -10,6 +10,8 @@ use Rattle.wcv_core.specs.CoreJoining.{group_ids, grown}
 use Rattle.wcv_core.specs.CoreWritten.{closed_group}
 use Rattle.wcv_core.specs.declared.core_types.EntityType.{EntityType}
 use Rattle.wcv_core.specs.declared.features.WasmFeatures.{WasmFeatures}
+use Rattle.std.proofs.lemmas.Bool.{false≢true}
+use Rattle.wcv_syntax.specs.Built.{is_built_ref, is_built}
 use Rattle.wcv_syntax.specs.Model.{Core_type_form, core_rec, core_module_type, Form, core_type_item, core_module_item, core_instance_item, type_item, import_item, export_item, component_item, instance_item, alias_item, start_item, canon_item, unread, Type_form, defined_type, func_type, component_type, instance_type, resource_type}
 use Rattle.wcv_syntax.specs.ModuleTypes.{Module_type, Made, written_group}
 use Rattle.wcv_syntax.specs.declared.component_type.ComponentTypeRef.{ComponentTypeRef}
@@ -335,22 +337,22 @@ core-within c h k i t e = all-get (Within (In c)) (c.core k) i t (h.core k) e
 abbrev EntersGrows : Name → Side → Extern_name → Tree_stack → Brought tree_reader → Type 0
 EntersGrows q d n s b = StepGrows q s (enters d n b)
 
-import-grows : (names : Names) (p : Place) (s : Tree_stack) (n : Extern_name) (x : ComponentTypeRef) (b : Brought tree_reader) → written (tree_maker names p) s.top x ≡ Some b → EntersGrows (names.resource (introduced p)) importing n s b
-import-grows names p s n (ref.Func k) b e =
+import-grows : (names : Names) (p : Place) (s : Tree_stack) (n : Extern_name) (x : ComponentTypeRef) (b : Brought tree_reader) → is_built_ref x ≡ true → written (tree_maker names p) s.top x ≡ Some b → EntersGrows (names.resource (introduced p)) importing n s b
+import-grows names p s n (ref.Func k) b i e =
     let m = mapped-some (bare tree_reader) (type_of_sort is_func s.top k) b e in
     subst (EntersGrows (names.resource (introduced p)) importing n s) m.2 (bare-grows (names.resource (introduced p)) importing n m.0 s (λ h. sorted-within s.top h is_func k m.0 m.1))
-import-grows names p s n (ref.Ty (bounds.Eq k)) b e =
+import-grows names p s n (ref.Ty (bounds.Eq k)) b i e =
     let m = mapped-some (again_brought (tree_maker names p)) (type_at s.top k) b e in
     subst (EntersGrows (names.resource (introduced p)) importing n s) m.2
     (bare-grows (names.resource (introduced p)) importing n (again_brought (tree_maker names p) m.0).entity s (λ h. again-within s.top h names p m.0 (type-within s.top h k m.0 m.1)))
-import-grows names p s n (ref.Ty bounds.SubResource) b e = subst (EntersGrows (names.resource (introduced p)) importing n s) (some-inj e) (new_resource-grows names p n s)
-import-grows names p s n (ref.Module k) b e =
+import-grows names p s n (ref.Ty bounds.SubResource) b i e = subst (EntersGrows (names.resource (introduced p)) importing n s) (some-inj e) (new_resource-grows names p n s)
+import-grows names p s n (ref.Module k) b i e =
     let m = mapped-some (bare tree_reader) (module_type_at s.top k) b e in
     subst (EntersGrows (names.resource (introduced p)) importing n s) m.2
     (bare-grows (names.resource (introduced p)) importing n m.0 s (λ h. core-within s.top h core_types k m.0 (sorted-same is_module (slice_get (s.top.core core_types) k) m.0 m.1)))
-import-grows names p s n (ref.Value v) b e = cc
-import-grows names p s n (ref.Instance k) b e = cc
-import-grows names p s n (ref.Component k) b e = cc
+import-grows names p s n (ref.Value v) b i e = absurd (false≢true i)
+import-grows names p s n (ref.Instance k) b i e = absurd (false≢true i)
+import-grows names p s n (ref.Component k) b i e = absurd (false≢true i)
 
 -- an item of a space is exported as it is
 item-grows : (q : Name) (s : Tree_stack) (n : Extern_name) (k : Space) (i : ℕ) (b : Brought tree_reader) → option_map (bare tree_reader) (slice_get (s.top.space k) i) ≡ Some b → EntersGrows q exporting n s b
@@ -438,20 +440,20 @@ core_type-grows fs q names p s (core_module_type ds) x e = module-grows q names 
 
 -- ## Items
 
-pub step-grows : (fs : WasmFeatures) (names : Names) (p : Place) (s : Tree_stack) (f : Form) (x : Step tree_reader) → step fs (tree_maker names p) s f ≡ Some x → StepGrows (names.resource (introduced p)) s x
-step-grows fs names p s (type_item t) x e = type-grows names p s t x e
-step-grows fs names p s (import_item i) x e =
+pub step-grows : (fs : WasmFeatures) (names : Names) (p : Place) (s : Tree_stack) (f : Form) (x : Step tree_reader) → is_built f ≡ true → step fs (tree_maker names p) s f ≡ Some x → StepGrows (names.resource (introduced p)) s x
+step-grows fs names p s (type_item t) x b e = type-grows names p s t x e
+step-grows fs names p s (import_item i) x b e =
     let m = mapped-some (enters importing (extern_name i.name)) (written (tree_maker names p) s.top i.ty) x e in
-    subst (StepGrows (names.resource (introduced p)) s) m.2 (import-grows names p s (extern_name i.name) i.ty m.0 m.1)
-step-grows fs names p s (export_item i) x e =
+    subst (StepGrows (names.resource (introduced p)) s) m.2 (import-grows names p s (extern_name i.name) i.ty m.0 b m.1)
+step-grows fs names p s (export_item i) x b e =
     let m = mapped-some (enters exporting (extern_name i.name)) (exported (tree_maker names p) s.top i) x e in
     subst (StepGrows (names.resource (introduced p)) s) m.2 (export-grows names p s (extern_name i.name) i.kind i.index m.0 m.1)
-step-grows fs names p s (core_type_item t) x e = core_type-grows fs (names.resource (introduced p)) names p s t x e
-step-grows fs names p s (core_module_item ds) x e = module-grows (names.resource (introduced p)) names p core_modules s (core_module_made fs s ds) x e
-step-grows fs names p s (core_instance_item i) x e = cc
-step-grows fs names p s (component_item is end) x e = cc
-step-grows fs names p s (instance_item i) x e = cc
-step-grows fs names p s (alias_item a) x e = cc
-step-grows fs names p s (start_item k args results) x e = cc
-step-grows fs names p s (canon_item k) x e = cc
-step-grows fs names p s unread x e = cc
+step-grows fs names p s (core_type_item t) x b e = core_type-grows fs (names.resource (introduced p)) names p s t x e
+step-grows fs names p s (core_module_item ds) x b e = module-grows (names.resource (introduced p)) names p core_modules s (core_module_made fs s ds) x e
+step-grows fs names p s (core_instance_item i) x b e = cc
+step-grows fs names p s (component_item is end) x b e = cc
+step-grows fs names p s (instance_item i) x b e = cc
+step-grows fs names p s (alias_item a) x b e = cc
+step-grows fs names p s (start_item k args results) x b e = cc
+step-grows fs names p s (canon_item k) x b e = cc
+step-grows fs names p s unread x b e = cc
