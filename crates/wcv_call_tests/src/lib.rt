@@ -12,6 +12,10 @@ mod core_types;
 mod externs;
 mod ids;
 #[cfg(test)]
+mod flat;
+#[cfg(test)]
+mod flat_rows;
+#[cfg(test)]
 mod joining;
 #[cfg(test)]
 mod layouts;

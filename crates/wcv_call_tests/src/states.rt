@@ -4,6 +4,7 @@ ghost use Rattle.wcv_decls.specs.Stack.{IsOpen};
 ghost use Rattle.wcv_state.specs.Contents.{StateStands};
 ghost use Rattle.wcv_types.specs.Arena.{Arena};
 
+use crate::flat::{a_function_is_lowered, types_are_flat};
 use crate::joining::{a_function_type_is_looked_at, a_resource_is_represented, types_are_laid_out};
 use crate::modules::a_module_is_exported;
 use crate::stacks::{spent_by_core_type, spent_by_type};
@@ -41,6 +42,8 @@ pub enum Question {
     Resource,
     Func,
     Layout,
+    Flat,
+    Lowered,
     // how many states are spent by a type, and by a core type, that is refused or not
     ByType(bool),
     ByCoreType(bool),
@@ -63,6 +66,8 @@ fn answers(
         Question::Resource => a_resource_is_represented(&mut states[0], types),
         Question::Func => a_function_type_is_looked_at(alloc, &mut states[0], types),
         Question::Layout => types_are_laid_out(alloc, line, &mut states[0], types),
+        Question::Flat => types_are_flat(alloc, line, &mut states[0], types),
+        Question::Lowered => a_function_is_lowered(alloc, line, &mut states[0], types),
         Question::ByType(refused) => {
             spent_by_type(refused, states, types) == usize::from(refused) * 2
         }
@@ -84,10 +89,10 @@ pub fn holds(alloc: Global, question: Question, line: &str) -> bool {
     }
 }
 
-/// The first layout that is another than is due, or no text.
-pub fn other_layout<'a>(alloc: Global, lines: &'a str) -> &'a str {
+/// The first line of which the answer is another than is due, or no text.
+pub fn other_answer<'a>(alloc: Global, question: Question, lines: &'a str) -> &'a str {
     for line in lines.split('\n') {
-        if !holds(alloc, Question::Layout, line) {
+        if !holds(alloc, question, line) {
             return line;
         }
     }

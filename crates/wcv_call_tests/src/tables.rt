@@ -1,6 +1,7 @@
 // All tables, and the one test over them.
 use crate::arena::{Asked, holds_of_arena};
 use crate::base::{a_label_is_kept, a_map_gives_its_pairs};
+use crate::flat_rows::{FLAT, LOWERED};
 use crate::layouts::LAYOUTS;
 use crate::lists::{
     a_list_has_its_parts, a_set_of_resources_is_copied, a_set_of_types_is_copied,
@@ -8,7 +9,7 @@ use crate::lists::{
 };
 use crate::names::a_setter_has_a_getter;
 use crate::printed::{a_group_is_printed, items_are_printed};
-use crate::states::{Question, holds, other_layout};
+use crate::states::{Question, holds, other_answer};
 use std::alloc::Global;
 
 // Whether each case is answered as is due.
@@ -47,5 +48,7 @@ fn cases(alloc: Global) -> [bool; 27] {
 #[test]
 fn all_is_answered_as_is_due(rt: HostRuntime) {
     assert_eq!(rt; cases(rt.alloc()), [true; 27]);
-    assert_eq!(rt; other_layout(rt.alloc(), LAYOUTS), "");
+    assert_eq!(rt; other_answer(rt.alloc(), Question::Layout, LAYOUTS), "");
+    assert_eq!(rt; other_answer(rt.alloc(), Question::Flat, FLAT), "");
+    assert_eq!(rt; other_answer(rt.alloc(), Question::Lowered, LOWERED), "");
 }

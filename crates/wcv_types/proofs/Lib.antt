@@ -24,6 +24,7 @@ pub mod AddedAgain
 pub mod Slots
 pub mod Naming
 pub mod Aligning
+pub mod Cutting
 pub mod Sums
 pub mod Forming
 pub mod Sharing

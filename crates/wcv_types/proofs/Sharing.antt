@@ -1,5 +1,5 @@
 -- Nodes that share what they are made of, and what is kept of it.
-use Rattle.std.proofs.Common.{◌≡◌, ℕ, zero, suc, ◌<◌, ◌≤◌, List, [], ◌∷◌, ◌++◌, length, map, get_or, refl, sym, ◌∙◌, ap, subst, arith, length-append, Bool, Some, ⊎_elim}
+use Rattle.std.proofs.Common.{◌≡◌, ℕ, zero, suc, ◌<◌, ◌≤◌, List, [], ◌∷◌, ◌++◌, length, map, take, get_or, refl, sym, ◌∙◌, ap, subst, arith, length-append, Bool, Some, ⊎_elim}
 use Rattle.std.specs.Prelude.{slice_get}
 use Rattle.std.specs.Option.{option_map}
 use Rattle.std.proofs.lemmas.Bool.{cases_lt}
@@ -10,12 +10,14 @@ use Rattle.wcv_core.specs.Names.{Name}
 use Rattle.wcv_types.specs.Abi.{abi_size, abi_align, contains, pointer, handle, borrow, kept_size}
 use Rattle.wcv_types.specs.Facts.{is_plain, IsFactsOf, IsKnown, AllKnown, no_node, nodes_at}
 use Rattle.wcv_types.specs.Measure.{size, depth}
+use Rattle.wcv_types.specs.Open.{open_flat}
 use Rattle.wcv_types.specs.Resources.{mentions}
 use Rattle.wcv_types.specs.Tree.{Parts, node}
 use Rattle.wcv_types.specs.Unfold.{Type_tree, capped, left_out, head_of, slots_of, slot_parts, tree_of, tree_in, trees}
 use Rattle.wcv_types.specs.declared.arena.Node.{Node}
 use Rattle.wcv_types.specs.declared.arena.Node.TheVariants as n
 use Rattle.wcv_types.specs.declared.facts.Facts.{Facts}
+use Rattle.wcv_types.specs.declared.flat_type.FlatType.{FlatType}
 use Rattle.wcv_types.specs.declared.nodes.Known.{Known}
 use Rattle.wcv_types.proofs.Each.{length-mapped}
 use Rattle.wcv_types.proofs.Grown.{last_node, node_before, length-trees, trees-push, tree_in_last}
@@ -137,8 +139,8 @@ known_push ks ls ps qs x p xs e f i v a g =
 -- ## A node once more
 
 -- all that is kept of a tree
-abbrev kept : Type_tree → ℕ × ℕ × ℕ × ℕ × ℕ × ℕ × Bool × Bool × Bool × Bool × Bool
-kept t = (size t, depth t, abi_size 4 t, abi_align 4 t, abi_size 8 t, abi_align 8 t, contains pointer t, contains handle t, contains borrow t, is_plain t, mentions t)
+abbrev kept : Type_tree → ℕ × ℕ × ℕ × ℕ × ℕ × ℕ × Bool × Bool × Bool × Bool × Bool × List FlatType
+kept t = (size t, depth t, abi_size 4 t, abi_align 4 t, abi_size 8 t, abi_align 8 t, contains pointer t, contains handle t, contains borrow t, is_plain t, mentions t, open_flat t)
 
 facts_kept : (f : Facts) (s t : Type_tree) → kept s ≡ kept t → IsFactsOf f s → IsFactsOf f t
 facts_kept f s t e h = record {
@@ -154,6 +156,7 @@ facts_kept f s t e h = record {
   };
   plain = h.plain ∙ (λ j. (e j).9);
   refers = h.refers ∙ (λ j. (e j).10);
+  flat = h.flat ∙ (λ j. take 17 (e j).11);
 }
 
 -- it looks at no identity

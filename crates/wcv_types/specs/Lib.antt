@@ -20,6 +20,8 @@ pub mod Standing
 pub mod Entities
 pub mod ComponentTrees
 pub mod Abi
+pub mod Open
+pub mod Lowered
 pub mod Facts
 pub mod Sums
 pub mod EntrySums

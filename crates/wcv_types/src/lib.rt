@@ -18,6 +18,7 @@ mod entry_facts;
 mod entry_parts;
 mod explicit_paths;
 mod facts;
+mod flat_type;
 mod free_sets;
 mod free_variables;
 mod func_facts;
@@ -28,6 +29,7 @@ mod instance_sort;
 mod instance_type;
 mod item_map;
 mod layout;
+mod lowered_types;
 mod module_sort;
 mod named_contents;
 mod named_types;
@@ -41,6 +43,7 @@ mod resource_set;
 mod same_types;
 mod shape_codes;
 mod shape_numbers;
+mod shape_types;
 mod shapes;
 mod sorts;
 mod store;
@@ -75,6 +78,7 @@ pub use arena::{Node, TypeAlloc};
 pub use component_type::{ComponentType, Paths};
 pub use core_maps::{ExportMap, ImportMap};
 pub use core_shapes::{CoreInstanceTypeKind, InstanceType, ModuleType};
+pub use flat_type::FlatType;
 pub use ids::{
     AliasableResourceId, ComponentAnyTypeId, ComponentCoreInstanceTypeId,
     ComponentCoreModuleTypeId, ComponentCoreTypeId, ComponentDefinedTypeId, ComponentFuncTypeId,
@@ -83,6 +87,7 @@ pub use ids::{
 pub use info::TypeInfo;
 pub use instance_type::ComponentInstanceType;
 pub use item_map::{ComponentItem, ItemMap};
+pub use lowered_types::LoweredTypes;
 pub use parts::Parts;
 pub use resource_set::ResourceSet;
 pub use shapes::{ComponentDefinedType, ComponentEntityType, ComponentFuncType, ComponentValType};

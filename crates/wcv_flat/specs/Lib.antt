@@ -1,0 +1,5 @@
+pub mod Flat
+pub mod Cores
+pub mod Signature
+pub mod Options
+pub mod Functions
