@@ -1,17 +1,19 @@
 // Whether the types of a group keep the rules, once the group stands in the rows of a table.
 ghost use Rattle.wcv_core.specs.Limits.{max_supertypes};
-ghost use Rattle.std.specs.Prelude.{◌≡◌, ℕ, ◌+◌, ◌≤◌, ◌<◌, Some, get_or, OnOk, IfErr};
+ghost use Rattle.std.specs.Prelude.{◌≡◌, ℕ, ◌+◌, ◌≤◌, ◌<◌, ◌++◌, ◌∷◌, [], Some, get_or, length, OnOk, OnErr, IfErr};
 ghost use Rattle.std.specs.List.{range_with_len};
-ghost use Rattle.wcv_core.specs.Checks.{IsFree, CausedBy, all_checks};
-ghost use Rattle.wcv_core.specs.CoreGroups.{total, depths_of};
+ghost use Rattle.wcv_core.specs.Checks.{IsFree, CausedBy, MemoryOrCausedBy, all_checks};
+ghost use Rattle.wcv_core.specs.CoreForm.{group_form};
+ghost use Rattle.wcv_core.specs.CoreGroups.{total, depths_of, IsClosed};
 ghost use Rattle.wcv_core.specs.CoreMatching.{type_at};
 ghost use Rattle.wcv_core.specs.CoreRules.{form_at, form_matches, form_shared, super_checks, type_checks};
 ghost use Rattle.wcv_core.specs.Refusal.{error_kind, error_offset};
 
 use crate::core_rows::Rows;
-use crate::core_types::CoreTypeId;
+use crate::core_types::{CoreTypeId, RecGroup};
 use crate::error::{Error, ErrorKind, Refusal, Why};
 use crate::limits::MAX_SUPERTYPES;
+use crate::memory::OutOfMemory;
 
 /// A refusal of the type at this position of its group.
 fn refused(kind: ErrorKind, position: u64, what: &'static str, offset: u64) -> Refusal<'static>
@@ -127,5 +129,27 @@ impl Rows {
             self.check_type(self.id_at(first, position), position, offset)?;
         }
         Ok(())
+    }
+    /// A group joins the rows where its types keep the rules. Refused, or out of memory, nothing changes.
+    pub fn push_checked(&mut self, group: RecGroup, offset: u64) -> Result<(), Refusal<'static>>
+        requires { IsClosed (total self.old) (group_form group) }
+        ensures ok { OnOk result (self.new ≡ self.old ++ group_form group ∷ []) }
+        ensures free { OnOk result (IsFree (all_checks (type_checks (self.old ++ group_form group ∷ [])) (range_with_len (total self.old) (length (group_form group))))) }
+        ensures cause { IfErr result (MemoryOrCausedBy (all_checks (type_checks (self.old ++ group_form group ∷ [])) (range_with_len (total self.old) (length (group_form group)))) offset) }
+        ensures err { OnErr result (self.new ≡ self.old) }
+    {
+        let count = group.types.len() as u64;
+        let first = self.len() as u64;
+        match self.push(group) {
+            Ok(()) => {}
+            Err(_) => return Err(Refusal::from(OutOfMemory)),
+        }
+        match self.check_types(first, count, offset) {
+            Ok(()) => Ok(()),
+            Err(err) => {
+                self.pop();
+                Err(err)
+            }
+        }
     }
 }

@@ -220,16 +220,9 @@ impl CoreTypes {
             Err(err) => return Err(err),
         }
         let first = self.rows.len() as u64;
-        match self.rows.push(group) {
+        match self.rows.push_checked(group, offset) {
             Ok(()) => {}
-            Err(_) => return Err(Refusal::from(OutOfMemory)),
-        }
-        match self.rows.check_types(first, count as u64, offset) {
-            Ok(()) => {}
-            Err(err) => {
-                self.rows.pop();
-                return Err(err);
-            }
+            Err(err) => return Err(err),
         }
         match self.codes.insert(code, first) {
             Ok(_) => Ok(CoreTypeId { index: first }),
