@@ -1,22 +1,23 @@
 -- What stands at a place of a tape, and what stands behind it.
-use Rattle.std.proofs.Common.{◌≡◌, ℕ, ◌+◌, ◌<◌, ◌≤◌, List, [], ◌∷◌, ◌++◌, length, drop, map, get_or, true, false, is_some, Option, Some, None, refl, sym, ap, ap₂, ◌∙◌, subst, arith, append_assoc, append-nil, inl, inr, ⊎_elim, length-append, lt_of_not-le}
+use Rattle.std.proofs.Common.{◌≡◌, ℕ, ◌+◌, ◌<◌, ◌≤◌, List, [], ◌∷◌, ◌++◌, length, drop, map, get_or, true, false, is_some, Option, Some, None, refl, sym, ap, ap₂, ◌∙◌, subst, arith, append_assoc, append-nil, inl, inr, length-append, lt_of_not-le}
 use Rattle.std.proofs.lemmas.List.{append_cancel_right, drop_all, drop_more, get_or-map, get_or_default, drop-append-le, length-drop, length-map}
 use Rattle.std.proofs.lemmas.Bool.{cases_lt}
 use Rattle.std.specs.Prelude.{◌⊎◌}
 use Rattle.json.specs.Token.{Token, begin_array, begin_object, end_array, key}
-use Rattle.json.specs.Json.{Json, null, boolean, number, string, array, object, no_items, item, no_members, member, after_end_array, value}
+use Rattle.json.specs.Json.{Json, null, boolean, number, string, array, object, Items, no_items, item, no_members, member, after_end_array, value}
 use Rattle.json.specs.Find.{as_array, as_object}
 use Rattle.json.specs.Tree.{json_tokens, items_tokens, members_tokens, depth}
-use Rattle.json.specs.Tape.{node_token, Passes, Grown}
-use Rattle.json.specs.Tape as kit
-use Rattle.json.specs.declared.tape.Node.{Node}
-use Rattle.json.specs.declared.tape.Node.TheVariants.{Object, EndObject, Array, EndArray, Key, String, Number, Bool, Null}
+use Rattle.json.specs.Tape.{Passes}
+use Rattle.wcv_listing.specs.Grown.{node_token, Grown}
+use Rattle.wcv_listing.specs.Grown as growing
+use Rattle.wcv_listing.specs.declared.tape_node.TapeNode.{TapeNode}
+use Rattle.wcv_listing.specs.declared.tape_node.TapeNode.TheVariants.{Object, EndObject, Array, EndArray, Key, String, Number, Bool, Null}
 use Rattle.json.proofs.Found.{one_reading, Some_inj, IsKey}
 use Rattle.json.proofs.Grammar.{left, value_is, left_some, skip_value-shorter}
 use Rattle.json.proofs.Nesting.{value-depth}
 use Rattle.json.proofs.Printed.Trees.{value-json_tokens}
 use Rattle.json.proofs.Unique.Spelling.{value-json_tokens_back}
-use Rattle.wcv_listing.specs.Tape.{or_else, found, value_here, json_of, items_of, members_of, EndsAt, LinkAt, Linked}
+use Rattle.wcv_listing.specs.Tape.{or_else, found, value_here, json_of, items_of, members_of, array_count, EndsAt, CountsAt, LinkAt, Linked}
 
 pub stands : (ts : List Token) → is_some (value_here ts) ≡ true → (r : List Token) × (value_here ts ≡ Some (json_of ts, r))
 stands ts h = go (value_here ts) refl h
@@ -43,18 +44,29 @@ shorter ts r j e = skip_value-shorter 127 ts r (ap left e)
 
 -- ---- the nodes of a tape
 
-module _ (ns : List Node) (i : ℕ) (n : Node) (toks : List Token) (all : map node_token ns ≡ toks) (h : i < length ns) (is : n ≡ get_or ns i n) where
+module _ (ns : List TapeNode) (i : ℕ) (n : TapeNode) (toks : List Token) (all : map node_token ns ≡ toks) (h : i < length ns) (is : n ≡ get_or ns i n) where
   pub node_there : drop i toks ≡ node_token n ∷ drop (i + 1) toks
   node_there =
       sym (ap (drop i) all) ∙ drop_more (map node_token ns) i (node_token n) (omega (arith, length-map ns node_token))
       ∙ ap₂ (λ t us. t ∷ us) (get_or-map node_token ns i n (node_token n) h ∙ ap node_token (sym is)) (ap (drop (i + 1)) all)
 
-  pub link_passed : (a : ℕ) → Linked (map node_token ns) ns → (n ≡ Object a) ⊎ (n ≡ Array a) → is_some (value_here (drop i toks)) ≡ true → value_here (drop i toks) ≡ Some (json_of (drop i toks), drop a toks)
-  link_passed a links kind there =
-      let linked = subst (λ all. LinkAt all i n) all (subst (LinkAt (map node_token ns) i) (get_or_default ns i Null n h ∙ sym is) (links i h)) in
+  linked_at : Linked (map node_token ns) ns → LinkAt toks i n
+  linked_at links = subst (λ all. LinkAt all i n) all (subst (LinkAt (map node_token ns) i) (get_or_default ns i Null n h ∙ sym is) (links i h))
+
+  passed_by : (a : ℕ) → EndsAt toks i a → is_some (value_here (drop i toks)) ≡ true → value_here (drop i toks) ≡ Some (json_of (drop i toks), drop a toks)
+  passed_by a end there = let s = stands (drop i toks) there in s.1 ∙ ap (λ x. Some (json_of (drop i toks), x)) (end _ s.0 s.1)
+
+  pub object_passed : (a : ℕ) → Linked (map node_token ns) ns → n ≡ Object a → is_some (value_here (drop i toks)) ≡ true → value_here (drop i toks) ≡ Some (json_of (drop i toks), drop a toks)
+  object_passed a links e there = passed_by a (subst (LinkAt toks i) e (linked_at links)) there
+
+  pub array_passed : (a k : ℕ) → Linked (map node_token ns) ns → n ≡ Array a k → is_some (value_here (drop i toks)) ≡ true → value_here (drop i toks) ≡ Some (json_of (drop i toks), drop a toks)
+  array_passed a k links e there = passed_by a (subst (LinkAt toks i) e (linked_at links)).0 there
+
+  -- the array has as many items as its node says
+  pub array_counted : (a k : ℕ) (js : Items) → Linked (map node_token ns) ns → n ≡ Array a k → is_some (value_here (drop i toks)) ≡ true → json_of (drop i toks) ≡ array js → k ≡ array_count (json_of (drop i toks))
+  array_counted a k js links e there is_array =
       let s = stands (drop i toks) there in
-      let end : EndsAt toks i a = ⊎_elim (λ e. subst (LinkAt toks i) e linked) (λ e. subst (LinkAt toks i) e linked) kind in
-      s.1 ∙ ap (λ x. Some (json_of (drop i toks), x)) (end _ s.0 s.1)
+      (subst (LinkAt toks i) e (linked_at links)).1 js s.0 (s.1 ∙ ap (λ j. Some (j, s.0)) is_array) ∙ ap array_count (sym is_array)
 
 -- ---- the next item
 
@@ -167,11 +179,16 @@ by_link all i end d j rest link e =
     ap (λ z. z.1) (Some_inj _ _ (one_reading d link.0 (drop i all) _ _ e other.1))
 
 module _ (toks rest : List Token) where
-  ends : (i a : ℕ) → i < length toks → Passes (toks ++ rest) i a → EndsAt toks i a
-  ends i a h passes j r e =
+  -- what stands among the first tokens stands there among all
+  with_rest : (i : ℕ) (j : Json) (r : List Token) → i < length toks → value_here (drop i toks) ≡ Some (j, r) → value_here (drop i (toks ++ rest)) ≡ Some (j, r ++ rest)
+  with_rest i j r h e =
       let whole : drop i (toks ++ rest) ≡ json_tokens j ++ (r ++ rest) =
       drop-append-le i toks rest (omega arith) ∙ ap (λ x. x ++ rest) (value-json_tokens_back 127 (drop i toks) r j e) ∙ append_assoc (json_tokens j) r rest in
-      let same = by_link (toks ++ rest) i a 127 j (r ++ rest) passes (read_back _ _ j whole (value-depth 127 (drop i toks) r j e)) in
+      read_back _ _ j whole (value-depth 127 (drop i toks) r j e)
+
+  ends : (i a : ℕ) → i < length toks → Passes (toks ++ rest) i a → EndsAt toks i a
+  ends i a h passes j r e =
+      let same = by_link (toks ++ rest) i a 127 j (r ++ rest) passes (with_rest i j r h e) in
       go same (cases_lt (length toks) a)
     where
       go : r ++ rest ≡ drop a (toks ++ rest) → (length toks < a) ⊎ (a ≤ length toks) → r ≡ drop a toks
@@ -180,10 +197,13 @@ module _ (toks rest : List Token) where
           absurd (omega (arith, long, length-append r rest, length-drop a (toks ++ rest), length-append toks rest, passes.2, passes.3))
       go same (inr le) = append_cancel_right r (drop a toks) rest (same ∙ drop-append-le a toks rest le)
 
-  link : (n : Node) (i : ℕ) → i < length toks → kit.LinkAt (toks ++ rest) i n → LinkAt toks i n
+  counts : (i k : ℕ) → i < length toks → CountsAt (toks ++ rest) i k → CountsAt toks i k
+  counts i k h counted js r e = counted js (r ++ rest) (with_rest i (array js) r h e)
+
+  link : (n : TapeNode) (i : ℕ) → i < length toks → growing.LinkAt (toks ++ rest) i n → LinkAt toks i n
   link (Object a) i h l = ends i a h l
   link EndObject i h l = tt
-  link (Array a) i h l = ends i a h l
+  link (Array a k) i h l = (ends i a h l.0, counts i k h l.1)
   link EndArray i h l = tt
   link (Key s) i h l = tt
   link (String s) i h l = tt
@@ -191,12 +211,12 @@ module _ (toks rest : List Token) where
   link (Bool b) i h l = tt
   link Null i h l = tt
 
-pub linked_alone : (nodes : List Node) (old rest : List Token) → Grown [] old nodes rest → Linked (map node_token nodes) nodes
+pub linked_alone : (nodes : List TapeNode) (old rest : List Token) → Grown [] old nodes rest → Linked (map node_token nodes) nodes
 linked_alone nodes old rest g i h =
     link (map node_token nodes) rest (get_or nodes i Null) i (omega (arith, length-map nodes node_token))
-    (subst (λ all. kit.LinkAt all i (get_or nodes i Null)) (sym g.same) (g.linked i (omega arith) h))
+    (subst (λ all. growing.LinkAt all i (get_or nodes i Null)) (sym g.same) (g.linked i (omega arith) h))
 
-pub value_alone : (nodes : List Node) (old rest : List Token) (j : Json) (d : ℕ) → d ≤ 127 → Grown [] old nodes rest → value d old ≡ Some (j, rest) → value_here (map node_token nodes) ≡ Some (j, [])
+pub value_alone : (nodes : List TapeNode) (old rest : List Token) (j : Json) (d : ℕ) → d ≤ 127 → Grown [] old nodes rest → value d old ≡ Some (j, rest) → value_here (map node_token nodes) ≡ Some (j, [])
 value_alone nodes old rest j d le g e =
     let same : map node_token nodes ≡ json_tokens j = append_cancel_right _ _ rest (g.same ∙ value-json_tokens_back d old rest j e) in
     read_back (map node_token nodes) [] j (same ∙ sym (append-nil (json_tokens j))) (omega (arith, value-depth d old rest j e))

@@ -49,7 +49,7 @@ pub fn read_list<T: FromValue>(
     let Some(mut values) = list_of(value) else {
         return Ok(None);
     };
-    let mut list = Vec::with_capacity(alloc, room_of(values))?;
+    let mut list = Vec::with_capacity(alloc, room_of(value))?;
     while let Some((item, rest)) = values.next() {
         match T::from_value(alloc, item)? {
             Some(thing) => list.push(thing)?,

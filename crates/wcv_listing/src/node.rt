@@ -4,7 +4,7 @@ ghost use Rattle.json.specs.Token.{begin_array, begin_object};
 ghost use Rattle.wcv_listing.specs.Tape.{value_here};
 
 use crate::tape::Tape;
-use json::Node as TapeNode;
+use crate::tape_node::TapeNode;
 
 /// A value.
 #[derive(Clone, Copy, Drop)]
@@ -32,7 +32,7 @@ pub struct Members<'t, 'a> {
 
 impl<'t, 'a> Node<'t, 'a> {
     ghost use Rattle.std.specs.Prelude.{◌+◌, ◌^◌, ◌<◌, None, MatchOption};
-    ghost use Rattle.json.specs.Tape.{node_token};
+    ghost use Rattle.wcv_listing.specs.Grown.{node_token};
     ghost use Rattle.json.specs.Json.{array, object};
     ghost use Rattle.json.specs.Find.{as_array, as_object};
     ghost use Rattle.wcv_listing.specs.Tape.{items_of, members_of};
@@ -60,7 +60,7 @@ impl<'t, 'a> Node<'t, 'a> {
         ensures { MatchOption result (as_array (json_view self.entry) ≡ None)
             (λ l. json_view self.entry ≡ array (items_of (drop l.at l.tape.now))) }
     {
-        if let TapeNode::Array(_) = self.node() {
+        if let TapeNode::Array { .. } = self.node() {
             Some(List {
                 tape: self.tape,
                 at: self.at + 1,

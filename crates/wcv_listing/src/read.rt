@@ -3,11 +3,12 @@ ghost use Rattle.std.specs.Prelude.{◌≡◌, ◌<◌, ◌≤◌, ◌∷◌, op
 ghost use Rattle.json.specs.Json.{items, members};
 ghost use Rattle.json.specs.Token.{begin_array, begin_object};
 ghost use Rattle.json.specs.Reads.{token_of};
-ghost use Rattle.json.specs.Tape.{Grown};
+ghost use Rattle.wcv_listing.specs.Grown.{Grown};
 ghost use Rattle.wcv_listing.specs.Parsed.{value_in_range};
 
 use crate::ranges::is_number_in_range;
-use json::{Invalid, Node, Reader, Token};
+use crate::tape_node::TapeNode;
+use json::{Invalid, Reader, Token};
 use std::alloc::{AllocError, AllocFailed};
 use wcv_core::OutOfMemory;
 
@@ -67,7 +68,7 @@ impl<T: Drop> From<AllocFailed<T>> for ParseError {
 #[cycle(read)]
 #[inline(always)]
 fn read_value<'a>(
-    nodes: &mut Vec<Node<'a>>,
+    nodes: &mut Vec<TapeNode<'a>>,
     reader: &mut Reader<'a>,
     depth: usize,
 ) -> Result<(), ParseError>
@@ -84,7 +85,7 @@ fn read_value<'a>(
 #[cycle(read)]
 #[inline(always)]
 pub fn read_behind<'a>(
-    nodes: &mut Vec<Node<'a>>,
+    nodes: &mut Vec<TapeNode<'a>>,
     token: Token<'a>,
     reader: &mut Reader<'a>,
     depth: usize,
@@ -95,15 +96,15 @@ pub fn read_behind<'a>(
     ensures err { result ≡ Err ParseError.NotJson → value_in_range depth (token_of token.entry ∷ reader.old) ≡ None }
 {
     match token {
-        Token::String(text) => nodes.push(Node::String(text))?,
+        Token::String(text) => nodes.push(TapeNode::String(text))?,
         Token::Number(text) => {
             if !is_number_in_range(text) {
                 return Err(ParseError::NotJson);
             }
-            nodes.push(Node::Number(text))?
+            nodes.push(TapeNode::Number(text))?
         }
-        Token::Bool(b) => nodes.push(Node::Bool(b))?,
-        Token::Null => nodes.push(Node::Null)?,
+        Token::Bool(b) => nodes.push(TapeNode::Bool(b))?,
+        Token::Null => nodes.push(TapeNode::Null)?,
         Token::BeginArray => {
             if depth == 0 {
                 return Err(ParseError::NotJson);
@@ -127,7 +128,7 @@ pub fn read_behind<'a>(
 #[cycle(read)]
 #[inline(never)]
 fn read_items<'a>(
-    nodes: &mut Vec<Node<'a>>,
+    nodes: &mut Vec<TapeNode<'a>>,
     reader: &mut Reader<'a>,
     depth: usize,
 ) -> Result<(), ParseError>
@@ -137,12 +138,17 @@ fn read_items<'a>(
     ensures err { result ≡ Err ParseError.NotJson → items (value_in_range depth) (length reader.old) reader.old ≡ None }
 {
     let at = nodes.len();
-    nodes.push(Node::Array(0))?;
+    nodes.push(TapeNode::Array { end: 0, count: 0 })?;
+    let mut count = 0usize;
     while !reader.take_end_array() {
         read_value(nodes, reader, depth)?;
+        count += 1;
     }
-    nodes.push(Node::EndArray)?;
-    nodes[at] = Node::Array(nodes.len());
+    nodes.push(TapeNode::EndArray)?;
+    nodes[at] = TapeNode::Array {
+        end: nodes.len(),
+        count,
+    };
     Ok(())
 }
 
@@ -150,7 +156,7 @@ fn read_items<'a>(
 #[cycle(read)]
 #[inline(never)]
 fn read_members<'a>(
-    nodes: &mut Vec<Node<'a>>,
+    nodes: &mut Vec<TapeNode<'a>>,
     reader: &mut Reader<'a>,
     depth: usize,
 ) -> Result<(), ParseError>
@@ -160,12 +166,12 @@ fn read_members<'a>(
     ensures err { result ≡ Err ParseError.NotJson → members (value_in_range depth) (length reader.old) reader.old ≡ None }
 {
     let at = nodes.len();
-    nodes.push(Node::Object(0))?;
+    nodes.push(TapeNode::Object(0))?;
     while let Some(key) = reader.next_key()? {
-        nodes.push(Node::Key(key))?;
+        nodes.push(TapeNode::Key(key))?;
         read_value(nodes, reader, depth)?;
     }
-    nodes.push(Node::EndObject)?;
-    nodes[at] = Node::Object(nodes.len());
+    nodes.push(TapeNode::EndObject)?;
+    nodes[at] = TapeNode::Object(nodes.len());
     Ok(())
 }

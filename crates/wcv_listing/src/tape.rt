@@ -1,19 +1,20 @@
 // The nodes of a value in the order of the text, one for each token.
 ghost use Rattle.std.specs.Prelude.{◌≡◌, None, ◌+◌, ◌^◌, ◌<◌, ◌≤◌, [], ◌∷◌, drop, length, Some, true, is_some, Err, OnOk};
 ghost use Rattle.json.specs.Reads.{token_of};
-ghost use Rattle.json.specs.Tape.{node_token};
+ghost use Rattle.wcv_listing.specs.Grown.{node_token};
 ghost use Rattle.wcv_listing.specs.Parsed.{value_in_range};
-ghost use Rattle.wcv_listing.specs.Tape.{value_here, json_of};
+ghost use Rattle.wcv_listing.specs.Tape.{value_here, json_of, array_count};
 
 use crate::read::{ParseError, read_behind};
-use json::{Node, Reader, Token};
+use crate::tape_node::TapeNode;
+use json::{Reader, Token};
 use std::alloc::Global;
 use std::marker::Model;
 
 /// The nodes of a value. A clause sees its tokens.
 #[derive(Drop)]
 pub struct Tape<'a> {
-    nodes: Vec<Node<'a>>,
+    nodes: Vec<TapeNode<'a>>,
 }
 
 impl<'a> Model for Tape<'a> {
@@ -24,7 +25,7 @@ impl<'a> Model for Tape<'a> {
 
     ghost coded = { tokens_code };
 
-    ghost use Rattle.json.specs.Tape.{node_token};
+    ghost use Rattle.wcv_listing.specs.Grown.{node_token};
     ghost use Rattle.wcv_listing.specs.Tape.{Linked};
 
     ghost view = { λ a. map node_token a.nodes.items };
@@ -78,7 +79,7 @@ impl<'a> Tape<'a> {
 
     /// The node at that place.
     #[inline(always)]
-    pub(crate) fn node_at(&self, at: usize) -> Node<'a>
+    pub(crate) fn node_at(&self, at: usize) -> TapeNode<'a>
         requires { at < length self.now }
         ensures small { at + 1 < 2 ^ 64 }
         ensures first { drop at self.now ≡ node_token result ∷ drop (at + 1) self.now }
@@ -93,8 +94,21 @@ impl<'a> Tape<'a> {
         ensures { value_here (drop at self.now) ≡ Some (json_of (drop at self.now), drop result self.now) }
     {
         match self.nodes[at] {
-            Node::Object(end) | Node::Array(end) => end,
+            TapeNode::Object(end) => end,
+            TapeNode::Array { end, .. } => end,
             _ => at + 1,
+        }
+    }
+
+    /// How many items the array has that begins at that place, or 0 where none does.
+    #[inline(always)]
+    pub(crate) fn count_at(&self, at: usize) -> usize
+        requires { is_some (value_here (drop at self.now)) ≡ true }
+        ensures { result ≡ array_count (json_of (drop at self.now)) }
+    {
+        match self.nodes[at] {
+            TapeNode::Array { count, .. } => count,
+            _ => 0,
         }
     }
 }

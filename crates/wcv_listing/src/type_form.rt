@@ -81,7 +81,7 @@ fn read_component_decls(
     let Some(mut values) = list_of(value) else {
         return Ok(None);
     };
-    let mut list = Vec::with_capacity(alloc, room_of(values))?;
+    let mut list = Vec::with_capacity(alloc, room_of(value))?;
     while let Some((item, rest)) = values.next() {
         match read_component_decl(alloc, item, depth)? {
             Some(decl) => list.push(decl)?,
@@ -104,7 +104,7 @@ fn read_instance_decls(
     let Some(mut values) = list_of(value) else {
         return Ok(None);
     };
-    let mut list = Vec::with_capacity(alloc, room_of(values))?;
+    let mut list = Vec::with_capacity(alloc, room_of(value))?;
     while let Some((item, rest)) = values.next() {
         match read_instance_decl(alloc, item, depth)? {
             Some(decl) => list.push(decl)?,

@@ -1,18 +1,25 @@
-use Rattle.std.proofs.Common.{◌≡◌, ◌-◌, ◌<◌, [], ◌∷◌, ◌++◌, length, true, false, is_some, Some, None, refl, ap, ap₂, ◌∙◌, arith, rules}
+use Rattle.std.proofs.Common.{◌≡◌, ◌-◌, ◌<◌, List, [], ◌∷◌, ◌++◌, length, true, false, is_some, Option, Some, None, refl, sym, ap, ap₂, ◌∙◌, arith, rules}
 use Rattle.json.specs.Token.{Token}
-use Rattle.json.specs.Json.{Json, array, object, parse_map, after_end_array, read_key, items, members, value}
+use Rattle.json.specs.Json.{Json, Items, array, object, parse_map, after_end_array, read_key, items, members, value}
 use Rattle.json.specs.Reads.{token_of}
-use Rattle.json.specs.declared.tape.Node.TheVariants.{Object, EndObject, Array, EndArray}
+use Rattle.wcv_listing.specs.declared.tape_node.TapeNode.TheVariants.{Object, EndObject, Array, EndArray}
 use Rattle.json.proofs.Grammar.{left, left-parse_map, left_none, value_is, read_key-shorter, closed_array, read_key_is, items_fail, members_no_key, members_fail}
 use Rattle.serde_json.specs.Read.{number_of}
 use Rattle.wcv_listing.specs.Parsed.{in_range, value_in_range}
 use Rattle.wcv_listing.proofs.Kept.{kept, nothing_read, array_read, object_read}
 use Rattle.wcv_listing.proofs.Grown.{grown_refl}
-use Rattle.wcv_listing.proofs.Turns.{item_turn, member_turn, items_closed, members_closed}
+use Rattle.wcv_listing.specs.Tape.{items_count}
+use Rattle.wcv_listing.proofs.Turns.{none_more, and_more, grown_length, item_turn, member_turn, items_closed, members_closed}
 use Rattle.wcv_listing.proofs.read.+read.Goals as goal
 
 pub read_items-loop-nodes-init : goal.read_items-loop-nodes-init
-read_items-loop-nodes-init t c = (length c.args.reader.now, omega arith, refl, grown_refl _ _, omega arith)
+read_items-loop-nodes-init t c = (length c.args.reader.now, omega arith, none_more _, grown_refl _ _, omega arith)
+
+pub read_items-overflow_add-count : goal.read_items-overflow_add-count
+read_items-overflow_add-count t c =
+    let l = c.loop-nodes in
+    let known = grown_length c.push.new.self.items c.args.reader.now l.nodes.items l.reader l.invariant.3 in
+    record { fits = omega (arith, known, l.invariant.4, l.nodes.ok, l.nodes.small) }
 
 pub read_items-loop-nodes-preserved : goal.read_items-loop-nodes-preserved
 read_items-loop-nodes-preserved t c =
@@ -21,7 +28,7 @@ read_items-loop-nodes-preserved t c =
     let r = c.read_value.new.reader in
     let going : (after_end_array l.reader ≡ None) × (c.take_end_array.new.self ≡ l.reader) = grind arith in
     let less : length r < length l.reader = rw (← going.1) c.in_ok-read_value.ensures.shorter in
-    let turn = item_turn c.args.depth n c.push.new.self.items l.nodes.items c.read_value.new.nodes.items c.args.reader.now l.reader r l.invariant.1 l.invariant.2 going.0 l.invariant.3
+    let turn = item_turn c.args.depth n l.count c.push.new.self.items l.nodes.items c.read_value.new.nodes.items c.args.reader.now l.reader r l.invariant.1 l.invariant.2 going.0 l.invariant.3
     (rw (← going.1) c.in_ok-read_value.ensures.grown) (rw (← going.1) c.in_ok-read_value.ensures.ok) less in
     (n - 1, turn.0, turn.1, turn.2, omega (arith, less, l.invariant.4))
 
@@ -30,18 +37,19 @@ read_items-returns-in_err-read_value-clause-err t c never =
     let l = c.loop-nodes in
     let going : (after_end_array l.reader ≡ None) × (c.take_end_array.new.self ≡ l.reader) = grind arith in
     let failed : value_in_range c.args.depth l.reader ≡ None = rw (← going.1) (grind arith) in
-    left_none _ (l.invariant.2 ∙ ap left (items_fail (value_in_range c.args.depth) l.invariant.0 l.reader going.0 failed))
+    let all : Option (Items × List Token) = items (value_in_range c.args.depth) (length c.args.reader.now) c.args.reader.now in
+    left_none all (sym (left-parse_map items_count all) ∙ ap left (l.invariant.2 ∙ ap (λ x. and_more l.count (parse_map items_count x)) (items_fail (value_in_range c.args.depth) l.invariant.0 l.reader going.0 failed)))
 
 pub read_items-returns-clause-grown : goal.read_items-returns-clause-grown
 read_items-returns-clause-grown t c =
     let l = c.loop-nodes in
     let r = c.take_end_array.new.self in
     let closing : after_end_array l.reader ≡ Some r = grind arith in
-    let opened : c.push.new.self.items ≡ c.args.nodes.now.items ++ Array 0 ∷ [] = c.in_ok-push.ensures.items in
+    let opened : c.push.new.self.items ≡ c.args.nodes.now.items ++ Array 0 0 ∷ [] = c.in_ok-push.ensures.items in
     let full : c.push-2.new.self.items ≡ l.nodes.items ++ EndArray ∷ [] = c.in_ok-push-2.ensures.items in
     let at : c.len-at.result ≡ length c.args.nodes.now.items = grind arith in
     let after : c.len.result ≡ length c.push-2.new.self.items = grind arith in
-    (items_closed c.args.depth l.invariant.0 c.len-at.result c.len.result c.args.nodes.now.items c.push.new.self.items l.nodes.items c.push-2.new.self.items _ c.args.reader.now l.reader r
+    (items_closed c.args.depth l.invariant.0 l.count c.len-at.result c.len.result c.args.nodes.now.items c.push.new.self.items l.nodes.items c.push-2.new.self.items _ c.args.reader.now l.reader r
     opened l.invariant.3 (closed_array l.reader r closing) l.invariant.1 l.invariant.2 at full after refl).0
 
 pub read_items-returns-clause-ok : goal.read_items-returns-clause-ok
@@ -49,11 +57,11 @@ read_items-returns-clause-ok t c =
     let l = c.loop-nodes in
     let r = c.take_end_array.new.self in
     let closing : after_end_array l.reader ≡ Some r = grind arith in
-    let opened : c.push.new.self.items ≡ c.args.nodes.now.items ++ Array 0 ∷ [] = c.in_ok-push.ensures.items in
+    let opened : c.push.new.self.items ≡ c.args.nodes.now.items ++ Array 0 0 ∷ [] = c.in_ok-push.ensures.items in
     let full : c.push-2.new.self.items ≡ l.nodes.items ++ EndArray ∷ [] = c.in_ok-push-2.ensures.items in
     let at : c.len-at.result ≡ length c.args.nodes.now.items = grind arith in
     let after : c.len.result ≡ length c.push-2.new.self.items = grind arith in
-    (items_closed c.args.depth l.invariant.0 c.len-at.result c.len.result c.args.nodes.now.items c.push.new.self.items l.nodes.items c.push-2.new.self.items _ c.args.reader.now l.reader r
+    (items_closed c.args.depth l.invariant.0 l.count c.len-at.result c.len.result c.args.nodes.now.items c.push.new.self.items l.nodes.items c.push-2.new.self.items _ c.args.reader.now l.reader r
     opened l.invariant.3 (closed_array l.reader r closing) l.invariant.1 l.invariant.2 at full after refl).1
 
 pub read_members-loop-key-init : goal.read_members-loop-key-init

@@ -1,6 +1,6 @@
 use Rattle.std.proofs.Common.{◌+◌, ◌∷◌, drop, is_some, ap, ◌∙◌}
 use Rattle.json.specs.Json.{after_end_array}
-use Rattle.json.specs.Tape.{node_token}
+use Rattle.wcv_listing.specs.Grown.{node_token}
 use Rattle.wcv_listing.specs.Tape.{items_of}
 use Rattle.wcv_listing.proofs.Places.{items_within, next_item, item_there, no_item, shorter}
 use Rattle.wcv_listing.proofs.Shapes.{no_close}

@@ -1,6 +1,6 @@
 use Rattle.std.proofs.Common.{◌≡◌, ◌+◌, ◌∷◌, length, drop, true, is_some, ap, ◌∙◌, subst, arith}
 use Rattle.json.specs.Token.{begin_object}
-use Rattle.json.specs.Tape.{node_token}
+use Rattle.wcv_listing.specs.Grown.{node_token}
 use Rattle.wcv_listing.specs.Tape.{value_here, members_of}
 use Rattle.wcv_listing.proofs.Places.{members_within, next_member, member_there, no_member, shorter}
 use Rattle.wcv_listing.proofs.Shapes.{no_key}

@@ -1,7 +1,7 @@
 use Rattle.std.proofs.Common.{◌+◌, ◌∷◌, drop, ap, ◌∙◌, subst}
 use Rattle.json.specs.Json.{array, no_items}
 use Rattle.json.specs.Find.{as_array}
-use Rattle.json.specs.Tape.{node_token}
+use Rattle.wcv_listing.specs.Grown.{node_token}
 use Rattle.wcv_listing.specs.Tape.{or_else, json_of}
 use Rattle.wcv_listing.proofs.Shapes.{Shape, shape_at, array_is, no_array}
 use Rattle.wcv_listing.proofs.node.Node.items.Goals as goal

@@ -1,7 +1,7 @@
 use Rattle.std.proofs.Common.{◌+◌, ◌∷◌, drop, ap, ◌∙◌, subst}
 use Rattle.json.specs.Json.{object, no_members}
 use Rattle.json.specs.Find.{as_object}
-use Rattle.json.specs.Tape.{node_token}
+use Rattle.wcv_listing.specs.Grown.{node_token}
 use Rattle.wcv_listing.specs.Tape.{or_else, json_of}
 use Rattle.wcv_listing.proofs.Shapes.{Shape, shape_at, object_is, no_object}
 use Rattle.wcv_listing.proofs.node.Node.members.Goals as goal

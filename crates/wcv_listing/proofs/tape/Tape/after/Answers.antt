@@ -1,7 +1,7 @@
 use Rattle.std.proofs.Common.{◌<◌, length, drop, ap, arith}
 use Rattle.std.proofs.lemmas.List.{length-map}
-use Rattle.json.specs.Tape.{node_token}
-use Rattle.wcv_listing.proofs.Places.{within, node_there, link_passed}
+use Rattle.wcv_listing.specs.Grown.{node_token}
+use Rattle.wcv_listing.proofs.Places.{within, node_there, object_passed, array_passed}
 use Rattle.wcv_listing.proofs.Shapes.{passed_at}
 use Rattle.wcv_listing.proofs.tape.Tape.after.Goals as goal
 
@@ -26,10 +26,10 @@ pub returns-in-Object : goal.returns-in-Object
 returns-in-Object c =
     let ns = c.self.inside.nodes.items in
     let inside : c.args.at < length c.args.self.now = within c.args.self.now c.args.at c.requires in
-    link_passed ns c.args.at c.index.result.now c.args.self.now c.self.view_is (omega (arith, inside, length-map ns node_token, ap length c.self.view_is)) c.index.ensures c.in-Object.end c.self.invariant c.in-Object.is c.requires
+    object_passed ns c.args.at c.index.result.now c.args.self.now c.self.view_is (omega (arith, inside, length-map ns node_token, ap length c.self.view_is)) c.index.ensures c.in-Object.end c.self.invariant c.in-Object.is c.requires
 
-pub returns-in-Object-2 : goal.returns-in-Object-2
-returns-in-Object-2 c =
+pub returns-in-Array : goal.returns-in-Array
+returns-in-Array c =
     let ns = c.self.inside.nodes.items in
     let inside : c.args.at < length c.args.self.now = within c.args.self.now c.args.at c.requires in
-    link_passed ns c.args.at c.index.result.now c.args.self.now c.self.view_is (omega (arith, inside, length-map ns node_token, ap length c.self.view_is)) c.index.ensures c.in-Object.end c.self.invariant c.in-Object.is c.requires
+    array_passed ns c.args.at c.index.result.now c.args.self.now c.self.view_is (omega (arith, inside, length-map ns node_token, ap length c.self.view_is)) c.index.ensures c.in-Array.end _ c.self.invariant c.in-Array.is c.requires

@@ -1,6 +1,6 @@
 use Rattle.std.proofs.Common.{length, ap, arith}
 use Rattle.std.proofs.lemmas.List.{length-map}
-use Rattle.json.specs.Tape.{node_token}
+use Rattle.wcv_listing.specs.Grown.{node_token}
 use Rattle.wcv_listing.proofs.Places.{node_there}
 use Rattle.wcv_listing.proofs.tape.Tape.node_at.Goals as goal
 

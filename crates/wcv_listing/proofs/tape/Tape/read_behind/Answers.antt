@@ -1,7 +1,7 @@
 use Rattle.std.proofs.Common.{◌∷◌, is_some, Some, sym, ap, ◌∙◌, subst}
 use Rattle.json.specs.Json.{null}
 use Rattle.json.specs.Reads.{token_of}
-use Rattle.json.specs.Tape.{Grown}
+use Rattle.wcv_listing.specs.Grown.{Grown}
 use Rattle.json.proofs.Grammar.{left_some}
 use Rattle.wcv_listing.specs.Parsed.{value_in_range}
 use Rattle.wcv_listing.proofs.Kept.{value_is_in_range}
