@@ -55,3 +55,5 @@ pub mod ShapeCodes
 pub mod ShapeTables
 pub mod EntryParts
 pub mod NamedExports
+pub mod Needing
+pub mod NeedingValues

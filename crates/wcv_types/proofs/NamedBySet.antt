@@ -86,7 +86,7 @@ module _ (ids : List Identity) (ts : List Type_tree) where
   abbrev shape_named : Name → ComponentDefinedType → Bool
   shape_named x s = is_named ids (node (defined x (former_of s)) (slot_parts ts (defined_slots s)))
 
-  by_itself : (x : Name) (s : ComponentDefinedType) → names_itself s ≡ true → shape_named x s ≡ is_in ids (of_node x)
+  pub by_itself : (x : Name) (s : ComponentDefinedType) → names_itself s ≡ true → shape_named x s ≡ is_in ids (of_node x)
   by_itself x (d.Record a) h = refl
   by_itself x (d.Variant a) h = refl
   by_itself x (d.Flags a) h = refl

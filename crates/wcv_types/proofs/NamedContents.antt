@@ -38,7 +38,7 @@ abbrev reference_in : List Identity → AliasableResourceId → Bool
 reference_in ids r = is_in ids (of_reference (number r.resource.index) (stamp r.stamp))
 
 -- a handle is made of its reference
-handle_named : (ids : List Identity) (ts : List Type_tree) (s : ComponentDefinedType) (r : AliasableResourceId) → handle_of s ≡ Some r → reference_in ids r ≡ are_named ids (slot_parts ts (defined_slots s))
+pub handle_named : (ids : List Identity) (ts : List Type_tree) (s : ComponentDefinedType) (r : AliasableResourceId) → handle_of s ≡ Some r → reference_in ids r ≡ are_named ids (slot_parts ts (defined_slots s))
 handle_named ids ts (d.Own a) r h = ap (reference_in ids) (sym (same_reference a r h)) ∙ sym (and_true (reference_in ids a))
 handle_named ids ts (d.Borrow a) r h = ap (reference_in ids) (sym (same_reference a r h)) ∙ sym (and_true (reference_in ids a))
 handle_named ids ts x r h = absurd (cc)
