@@ -28,10 +28,10 @@ impl fmt::Display for UnreadForm {
     fn fmt<W: fmt::Write>(&self, f: &mut fmt::Formatter<W>) -> fmt::Result {
         f.write_str(match self.0 {
             ItemForm::Type => {
-                r#"the body of this "type" is none of {"func": {"params": [[NAME, TYPE], ..], "result": TYPE, "async": BOOL}}, {"defined": DEFINED}, {"resource": {"rep": CORE-TYPE}}, {"component": [DECLARATION, ..]} and {"instance": [DECLARATION, ..]}; no other is built yet"#
+                r#"the body of this "type" is none of {"func": {"params": [[NAME, TYPE], ..], "result": TYPE, "async": BOOL}}, {"defined": DEFINED}, {"resource": {"rep": CORE-TYPE}}, {"component": [DECLARATION, ..]} and {"instance": [DECLARATION, ..]}"#
             }
             ItemForm::Import => {
-                r#"the body of this "import" is not {"name": NAME, "type": TYPE} with a TYPE among {"module": INDEX}, {"func": INDEX}, {"eq": INDEX}, "sub-resource", {"instance": INDEX} and {"component": INDEX}; no other is built yet"#
+                r#"the body of this "import" is not {"name": NAME, "type": TYPE} with a TYPE among {"module": INDEX}, {"func": INDEX}, {"value": VALUE-TYPE}, {"eq": INDEX}, "sub-resource", {"instance": INDEX} and {"component": INDEX}"#
             }
             ItemForm::Export => {
                 r#"the body of this "export" is not {"name": NAME, "sort": SORT, "index": INDEX}; no other is built yet"#
