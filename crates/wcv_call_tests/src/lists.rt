@@ -2,7 +2,7 @@
 use std::alloc::Global;
 use wcv_core::{EntityType, MemoryType, OutOfMemory, Text};
 use wcv_types::{
-    ComponentAnyTypeId, ComponentEntityType, ComponentFuncTypeId, ComponentItem, ExportMap,
+    ByName, ComponentAnyTypeId, ComponentEntityType, ComponentFuncTypeId, ComponentItem, ExportMap,
     ItemMap, Part, Parts, ResourceId, ResourceSet, TypeSet, TypeSort,
 };
 
@@ -104,6 +104,52 @@ fn finds(items: &ItemMap, name: Result<Text, OutOfMemory>) -> bool {
 pub fn items_are_found(alloc: Global) -> bool {
     match items(alloc, "f") {
         Ok(items) => finds(&items, Text::new(alloc, "f")),
+        Err(_) => false,
+    }
+}
+
+// A name is found among those of a list.
+fn has_name<V>(names: &ByName<'_, V>, name: Result<Text, OutOfMemory>) -> bool {
+    match name {
+        Ok(name) => names.get(&name).is_some(),
+        Err(_) => false,
+    }
+}
+
+fn finds_by_name(items: &ItemMap, alloc: Global) -> bool {
+    match items.by_name(alloc) {
+        Ok(names) => has_name(&names, Text::new(alloc, "f")),
+        Err(_) => false,
+    }
+}
+
+pub fn items_are_found_by_name(alloc: Global) -> bool {
+    match items(alloc, "f") {
+        Ok(items) => finds_by_name(&items, alloc),
+        Err(_) => false,
+    }
+}
+
+// So it is among exports, and by a walk.
+fn exports_by_name(exports: &ExportMap, alloc: Global) -> bool {
+    match exports.by_name(alloc) {
+        Ok(names) => has_name(&names, Text::new(alloc, "e")),
+        Err(_) => false,
+    }
+}
+
+fn exports_by_walk(exports: &ExportMap, name: Result<Text, OutOfMemory>) -> bool {
+    match name {
+        Ok(name) => exports.get(&name).is_some(),
+        Err(_) => false,
+    }
+}
+
+pub fn exports_are_found(alloc: Global) -> bool {
+    match exports(alloc) {
+        Ok(exports) => {
+            exports_by_walk(&exports, Text::new(alloc, "e")) && exports_by_name(&exports, alloc)
+        }
         Err(_) => false,
     }
 }

@@ -4,7 +4,7 @@ use crate::base::{a_label_is_kept, a_map_gives_its_pairs};
 use crate::layouts::LAYOUTS;
 use crate::lists::{
     a_list_has_its_parts, a_set_of_resources_is_copied, a_set_of_types_is_copied,
-    exports_are_copied, items_are_found,
+    exports_are_copied, exports_are_found, items_are_found, items_are_found_by_name,
 };
 use crate::names::a_setter_has_a_getter;
 use crate::printed::{a_group_is_printed, items_are_printed};
@@ -12,7 +12,7 @@ use crate::states::{Question, holds, other_layout};
 use std::alloc::Global;
 
 // Whether each case is answered as is due.
-fn cases(alloc: Global) -> [bool; 27] {
+fn cases(alloc: Global) -> [bool; 29] {
     [
         a_label_is_kept(alloc),
         a_group_is_printed(alloc),
@@ -23,7 +23,9 @@ fn cases(alloc: Global) -> [bool; 27] {
         a_set_of_types_is_copied(alloc),
         a_set_of_resources_is_copied(alloc),
         exports_are_copied(alloc),
+        exports_are_found(alloc),
         items_are_found(alloc),
+        items_are_found_by_name(alloc),
         holds_of_arena(alloc, Asked::CoreTypes),
         holds_of_arena(alloc, Asked::Nodes),
         holds_of_arena(alloc, Asked::Names),
@@ -46,6 +48,6 @@ fn cases(alloc: Global) -> [bool; 27] {
 
 #[test]
 fn all_is_answered_as_is_due(rt: HostRuntime) {
-    assert_eq!(rt; cases(rt.alloc()), [true; 27]);
+    assert_eq!(rt; cases(rt.alloc()), [true; 29]);
     assert_eq!(rt; other_layout(rt.alloc(), LAYOUTS), "");
 }

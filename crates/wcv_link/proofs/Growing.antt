@@ -11,7 +11,7 @@ use Rattle.wcv_core.specs.CoreWritten.{closed_group}
 use Rattle.wcv_core.specs.declared.core_types.EntityType.{EntityType}
 use Rattle.wcv_core.specs.declared.features.WasmFeatures.{WasmFeatures}
 use Rattle.wcv_syntax.specs.Model.{Core_type_form, core_rec, core_module_type, Form, core_type_item, core_module_item, core_instance_item, type_item, import_item, export_item, component_item, instance_item, alias_item, start_item, canon_item, unread, Type_form, defined_type, func_type, component_type, instance_type, resource_type}
-use Rattle.wcv_syntax.specs.ModuleTypes.{Module_type, Made, written_group}
+use Rattle.wcv_syntax.specs.ModuleTypes.{Module_type, Made}
 use Rattle.wcv_syntax.specs.declared.component_type.ComponentTypeRef.{ComponentTypeRef}
 use Rattle.wcv_syntax.specs.declared.component_type.ComponentTypeRef.TheVariants as ref
 use Rattle.wcv_syntax.specs.declared.component_type.ComponentValType.{ComponentValType}
@@ -429,10 +429,10 @@ module-grows q names p k s o x e =
     (same-grows q (module_joins (tree_maker names p) k m.0) s (tt, (module-closed (After (module_joins (tree_maker names p) k m.0) s) (names.identity (introduced p)) m.0.1, tt)) (record { imported = refl; defined = refl; imports = refl }))
 
 core_type-grows : (fs : WasmFeatures) (q : Name) (names : Names) (p : Place) (s : Tree_stack) (t : Core_type_form) (x : Step tree_reader) → core_type_step fs (tree_maker names p) s t ≡ Some x → StepGrows q s x
-core_type-grows fs q names p s (core_rec w) x e = go (is_closable s.groups (core_entries s.top) (written_group w)) e
+core_type-grows fs q names p s (core_rec w) x e = go (is_closable s.groups (core_entries s.top) w) e
   where
-    go : (b : Bool) → cond b (Some (closed_step tree_reader s.groups (closed_group (core_entries s.top) (written_group w)))) None ≡ Some x → StepGrows q s x
-    go true k = subst (StepGrows q s) (some-inj k) (closed-grows q s (closed_group (core_entries s.top) (written_group w)))
+    go : (b : Bool) → cond b (Some (closed_step tree_reader s.groups (closed_group (core_entries s.top) w))) None ≡ Some x → StepGrows q s x
+    go true k = subst (StepGrows q s) (some-inj k) (closed-grows q s (closed_group (core_entries s.top) w))
     go false k = cc
 core_type-grows fs q names p s (core_module_type ds) x e = module-grows q names p core_types s (core_type_made fs s (core_module_type ds)) x e
 

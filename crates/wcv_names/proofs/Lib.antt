@@ -1,4 +1,3 @@
-pub mod Texts
 pub mod ById
 pub mod ByNames
 pub mod Shaping

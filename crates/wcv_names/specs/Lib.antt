@@ -1,4 +1,3 @@
-pub mod TextSet
 pub mod ResourceNames
 pub mod SameItems
 pub mod SameValues

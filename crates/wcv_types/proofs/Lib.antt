@@ -22,7 +22,7 @@ pub mod Grown
 pub mod Unfolding
 pub mod AddedAgain
 pub mod Slots
-pub mod Naming
+pub mod FirstPlaces
 pub mod Aligning
 pub mod Sums
 pub mod Forming

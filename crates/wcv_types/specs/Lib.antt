@@ -1,4 +1,5 @@
 pub mod Tree
+pub mod ByName
 pub mod Identity
 pub mod Positions
 pub mod Measure

@@ -4,6 +4,7 @@
 mod abi;
 mod again;
 mod arena;
+mod by_name;
 mod component_sort;
 mod component_type;
 mod core_calls;
@@ -72,6 +73,7 @@ ghost use Rattle.wcv_types.specs.declared.ids.Part.{Part};
 
 pub use abi::AbiInfo;
 pub use arena::{Node, TypeAlloc};
+pub use by_name::ByName;
 pub use component_type::{ComponentType, Paths};
 pub use core_maps::{ExportMap, ImportMap};
 pub use core_shapes::{CoreInstanceTypeKind, InstanceType, ModuleType};

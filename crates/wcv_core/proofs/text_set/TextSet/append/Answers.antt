@@ -1,9 +1,9 @@
 use Rattle.std.proofs.Common.{◌≡◌, List, ℕ, [], ◌∷◌, ◌++◌, length, string_bytes, sym, ◌∙◌, ap, subst}
 use Rattle.std.proofs.lemmas.List.{map-append, length-map}
 use Rattle.wcv_core.specs.Label.{is_among}
-use Rattle.wcv_names.specs.TextSet.{IsIndexed, LeadsTo, texts_of}
-use Rattle.wcv_names.proofs.Texts.{still_indexed, joins_indexed}
-use Rattle.wcv_names.proofs.text_set.TextSet.append.Goals as goal
+use Rattle.wcv_core.specs.TextSet.{IsIndexed, LeadsTo, texts_of}
+use Rattle.wcv_core.proofs.Texts.{still_indexed, joins_indexed}
+use Rattle.wcv_core.proofs.text_set.TextSet.append.Goals as goal
 
 pub invariant_of-self : goal.invariant_of-self
 invariant_of-self c =

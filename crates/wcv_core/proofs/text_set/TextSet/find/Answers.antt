@@ -1,7 +1,7 @@
 use Rattle.std.proofs.Common.{is_some, sym, ◌∙◌, ap}
-use Rattle.wcv_names.specs.TextSet.{texts_of, checked}
-use Rattle.wcv_names.proofs.Texts.{found_seen}
-use Rattle.wcv_names.proofs.text_set.TextSet.find.Goals as goal
+use Rattle.wcv_core.specs.TextSet.{texts_of, checked}
+use Rattle.wcv_core.proofs.Texts.{found_seen}
+use Rattle.wcv_core.proofs.text_set.TextSet.find.Goals as goal
 
 pub returns-in-None-clause-among : goal.returns-in-None-clause-among
 returns-in-None-clause-among c =

@@ -2,12 +2,13 @@
 ghost use Rattle.std.specs.Prelude.{◌≡◌, [], ◌∷◌, ◌++◌, ℕ, List, Some, false, length, slice_get, option_copied, is_some, bytes_eq, string_bytes, IfSome, OnOk, OnErr, IfOk};
 ghost use Rattle.std.specs.List.{IsDistinct};
 ghost use Rattle.wcv_core.specs.Label.{is_among};
-ghost use Rattle.wcv_names.specs.TextSet.{is_text, checked, with_text, LeadsTo};
+ghost use Rattle.wcv_core.specs.TextSet.{is_text, checked, with_text, LeadsTo};
 
+use crate::label_set::mix;
+use crate::memory::OutOfMemory;
 use std::alloc::Global;
 use std::collections::BTreeMap;
 use std::marker::Model;
-use wcv_core::{OutOfMemory, mix};
 
 /// Texts, each once, in the order in which they came. Contracts see it as the list of them.
 ///
@@ -24,7 +25,7 @@ pub struct TextSet {
 
 impl Model for TextSet {
     ghost use Rattle.std.specs.Prelude.{ℕ, List};
-    ghost use Rattle.wcv_names.specs.TextSet.{texts_of, IsIndexed};
+    ghost use Rattle.wcv_core.specs.TextSet.{texts_of, IsIndexed};
 
     ghost Value = { List (List ℕ) };
 
@@ -119,7 +120,7 @@ impl TextSet {
     }
 
     /// Appends a text that is new.
-    pub(crate) fn append(&mut self, text: String) -> Result<(), OutOfMemory>
+    pub fn append(&mut self, text: String) -> Result<(), OutOfMemory>
         requires { is_among (string_bytes text) self.old ≡ false }
         ensures ok { OnOk result (self.new ≡ self.old ++ string_bytes text ∷ []) }
         ensures err { OnErr result (self.new ≡ self.old) }

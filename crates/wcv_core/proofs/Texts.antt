@@ -13,22 +13,16 @@ use Rattle.std.proofs.lemmas.Bool.Decides.{nat_tests}
 use Rattle.std.proofs.lemmas.Cmp.{nat_list_eq_equiv}
 use Rattle.std.proofs.lemmas.Map.Keys.{IsDistinct-push}
 use Rattle.std.proofs.lemmas.Map.Text.{btree_map_updates_text}
-use Rattle.std.proofs.lemmas.Slice.Eq.{bytes_eq-Decides}
+use Rattle.wcv_core.proofs.Among.{is_among-joined, own_bytes, same_bytes}
 use Rattle.wcv_core.specs.Label.{is_among}
 use Rattle.wcv_core.specs.LabelSet.{mixed}
-use Rattle.wcv_names.specs.TextSet.{Text, is_text, with_text, checked, LeadsTo, IsIndexed}
+use Rattle.wcv_core.specs.TextSet.{Text, is_text, with_text, checked, LeadsTo, IsIndexed}
 
 abbrev Numbers : Type 0
 Numbers = BTreeMap ℕ ℕ
 
 abbrev Bytes : Type 0
 Bytes = BTreeMap (String Global) ℕ
-
-same_bytes : (a b : Text) → bytes_eq a b ≡ true → a ≡ b
-same_bytes a b e = grind (arith, bytes_eq-Decides a b)
-
-own_bytes : (a : Text) → bytes_eq a a ≡ true
-own_bytes a = grind (arith, bytes_eq-Decides a a)
 
 -- ## Texts among others
 
@@ -185,18 +179,11 @@ with_new t ts h = sym (ap (λ (b : Bool). cond b ts (ts ++ t ∷ [])) h)
 pub with_old : (t : Text) (ts : List Text) → is_among t ts ≡ true → ts ≡ with_text t ts
 with_old t ts h = sym (ap (λ (b : Bool). cond b ts (ts ++ t ∷ [])) h)
 
-behind : (t x : Text) (ts : List Text) → is_among t (ts ++ x ∷ []) ≡ (bytes_eq t x || is_among t ts)
-behind t x [] = refl
-behind t x (u ∷ us) = ap (λ (b : Bool). bytes_eq t u || b) (behind t x us) ∙ swap (bytes_eq t u) (bytes_eq t x) (is_among t us)
-  where
-    swap : (a b c : Bool) → (a || (b || c)) ≡ (b || (a || c))
-    swap a b c = grind arith
-
 pub among_with : (t x : Text) (ts : List Text) → is_among t (with_text x ts) ≡ (bytes_eq t x || is_among t ts)
 among_with t x ts = go (is_among x ts) refl
   where
     go : (b : Bool) → is_among x ts ≡ b → is_among t (cond b ts (ts ++ x ∷ [])) ≡ (bytes_eq t x || is_among t ts)
-    go false e = behind t x ts
+    go false e = sym (is_among-joined t x ts)
     go true e = more (bytes_eq t x) refl
       where
         more : (d : Bool) → bytes_eq t x ≡ d → is_among t ts ≡ (d || is_among t ts)

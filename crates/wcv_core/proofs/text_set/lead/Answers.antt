@@ -1,6 +1,6 @@
 use Rattle.std.proofs.Common.{refl, sym, ◌∙◌}
-use Rattle.wcv_names.proofs.Texts.{unchanged_leads, number_leads, number_others, bytes_lead, bytes_others}
-use Rattle.wcv_names.proofs.text_set.lead.Goals as goal
+use Rattle.wcv_core.proofs.Texts.{unchanged_leads, number_leads, number_others, bytes_lead, bytes_others}
+use Rattle.wcv_core.proofs.text_set.lead.Goals as goal
 
 pub returns-in_err-insert-clause-others : goal.returns-in_err-insert-clause-others
 returns-in_err-insert-clause-others c = λ t k d h. unchanged_leads c.args.by_number.now c.args.by_number.now c.args.by_bytes.now c.insert.new.self refl c.in_err-insert.ensures.err t k h
