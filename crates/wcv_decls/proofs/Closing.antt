@@ -1,5 +1,5 @@
 -- The end of a declared type: its node joins the types of the state around it.
-use Rattle.std.proofs.Common.{◌≡◌, ℕ, suc, ◌≤◌, ◌<◌, ◌-◌, List, [], ◌∷◌, ◌++◌, length, map, refl, sym, ◌∙◌, ap, subst, arith, Some, None, All, slice_set}
+use Rattle.std.proofs.Common.{◌≡◌, ℕ, ◌≤◌, ◌<◌, ◌-◌, List, [], ◌∷◌, ◌++◌, length, map, refl, sym, ◌∙◌, ap, subst, arith, Some, None, All, slice_set}
 use Rattle.std.specs.Prelude.{Option, reverse}
 use Rattle.std.specs.Option.{option_map, option_and_then}
 use Rattle.std.proofs.lemmas.List.{map-append, reverse-append}
@@ -10,7 +10,7 @@ use Rattle.wcv_types.specs.ComponentTrees.{resource_path, component_tree, Resour
 use Rattle.wcv_types.specs.Entities.{entry_trees, EntryStands, entity_slot}
 use Rattle.wcv_types.specs.Paths.{PathLeadsTo}
 use Rattle.wcv_types.specs.Standing.{Stands, GaveResource, Fits}
-use Rattle.wcv_types.specs.Tree.{Text, Extern_name, Role, import, export, component, Tree, node, Parts, firsts, imports_in, exports_in}
+use Rattle.wcv_types.specs.Tree.{Text, Extern_name, Role, import, export, component, node, firsts, imports_in, exports_in}
 use Rattle.wcv_types.specs.Measure as measure
 use Rattle.wcv_types.specs.Unfold.{Type_tree, capped, entry_slots, slot_refs, slot_parts, parts_in, tree_of, trees}
 use Rattle.wcv_types.specs.declared.arena.Node.{Node}

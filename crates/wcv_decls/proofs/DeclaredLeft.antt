@@ -1,5 +1,5 @@
 -- Limits of declarations, one after the other.
-use Rattle.std.proofs.Common.{◌≡◌, ℕ, zero, suc, ◌+◌, ◌<◌, ◌++◌, List, [], ◌∷◌, length, get_or, take, map, ap, refl, sym, subst, ◌∙◌, inl, inr, Vec}
+use Rattle.std.proofs.Common.{◌≡◌, ℕ, suc, ◌+◌, ◌<◌, ◌++◌, List, [], ◌∷◌, length, get_or, take, map, ap, refl, subst, ◌∙◌, inl, inr, Vec}
 use Rattle.std.specs.declared.alloc.Global.{Global}
 use Rattle.wcv_core.specs.Checks.{all_checks}
 use Rattle.wcv_core.specs.Limits.{max_list}
@@ -8,7 +8,7 @@ use Rattle.wcv_core.proofs.Closing.{caused_right, caused_mapped, free_mapped}
 use Rattle.wcv_syntax.specs.declared.component_type.ComponentTypeDeclaration.{ComponentTypeDeclaration}
 use Rattle.wcv_syntax.specs.declared.component_type.ComponentType.TheVariants as ty
 use Rattle.wcv_syntax.specs.declared.component_type.InstanceTypeDeclaration.{InstanceTypeDeclaration}
-use Rattle.wcv_syntax.specs.Model.{Decl, Type_form}
+use Rattle.wcv_syntax.specs.Model.{Decl}
 use Rattle.wcv_syntax.specs.View.{decls_of, type_view, component_decl_view, instance_decl_view}
 use Rattle.wcv_syntax.proofs.Views.{type_view-Component, type_view-Instance}
 use Rattle.wcv_lower.specs.Checks.{Checks, IsFree, too_many}

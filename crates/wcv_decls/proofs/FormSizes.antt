@@ -1,7 +1,6 @@
 -- Sizes of written types, by which the reading of declared types ends.
-use Rattle.std.proofs.Common.{◌≡◌, ℕ, zero, suc, ◌+◌, ◌≤◌, ◌<◌, List, [], ◌∷◌, map, refl, ap, arith}
+use Rattle.std.proofs.Common.{ℕ, zero, suc, ◌+◌, ◌≤◌, ◌<◌, arith}
 use Rattle.wcv_syntax.specs.Model.{Type_form, component_type, instance_type, Decl, type_decl, Decls, no_decls, declare}
-use Rattle.wcv_syntax.specs.View.{decls_of}
 
 abbrev mutual
   pub type_size : Type_form → ℕ

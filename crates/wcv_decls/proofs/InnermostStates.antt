@@ -1,14 +1,14 @@
 -- The innermost of the states and those around it, before and after a change of the innermost.
-use Rattle.std.proofs.Common.{◌≡◌, ℕ, suc, ◌<◌, ◌-◌, List, [], ◌∷◌, ◌++◌, length, map, refl, ap, subst, sym, ◌∙◌, arith, slice_set, slice_index_or, All, false}
+use Rattle.std.proofs.Common.{◌≡◌, ℕ, suc, ◌<◌, ◌-◌, List, [], ◌∷◌, ◌++◌, length, refl, ap, subst, sym, ◌∙◌, arith, slice_set, slice_index_or, All, false}
 use Rattle.std.proofs.lemmas.List.Elements.{All-push, AllZip-push}
 use Rattle.wcv_core.specs.declared.features.WasmFeatures.{WasmFeatures}
 use Rattle.wcv_types.specs.Arena.{Arena}
 use Rattle.wcv_types.specs.Standing.{Extends}
 use Rattle.wcv_lower.specs.Owned.{IsCalm}
 use Rattle.wcv_lower.specs.Trees.{Tree_context, Tree_stack}
-use Rattle.wcv_state.specs.Contents.{Contents, context_of, stack_of, StateStands}
+use Rattle.wcv_state.specs.Contents.{Contents, context_of, stack_of}
 use Rattle.wcv_state.specs.Promises.{numbers_of, Keeps}
-use Rattle.wcv_decls.specs.Declaring.{innermost, around, features_in, stack_in, IsInstanceBody, DeclaresInstance, AreReady, StayReady, SameAround}
+use Rattle.wcv_decls.specs.Declaring.{innermost, around, features_in, stack_in, IsInstanceBody, DeclaresInstance, StayReady, SameAround}
 use Rattle.wcv_decls.specs.Stack.{IsOpen, stay, all_spent, ChangesLast, KeepsOn, AreCalm, contexts_around, stack_on}
 use Rattle.wcv_decls.proofs.CoreEntries.{open_split}
 use Rattle.wcv_state.proofs.Keeping.{state_stands}

@@ -1,6 +1,6 @@
 -- The end of an instance type: it has no cause, and each resource that its context defines is kept.
-use Rattle.std.proofs.Common.{◌≡◌, ℕ, zero, suc, List, [], ◌∷◌, map, refl, sym, ◌∙◌, ap, subst, Bool, true, false, cond, not, Some, None, All, inl, inr}
-use Rattle.std.specs.Prelude.{Option, ◌⊎◌, ◌||◌, ◌&&◌, slice_get}
+use Rattle.std.proofs.Common.{◌≡◌, ℕ, zero, suc, List, [], ◌∷◌, map, refl, sym, ◌∙◌, ap, Bool, true, false, cond, not, Some, None, All, inl, inr}
+use Rattle.std.specs.Prelude.{Option, ◌||◌, ◌&&◌, slice_get}
 use Rattle.std.specs.Option.{option_map, option_and_then}
 use Rattle.std.proofs.lemmas.Bool.{false≢true}
 use Rattle.std.proofs.lemmas.List.Elements.{All-head, All-tail}
@@ -10,8 +10,8 @@ use Rattle.wcv_core.specs.declared.error.ErrorKind.{ErrorKind}
 use Rattle.wcv_types.specs.FirstPath.{first_path}
 use Rattle.wcv_types.specs.Led.{HasPath}
 use Rattle.wcv_types.specs.Paths.{IsTypeOf, IsWayTo, PathLeadsTo}
-use Rattle.wcv_types.specs.Resources.{owns, refers, is_free, is_free_in, Free}
-use Rattle.wcv_types.specs.Tree.{Extern_name, Head, nothing, primitive, resource, defined, func, instance, component, type_entity, core_module, core_instance, core_type, core_item, here, label, import, export, core_import, core_export, Tree, node, Parts, none, part, exports, exports_in, firsts}
+use Rattle.wcv_types.specs.Resources.{owns, refers, is_free, is_free_in}
+use Rattle.wcv_types.specs.Tree.{Extern_name, nothing, primitive, resource, defined, func, instance, component, type_entity, core_module, core_instance, core_type, core_item, here, label, import, export, core_import, core_export, Tree, node, Parts, none, part, exports, exports_in, firsts}
 use Rattle.wcv_types.proofs.FirstPath.{first_path-none}
 use Rattle.wcv_types.proofs.IsFree.{free-is_free}
 use Rattle.wcv_lower.specs.Checks.{Cause, is_none}

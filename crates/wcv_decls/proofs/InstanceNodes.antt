@@ -1,5 +1,5 @@
 -- The node of an instance type, made of what its state had at the end.
-use Rattle.std.proofs.Common.{◌≡◌, ℕ, List, [], ◌∷◌, ◌++◌, length, map, refl, sym, ◌∙◌, ap, subst, Bool, true, false, cond, Some, None, All, inl, inr}
+use Rattle.std.proofs.Common.{◌≡◌, ℕ, List, [], ◌∷◌, length, map, refl, sym, ◌∙◌, ap, subst, cond, Some, None, All, inl, inr}
 use Rattle.std.specs.Prelude.{Option}
 use Rattle.std.specs.Option.{option_map}
 use Rattle.std.proofs.lemmas.List.Elements.{All-map, All-nil, All-cons, All-head, All-tail}
@@ -14,7 +14,7 @@ use Rattle.wcv_types.specs.Entities.{entry_trees}
 use Rattle.wcv_types.specs.Led.{HasPath}
 use Rattle.wcv_types.specs.Sets.{resource_names}
 use Rattle.wcv_types.specs.Standing.{GaveResource}
-use Rattle.wcv_types.specs.Tree.{Text, Extern_name, Head, component, instance, Tree, node, Parts, none, export, entries, firsts, exports_in}
+use Rattle.wcv_types.specs.Tree.{Text, component, instance, node, Parts, none, export, entries, firsts, exports_in}
 use Rattle.wcv_types.specs.Unfold.{Type_tree, tree_of, trees, entry_slots, slot_parts}
 use Rattle.wcv_types.specs.declared.arena.Node.TheVariants as n
 use Rattle.wcv_types.specs.declared.component_type.ComponentType.{ComponentType}
@@ -23,14 +23,13 @@ use Rattle.wcv_types.specs.declared.instance_type.ComponentInstanceType.{Compone
 use Rattle.wcv_types.specs.declared.item_map.ComponentItem.{ComponentItem}
 use Rattle.wcv_types.proofs.EntryParts.{entry_parts, exports_in-exports}
 use Rattle.wcv_types.proofs.Grown.{length-trees}
-use Rattle.wcv_lower.specs.Context.{importing, exporting}
-use Rattle.wcv_lower.specs.Ending.{end_checks, any_free, kept, component_of, component_made, type_at_end, instance_made}
-use Rattle.wcv_lower.specs.Readers.{New_node}
-use Rattle.wcv_lower.specs.Trees.{Entries, Tree_context, tree_reader, node_tree}
+use Rattle.wcv_lower.specs.Context.{exporting}
+use Rattle.wcv_lower.specs.Ending.{end_checks, component_of, component_made, instance_made}
+use Rattle.wcv_lower.specs.Trees.{Entries, Tree_context, node_tree}
 use Rattle.wcv_state.specs.Contents.{Contents, context_of}
 use Rattle.wcv_state.specs.Promises.{Finished, MemoryOrCausedBy}
 use Rattle.wcv_decls.specs.Declaring.{IsInstanceBody}
-use Rattle.wcv_decls.proofs.InstanceEnds.{AllKept, resources_kept, not_imported, no_end_cause}
+use Rattle.wcv_decls.proofs.InstanceEnds.{resources_kept, not_imported, no_end_cause}
 
 -- the paths of the resources that a component defines
 abbrev outs_of : Type_tree → List (Name × List ℕ)

@@ -32,5 +32,4 @@ pub mod OverInnermost
 pub mod Opening
 pub mod Whole
 pub mod InstanceNodes
-pub mod Forms
 pub mod FormSizes

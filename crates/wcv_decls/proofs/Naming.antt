@@ -1,24 +1,22 @@
 -- The names that a type item gives.
-use Rattle.std.proofs.Common.{◌≡◌, ℕ, suc, List, [], ◌∷◌, length, refl, sym, ◌∙◌, ap, arith, Bool, cond, Some, None}
+use Rattle.std.proofs.Common.{◌≡◌, suc, List, [], ◌∷◌, length, refl, sym, ◌∙◌, ap, arith, Bool, cond, Some, None}
 use Rattle.std.specs.Prelude.{Option}
 use Rattle.std.specs.Option.{option_map}
 use Rattle.wcv_core.specs.Names.{Name, Place, number}
-use Rattle.wcv_core.specs.declared.error.Error.{Error}
 use Rattle.wcv_core.proofs.Places.{under-refl}
 use Rattle.wcv_syntax.specs.Model.{Type_form, defined_type, func_type, component_type, instance_type, resource_type, type_item}
 use Rattle.wcv_types.specs.Arena.{Arena}
-use Rattle.wcv_lower.specs.Checks.{IsFree}
 use Rattle.wcv_lower.specs.Context.{in_types, push}
 use Rattle.wcv_lower.specs.Given.{GivenNames, names_of, none_given, named, or_by_place, GivesAt}
 use Rattle.wcv_lower.specs.Growth.{grow}
-use Rattle.wcv_lower.specs.Names.{Names, introduced, Under}
+use Rattle.wcv_lower.specs.Names.{introduced, Under}
 use Rattle.wcv_lower.specs.Readers.{New_node, Maker}
 use Rattle.wcv_lower.specs.Step.{Step, apply}
 use Rattle.wcv_lower.specs.Trees.{type_entry, Tree_context, Tree_stack, tree_reader, tree_maker, node_tree}
 use Rattle.wcv_lower.specs.Types.{type_made, added}
 use Rattle.wcv_lower.proofs.Given.{same_origin-refl}
 use Rattle.wcv_state.specs.Contents.{Contents, context_of, stack_of}
-use Rattle.wcv_state.specs.Promises.{MemoryOrCausedBy, numbers_of}
+use Rattle.wcv_state.specs.Promises.{numbers_of}
 use Rattle.wcv_decls.specs.Items.{Added, Declares}
 
 -- the identity of the node, at a place

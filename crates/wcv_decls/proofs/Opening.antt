@@ -1,6 +1,5 @@
 -- A state that is new on top of the others.
-use Rattle.std.proofs.Common.{◌≡◌, ℕ, suc, ◌<◌, ◌+◌, ◌-◌, List, [], ◌∷◌, ◌++◌, length, map, refl, sym, ◌∙◌, ap, subst, arith, All}
-use Rattle.std.specs.Prelude.{reverse}
+use Rattle.std.proofs.Common.{◌≡◌, suc, ◌<◌, ◌+◌, List, [], ◌∷◌, ◌++◌, length, map, refl, sym, ◌∙◌, ap, subst, arith}
 use Rattle.std.proofs.lemmas.List.{length-map, length-append, length-reverse}
 use Rattle.std.proofs.lemmas.List.Elements.{All-push}
 use Rattle.wcv_core.specs.declared.features.WasmFeatures.{WasmFeatures}
@@ -11,17 +10,17 @@ use Rattle.wcv_types.specs.Unfold.{trees}
 use Rattle.wcv_lower.specs.Context.{Kind, empty}
 use Rattle.wcv_lower.specs.Declared.{inside}
 use Rattle.wcv_lower.specs.Owned.{IsCalm}
-use Rattle.wcv_lower.specs.Trees.{Tree_context, Tree_stack, tree_reader}
+use Rattle.wcv_lower.specs.Trees.{tree_reader}
 use Rattle.wcv_lower.proofs.Calm.{calm_inside}
 use Rattle.wcv_state.specs.Contents.{Contents, empty_state, kind_of, ids, core_ids, id_tree, core_tree, sides, names, context_of}
 use Rattle.wcv_state.specs.Promises.{numbers_of}
 use Rattle.wcv_state.specs.declared.kind.ComponentKind.{ComponentKind}
 use Rattle.wcv_state.proofs.Keeping.{empty_stands}
 use Rattle.wcv_state.proofs.Sides.{each_side, each_space, each_core}
-use Rattle.wcv_decls.specs.Declaring.{innermost, around, features_in, stack_in, top_in, AreReady, Opened}
+use Rattle.wcv_decls.specs.Declaring.{innermost, around, features_in, stack_in, AreReady, Opened}
 use Rattle.wcv_decls.specs.Stack.{IsOpen, contexts_around}
 use Rattle.wcv_decls.proofs.Closing.{nearest}
-use Rattle.wcv_decls.proofs.InnermostStates.{innermost_at, around_at, parted, some_at, stack_at}
+use Rattle.wcv_decls.proofs.InnermostStates.{innermost_at, around_at, parted, some_at}
 
 -- its context is empty
 empty_context : (a : Arena) (k : ComponentKind) (fs : WasmFeatures) → context_of a (empty_state k fs) ≡ empty tree_reader (kind_of k)

@@ -1,5 +1,5 @@
 -- What is so of a result, by whether it is an error.
-use Rattle.std.proofs.Common.{◌≡◌, Ok, Err}
+use Rattle.std.proofs.Common.{Ok, Err}
 use Rattle.std.specs.Prelude.{Result, OnOk, OnErr, IfErr}
 
 module _ {T E : Type 0} where

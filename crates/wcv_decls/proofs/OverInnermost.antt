@@ -1,5 +1,5 @@
 -- Calls on the innermost of the states, as they are said over all of them.
-use Rattle.std.proofs.Common.{◌≡◌, ℕ, Bool, ◌<◌, ◌-◌, List, [], ◌∷◌, ◌++◌, length, refl, sym, ◌∙◌, ap, subst, true, false, inl, inr, slice_set}
+use Rattle.std.proofs.Common.{◌≡◌, ℕ, Bool, ◌<◌, List, [], ◌∷◌, length, refl, sym, ◌∙◌, ap, subst, true, false, inl, inr}
 use Rattle.std.specs.Prelude.{◌⊎◌}
 use Rattle.wcv_core.specs.Names.{Place}
 use Rattle.wcv_core.specs.Refusal.{error_kind, error_offset}
@@ -7,14 +7,13 @@ use Rattle.wcv_core.specs.declared.error.Error.{Error}
 use Rattle.wcv_core.specs.declared.error.ErrorKind.TheVariants as kind
 use Rattle.wcv_core.specs.declared.features.WasmFeatures.{WasmFeatures}
 use Rattle.wcv_syntax.specs.Built.{is_plain_type, is_built_ref}
-use Rattle.wcv_syntax.specs.Model.{Type_form, Form, type_item, Decl, core_type_decl, export_decl, import_decl, Core_type_form, core_type_item, import_item}
+use Rattle.wcv_syntax.specs.Model.{Type_form, Form, Decl, core_type_decl, export_decl, import_decl, Core_type_form, core_type_item, import_item}
 use Rattle.wcv_syntax.specs.declared.component_type.ComponentTypeRef.{ComponentTypeRef}
 use Rattle.wcv_syntax.specs.declared.name.ComponentExternName.{ComponentExternName}
 use Rattle.wcv_syntax.specs.declared.name.ComponentImport.{ComponentImport}
 use Rattle.wcv_types.specs.Arena.{Arena}
-use Rattle.wcv_types.specs.Standing.{Extends}
 use Rattle.wcv_lower.specs.Checks.{IsFree}
-use Rattle.wcv_lower.specs.Context.{declares_instance, is_concrete}
+use Rattle.wcv_lower.specs.Context.{is_concrete}
 use Rattle.wcv_lower.specs.DeclaredCalls.{TypeRead, TypeRefused, DeclRead}
 use Rattle.wcv_lower.specs.Given.{names_of, none_given}
 use Rattle.wcv_lower.specs.Names.{Names}
@@ -23,8 +22,8 @@ use Rattle.wcv_lower.specs.Trees.{Tree_context, Tree_stack, tree_maker}
 use Rattle.wcv_lower.specs.Types.{type_checks}
 use Rattle.wcv_state.specs.Contents.{Contents, spent, context_of, stack_of}
 use Rattle.wcv_state.specs.Instances.{MayOpen}
-use Rattle.wcv_state.specs.Promises.{MemoryOrCausedBy, numbers_of, Keeps, Grew, CausedAt, Refuses, ExportDeclared, ExportCaused}
-use Rattle.wcv_decls.specs.Declaring.{innermost, around, features_in, stack_in, AreReady, StayReady, SameAround, DeclaresInstance, IsInstanceBody, MemoryOr, ReadsType, ReadsDecl, RefusesType, RefusesDecl}
+use Rattle.wcv_state.specs.Promises.{MemoryOrCausedBy, numbers_of, Keeps, Grew, CausedAt, ExportDeclared, ExportCaused}
+use Rattle.wcv_decls.specs.Declaring.{innermost, around, features_in, stack_in, AreReady, StayReady, SameAround, DeclaresInstance, MemoryOr, ReadsType, ReadsDecl, RefusesType, RefusesDecl}
 use Rattle.wcv_decls.specs.Items.{Declares}
 use Rattle.wcv_decls.specs.Stack.{stay, all_spent, ChangesLast, KeepsOn, GrewOn, RefusedOn, contexts_around}
 use Rattle.wcv_decls.proofs.SimpleDecls.{Refused, core_read, core_refused, import_read, import_refused, export_read, export_refused, grown_calm, export_calm, may_open, core_sides, export_body}

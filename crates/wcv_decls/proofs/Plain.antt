@@ -1,5 +1,5 @@
 -- Types that are made in one step, as types that are read.
-use Rattle.std.proofs.Common.{◌≡◌, ℕ, List, [], ◌∷◌, ◌++◌, map, refl, sym, ◌∙◌, ap, subst, Bool, true, false, cond, Some, None, All}
+use Rattle.std.proofs.Common.{◌≡◌, ℕ, List, [], ◌∷◌, map, refl, sym, ◌∙◌, ap, subst, Bool, true, false, cond, Some, None, All}
 use Rattle.std.specs.Prelude.{Option}
 use Rattle.std.specs.Option.{option_map}
 use Rattle.std.proofs.lemmas.Bool.{false≢true}
@@ -17,7 +17,7 @@ use Rattle.wcv_lower.specs.Checks.{Checks, Cause, IsFree}
 use Rattle.wcv_lower.specs.Context.{is_concrete, Side, importing, exporting}
 use Rattle.wcv_lower.specs.Declared.{Makers, read_type, declared_checks}
 use Rattle.wcv_lower.specs.DeclaredCalls.{TypeRead, TypeRefused}
-use Rattle.wcv_lower.specs.Given.{GivenNames, names_of, none_given, Numbers, AtMost, GivesAt}
+use Rattle.wcv_lower.specs.Given.{GivenNames, names_of, none_given}
 use Rattle.wcv_lower.specs.Growth.{grow}
 use Rattle.wcv_lower.specs.Names.{Names, Under}
 use Rattle.wcv_lower.specs.Owned.{IsGiven, IsCalm, AllOwn}

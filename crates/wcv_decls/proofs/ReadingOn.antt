@@ -18,14 +18,13 @@ use Rattle.wcv_lower.specs.Context.{Kind}
 use Rattle.wcv_lower.specs.Declared.{decl_checks}
 use Rattle.wcv_lower.specs.DeclaredCalls.{DeclRead, DeclsRead, DeclsRefused}
 use Rattle.wcv_lower.specs.Ending.{declared_end_checks}
-use Rattle.wcv_lower.specs.Given.{GivenNames, names_of, Numbers, AtMost, GivesAt}
-use Rattle.wcv_lower.specs.Names.{Under}
+use Rattle.wcv_lower.specs.Given.{names_of, Numbers, AtMost}
 use Rattle.wcv_lower.specs.Trees.{Tree_stack, tree_maker}
 use Rattle.wcv_state.specs.Contents.{Contents}
 use Rattle.wcv_state.specs.Promises.{numbers_of, Keeps}
-use Rattle.wcv_state.proofs.Keeping.{keeps_trans, keeps_grown}
+use Rattle.wcv_state.proofs.Keeping.{keeps_trans}
 use Rattle.wcv_decls.specs.Declaring.{innermost, around, features_in, stack_in, AreReady, StayReady, MemoryOr, ReadsDecl, ReadsDecls, RefusesDecl, RefusesDecls}
-use Rattle.wcv_decls.specs.Stack.{IsOpen, KeepsOn}
+use Rattle.wcv_decls.specs.Stack.{KeepsOn}
 use Rattle.wcv_decls.proofs.Stacks.{around_kept}
 
 -- ## Numbers

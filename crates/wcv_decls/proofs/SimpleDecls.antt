@@ -1,8 +1,8 @@
 -- Declarations that hold no type: what was read, what is kept, and why one is refused.
-use Rattle.std.proofs.Common.{◌≡◌, ℕ, List, [], ◌∷◌, ◌++◌, map, refl, sym, ◌∙◌, ap, subst, Bool, true, false, cond, Some, None, inl, inr}
-use Rattle.std.specs.Prelude.{Option, ◌⊎◌, slice_get}
+use Rattle.std.proofs.Common.{◌≡◌, ℕ, List, [], ◌∷◌, refl, sym, ◌∙◌, ap, subst, Bool, true, false, cond, Some, None, inl, inr}
+use Rattle.std.specs.Prelude.{Option, ◌⊎◌}
 use Rattle.std.specs.Option.{option_map}
-use Rattle.wcv_core.specs.Names.{Name, Place}
+use Rattle.wcv_core.specs.Names.{Place}
 use Rattle.wcv_core.specs.Refusal.{error_kind, error_offset}
 use Rattle.wcv_core.specs.declared.error.Error.{Error}
 use Rattle.wcv_core.specs.declared.error.ErrorKind.{ErrorKind}
@@ -19,7 +19,7 @@ use Rattle.wcv_syntax.specs.declared.component_type.ComponentTypeRef.TheVariants
 use Rattle.wcv_syntax.specs.declared.name.ComponentExternName.{ComponentExternName}
 use Rattle.wcv_syntax.specs.declared.name.ComponentImport.{ComponentImport}
 use Rattle.wcv_types.specs.Arena.{Arena}
-use Rattle.wcv_types.specs.Tree.{Extern_name, Sort, is_nothing, is_value, is_resource, is_func, is_instance, is_component, is_type, is_module, is_core_instance, is_core_type, is_core_item}
+use Rattle.wcv_types.specs.Tree.{Sort, is_nothing, is_value, is_resource, is_func, is_instance, is_component, is_type, is_module, is_core_instance, is_core_type, is_core_item}
 use Rattle.wcv_types.specs.Unfold.{Type_tree, tree_at}
 use Rattle.wcv_types.specs.declared.ids.ComponentAnyTypeId.TheVariants as any
 use Rattle.wcv_types.specs.declared.ids.Part.TheVariants as part
@@ -43,7 +43,7 @@ use Rattle.wcv_state.specs.Instances.{MayOpen}
 use Rattle.wcv_state.specs.Promises.{MemoryOrCausedBy, numbers_of, Keeps, Grew, CausedAt, ExportDeclared, ExportCaused}
 use Rattle.wcv_state.proofs.Found.{type_is}
 use Rattle.wcv_decls.specs.Declaring.{IsInstanceBody}
-use Rattle.wcv_decls.proofs.Plain.{own_given, SameSides, same_body}
+use Rattle.wcv_decls.proofs.Plain.{own_given, SameSides}
 use Rattle.wcv_decls.proofs.ReadingOn.{grown_numbers}
 
 -- ## What was read, and why one is refused

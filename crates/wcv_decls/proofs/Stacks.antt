@@ -1,6 +1,6 @@
 -- The innermost of the states that are open.
 use Rattle.std.proofs.Common.{◌≡◌, ℕ, zero, suc, ◌<◌, ◌-◌, List, [], ◌∷◌, ◌++◌, length, map, take, refl, ap, subst, sym, ◌∙◌, arith, slice_set, slice_index_or, All, true}
-use Rattle.std.specs.Prelude.{Bool, reverse}
+use Rattle.std.specs.Prelude.{reverse}
 use Rattle.std.proofs.lemmas.List.{map-append, length-map, take_at}
 use Rattle.std.proofs.lemmas.List.Elements.{All-head, All-tail, AllZip-push}
 use Rattle.wcv_core.specs.Names.{Place}
@@ -11,7 +11,7 @@ use Rattle.wcv_types.specs.Arena.{Arena}
 use Rattle.wcv_types.specs.Standing.{Extends}
 use Rattle.wcv_lower.specs.Given.{names_of, none_given}
 use Rattle.wcv_lower.specs.Growth.{call_checks}
-use Rattle.wcv_lower.specs.Trees.{Tree_context, tree_maker}
+use Rattle.wcv_lower.specs.Trees.{tree_maker}
 use Rattle.wcv_state.specs.Contents.{Contents, spent, context_of}
 use Rattle.wcv_state.specs.Promises.{MemoryOrCausedBy, Keeps, Grew}
 use Rattle.wcv_state.proofs.Keeping.{same_mapped, same_context, keeps_grown, keeps_marked, keeps_trans}

@@ -10,16 +10,16 @@ use Rattle.wcv_syntax.specs.Built.{is_built_type}
 use Rattle.wcv_syntax.specs.Model.{Type_form}
 use Rattle.wcv_types.specs.Arena.{Arena}
 use Rattle.wcv_types.proofs.Lists.{map-id}
-use Rattle.wcv_lower.specs.Checks.{Cause, IsFree}
-use Rattle.wcv_lower.specs.Declared.{read_type, declared_checks}
-use Rattle.wcv_lower.specs.Given.{GivenNames, names_of, none_given}
+use Rattle.wcv_lower.specs.Checks.{Cause}
+use Rattle.wcv_lower.specs.Declared.{declared_checks}
+use Rattle.wcv_lower.specs.Given.{names_of, none_given}
 use Rattle.wcv_lower.specs.Growth.{unbuilt}
-use Rattle.wcv_lower.specs.Trees.{Tree_context, Tree_stack, tree_maker}
+use Rattle.wcv_lower.specs.Trees.{tree_maker}
 use Rattle.wcv_state.specs.Contents.{Contents, spent, stack_of}
 use Rattle.wcv_state.specs.Promises.{MemoryOrCausedBy}
 use Rattle.wcv_state.proofs.Calls.{built_free}
 use Rattle.wcv_decls.specs.Declaring.{innermost, around, stack_in, AreReady, StayReady, SameAround, MemoryOr, ReadsType, RefusesType, RefusesItem}
-use Rattle.wcv_decls.specs.Items.{declare_checks, TypeCaused}
+use Rattle.wcv_decls.specs.Items.{TypeCaused}
 use Rattle.wcv_decls.specs.Stack.{IsOpen, AreCalm, all_spent, DeclaresOn, RefusesOn, KeepsOn, contexts_around}
 use Rattle.wcv_decls.proofs.InnermostStates.{parted, open_here, open_around, calm_here}
 use Rattle.wcv_decls.proofs.Naming.{none_made}
@@ -27,9 +27,8 @@ use Rattle.wcv_decls.proofs.ReadingOn.{extends_on}
 use Rattle.wcv_decls.proofs.Stacks.{around_same}
 
 -- states as a trait sees them
-pub states_ready : (a : Arena) (ss : List Contents) → 0 < length (map (λ x. x) ss) → All (IsOpen a) (map (λ x. x) ss) → AreCalm a (map (λ x. x) ss) → AreReady a ss
-states_ready a ss some each calm =
-    let n : 0 < length ss = subst (λ (xs : List Contents). 0 < length xs) (map-id ss) some in
+pub states_ready : (a : Arena) (ss : List Contents) → 0 < length ss → All (IsOpen a) (map (λ x. x) ss) → AreCalm a (map (λ x. x) ss) → AreReady a ss
+states_ready a ss n each calm =
     record { some = n; each = subst (All (IsOpen a)) (map-id ss) each; calm = calm_here a ss n (subst (AreCalm a) (map-id ss) calm) }
 
 pub declares_on : (limited : Bool) (a b : Arena) (p : Place) (ss ss' : List Contents) (t : Type_form) → AreReady a ss → is_built_type t ≡ true → ReadsType limited a b ss ss' t → StayReady b ss ss' → KeepsOn a b ss ss' → DeclaresOn limited a b p ss ss' t

@@ -1,6 +1,6 @@
 -- A declared type from the state that is opened for it to its end.
-use Rattle.std.proofs.Common.{◌≡◌, ℕ, ◌<◌, List, [], ◌∷◌, ◌++◌, map, length, refl, sym, ◌∙◌, ap, subst, Bool, Some, All, inl, inr}
-use Rattle.std.specs.Prelude.{◌⊎◌, Option, option_to_list}
+use Rattle.std.proofs.Common.{◌≡◌, ℕ, ◌<◌, List, [], ◌∷◌, ◌++◌, length, refl, sym, ◌∙◌, ap, subst, Bool, inl, inr}
+use Rattle.std.specs.Prelude.{◌⊎◌, Option}
 use Rattle.std.proofs.lemmas.List.Elements.{All-nil}
 use Rattle.wcv_core.specs.Names.{Name, Place}
 use Rattle.wcv_core.specs.declared.core_types.ValType.{ValType}
@@ -9,23 +9,23 @@ use Rattle.wcv_core.specs.declared.error.Error.{Error}
 use Rattle.wcv_core.specs.declared.error.ErrorKind.{ErrorKind}
 use Rattle.wcv_core.specs.declared.error.ErrorKind.TheVariants as kind
 use Rattle.wcv_core.specs.declared.features.WasmFeatures.{WasmFeatures}
-use Rattle.wcv_syntax.specs.Model.{Type_form, Decls, component_type, instance_type}
+use Rattle.wcv_syntax.specs.Model.{Decls, component_type, instance_type}
 use Rattle.wcv_types.specs.Arena.{Arena}
 use Rattle.wcv_types.specs.Led.{HasPath}
 use Rattle.wcv_lower.specs.Checks.{Checks, Cause, IsFree, no_type_room}
-use Rattle.wcv_lower.specs.Context.{Kind, concrete, declares_instance, declares_component, counts, importing}
-use Rattle.wcv_lower.specs.Declared.{inside, full_stack, declared_checks, decls_checks}
-use Rattle.wcv_lower.specs.DeclaredCalls.{DeclsRead, DeclsRefused, TypeRead, TypeRefused}
-use Rattle.wcv_lower.specs.Ending.{declared_end_checks, end_checks}
-use Rattle.wcv_lower.specs.Given.{GivenNames, names_of, none_given, AtMost}
+use Rattle.wcv_lower.specs.Context.{Kind, declares_instance, declares_component, counts}
+use Rattle.wcv_lower.specs.Declared.{inside, full_stack, decls_checks}
+use Rattle.wcv_lower.specs.DeclaredCalls.{DeclsRead, DeclsRefused}
+use Rattle.wcv_lower.specs.Ending.{end_checks}
+use Rattle.wcv_lower.specs.Given.{names_of, none_given, AtMost}
 use Rattle.wcv_lower.specs.Trees.{Tree_context, Tree_stack, tree_maker}
 use Rattle.wcv_lower.proofs.Causes.{cause_left, cause_right, cause_either}
 use Rattle.wcv_lower.proofs.DeclaredGlued.{instance_read, component_read, instance_refused, component_refused}
 use Rattle.wcv_state.specs.Contents.{Contents, spent, context_of}
-use Rattle.wcv_state.specs.Promises.{MemoryOrCausedBy, numbers_of, Keeps}
+use Rattle.wcv_state.specs.Promises.{MemoryOrCausedBy, numbers_of}
 use Rattle.wcv_state.proofs.Keeping.{same_context}
 use Rattle.wcv_decls.specs.Declaring.{innermost, around, features_in, stack_in, top_in, AreReady, StayReady, SameAround, IsInstanceBody, DeclaresInstance, Opened, ReadsType, ReadsDecls, MemoryOr, RefusesType, RefusesDecls, Ends}
-use Rattle.wcv_decls.specs.Stack.{IsOpen, all_spent, KeepsOn}
+use Rattle.wcv_decls.specs.Stack.{all_spent, KeepsOn}
 use Rattle.wcv_decls.proofs.InnermostStates.{open_here}
 use Rattle.wcv_decls.proofs.Naming.{none_made}
 use Rattle.wcv_decls.proofs.Opening.{opened_stack}

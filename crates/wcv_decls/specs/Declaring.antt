@@ -1,5 +1,5 @@
 -- Types that are read over the states that are open, declaration by declaration.
-use Rattle.std.specs.Prelude.{ℕ, List, [], ◌∷◌, ◌++◌, Bool, All, length, ◌≡◌, ◌<◌, ◌⊎◌, Some}
+use Rattle.std.specs.Prelude.{ℕ, List, [], ◌∷◌, Bool, All, length, ◌≡◌, ◌<◌, ◌⊎◌, Some}
 use Rattle.wcv_core.specs.Features.{default_features}
 use Rattle.wcv_core.specs.Names.{Place}
 use Rattle.wcv_core.specs.Refusal.{error_kind, error_offset}

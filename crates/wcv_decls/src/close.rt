@@ -1,5 +1,5 @@
 // The ends of declared types: the state leaves, and its type joins the types of the state around it.
-ghost use Rattle.std.specs.Prelude.{◌≡◌, ◌<◌, false, map, length, All, OnOk, OnErr, IfOk, IfErr};
+ghost use Rattle.std.specs.Prelude.{◌≡◌, ◌<◌, ◌≤◌, false, map, length, All, OnOk, OnErr, IfOk, IfErr};
 ghost use Rattle.wcv_core.specs.Refusal.{error_kind};
 ghost use Rattle.wcv_core.specs.declared.error.ErrorKind.TheVariants as kinds;
 ghost use Rattle.wcv_types.specs.ComponentTrees.{ResourceStands};
@@ -23,7 +23,7 @@ use wcv_core::{Error, OutOfMemory};
 use wcv_state::ComponentState;
 use wcv_types::{
     ComponentAnyTypeId, ComponentInstanceType, ComponentInstanceTypeId, ComponentType,
-    ComponentTypeId, Paths, ResourceSet, TypeAlloc,
+    ComponentTypeId, Paths, ResourceSet, TypeAlloc, TypeInfo,
 };
 
 /// The type of what the state read, which is let go.
@@ -132,6 +132,15 @@ fn instance_of(ty: ComponentType, types: &TypeAlloc) -> Result<ComponentInstance
     Ok(ComponentInstanceType::over(types, owned, exports))
 }
 
+/// What the types of the two numbers say.
+fn look_at(info: &TypeInfo)
+    ensures size { info.now.size ≤ 4294967295 }
+    ensures depth { info.now.depth ≤ 4294967295 }
+{
+    let _size = info.size;
+    let _depth = info.depth;
+}
+
 /// Ends a component type.
 pub fn end_component_type(
     components: &mut Vec<ComponentState>,
@@ -146,6 +155,7 @@ pub fn end_component_type(
     ensures keeps { KeepsOn types.old types.new (around components.old.items) components.new.items }
 {
     let ty = pop_type(components, types, offset)?;
+    look_at(&ty.info);
     let last = components.len() - 1;
     store_component(ty, &mut components[last], types)?;
     Ok(())

@@ -31,7 +31,6 @@ fn in_declaration(error: &Error, position: usize) -> Error
 
 /// A type of a built form joins the types of the innermost state.
 #[cycle(declared)]
-#[tactic(auto, using(crate::proofs::Forms::component_form, crate::proofs::Forms::instance_form))]
 pub fn declare_type(
     ty: ComponentType,
     components: &mut Vec<ComponentState>,

@@ -1,17 +1,15 @@
-use Rattle.std.proofs.Common.{◌≡◌, ℕ, ◌-◌, ◌∙◌, List, length, ap, sym, subst, slice_set, slice_index_or, refl, inl, All}
-use Rattle.std.proofs.lemmas.Result.{err_from_is_err_and, on_ok_weaker, IfErr-weaker}
+use Rattle.std.proofs.Common.{◌≡◌, ℕ, ◌-◌, ◌∙◌, List, length, ap, sym, subst, slice_set, slice_index_or, All}
+use Rattle.std.proofs.lemmas.Result.{err_from_is_err_and}
 use Rattle.wcv_core.specs.Names.{number}
 use Rattle.wcv_types.specs.declared.arena.Node.TheVariants as n
 use Rattle.wcv_types.proofs.Grown.{extends_refl}
-use Rattle.wcv_lower.specs.Context.{declares_component, declares_instance}
+use Rattle.wcv_lower.specs.Context.{declares_component}
 use Rattle.wcv_state.specs.Contents.{Contents, StateStands}
 use Rattle.wcv_decls.specs.Declaring.{innermost, around, SameAround, Ends}
 use Rattle.wcv_decls.specs.Stack.{IsOpen, all_spent, stay, ChangesLast, KeepsOn}
 use Rattle.wcv_decls.proofs.InnermostStates.{indexed, last_changed, open_here, open_around, kept, marks_same}
 use Rattle.wcv_decls.proofs.Stacks.{around_kept}
 use Rattle.wcv_decls.proofs.Closing.{type_ends, finished_fits, node_at_end, component_tree_same}
-use Rattle.wcv_decls.proofs.InstanceEnds.{no_end_cause}
-use Rattle.wcv_decls.proofs.InstanceNodes.{owned_led, instance_same}
 use Rattle.wcv_decls.proofs.close.end_component_type.Goals as goal
 
 pub returns-in_err-ty-clause-err : goal.returns-in_err-ty-clause-err
@@ -62,7 +60,7 @@ store_component-requires-clause-fits c =
     let os : List Contents = c.args.components.now.items in
     let ss : List Contents = around os in
     let each : All (IsOpen a) ss = open_around a os c.requires.ready.some c.requires.ready.each in
-    finished_fits a (innermost os) c.in_ok-ty.ty c.in_ok-ty.ensures.ok ? ?
+    finished_fits a (innermost os) c.in_ok-ty.ty c.in_ok-ty.ensures.ok c.look_at.ensures.size c.look_at.ensures.depth
 
 pub returns-clause-ok : goal.returns-clause-ok
 returns-clause-ok c =

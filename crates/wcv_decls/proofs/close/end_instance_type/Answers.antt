@@ -1,17 +1,15 @@
-use Rattle.std.proofs.Common.{◌≡◌, ℕ, ◌-◌, ◌∙◌, List, length, ap, sym, subst, slice_set, slice_index_or, refl, inl, All}
-use Rattle.std.proofs.lemmas.Result.{err_from_is_err_and, on_ok_weaker, IfErr-weaker}
-use Rattle.wcv_core.specs.Names.{number}
+use Rattle.std.proofs.Common.{◌≡◌, ℕ, ◌-◌, ◌∙◌, List, length, ap, sym, subst, slice_set, slice_index_or, refl, All}
+use Rattle.std.proofs.lemmas.Result.{err_from_is_err_and}
 use Rattle.wcv_types.specs.declared.arena.Node.TheVariants as n
 use Rattle.wcv_types.proofs.Grown.{extends_refl}
 use Rattle.wcv_lower.specs.Ending.{instance_made}
-use Rattle.wcv_lower.specs.Context.{declares_component, declares_instance}
+use Rattle.wcv_lower.specs.Context.{declares_instance}
 use Rattle.wcv_state.specs.Contents.{Contents, context_of, StateStands}
 use Rattle.wcv_decls.specs.Declaring.{innermost, around, SameAround, Ends}
 use Rattle.wcv_decls.specs.Stack.{IsOpen, all_spent, stay, ChangesLast, KeepsOn}
 use Rattle.wcv_decls.proofs.InnermostStates.{indexed, last_changed, open_here, open_around, kept, marks_same}
 use Rattle.wcv_decls.proofs.Stacks.{around_kept}
-use Rattle.wcv_decls.proofs.Closing.{type_ends, finished_fits, node_at_end, component_tree_same}
-use Rattle.wcv_decls.proofs.InstanceEnds.{no_end_cause}
+use Rattle.wcv_decls.proofs.Closing.{type_ends}
 use Rattle.wcv_decls.proofs.InstanceNodes.{owned_led, instance_same, memory_alone}
 use Rattle.wcv_decls.proofs.close.end_instance_type.Goals as goal
 

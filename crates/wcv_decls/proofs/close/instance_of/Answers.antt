@@ -1,5 +1,5 @@
-use Rattle.std.proofs.Common.{◌≡◌, ◌∙◌, List, All, sym, subst}
-use Rattle.wcv_core.specs.Names.{Name}
+use Rattle.std.proofs.Common.{◌∙◌, List, All, sym, subst}
+use Rattle.wcv_types.specs.Entities.{entry_trees}
 use Rattle.wcv_types.specs.Led.{HasPath}
 use Rattle.wcv_types.specs.Sets.{resource_names}
 use Rattle.wcv_types.specs.Standing.{GaveResource}
@@ -20,7 +20,7 @@ over-requires-clause-owned c =
 pub over-requires-clause-led : goal.over-requires-clause-led
 over-requires-clause-led c =
     subst (λ (es : List (Extern_name × Type_tree)). All (HasPath es) (resource_names c.in_ok-owned.owned)) (sym (instance_exports (trees c.args.types.now.nodes) c.args.ty.exports))
-    (subst (λ (rs : List ResourceId). All (HasPath _) (resource_names rs)) (sym c.in_ok-owned.ensures) c.requires.led)
+    (subst (λ (rs : List ResourceId). All (HasPath (entry_trees (trees c.args.types.now.nodes) c.args.ty.exports)) (resource_names rs)) (sym c.in_ok-owned.ensures) c.requires.led)
 
 pub returns-clause-resources : goal.returns-clause-resources
 returns-clause-resources c = c.over.ensures.resources ∙ c.in_ok-owned.ensures

@@ -1,5 +1,4 @@
-use Rattle.std.proofs.Common.{◌≡◌, List, [], ap, sym, ◌∙◌}
-use Rattle.wcv_state.specs.Contents.{Contents}
+use Rattle.std.proofs.Common.{ap, sym, ◌∙◌}
 use Rattle.wcv_decls.specs.Declaring.{around}
 use Rattle.wcv_decls.proofs.InnermostStates.{around_at}
 use Rattle.wcv_decls.proofs.close.leave.Goals as goal

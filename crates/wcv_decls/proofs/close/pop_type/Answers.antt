@@ -1,16 +1,10 @@
-use Rattle.std.proofs.Common.{◌≡◌, ◌++◌, [], ◌∷◌, ap, sym, ◌∙◌, subst}
+use Rattle.std.proofs.Common.{◌≡◌, ap, sym, ◌∙◌, subst}
 use Rattle.std.specs.Prelude.{IfOk, IfErr}
 use Rattle.wcv_lower.specs.Ending.{end_checks}
 use Rattle.wcv_state.specs.Contents.{Contents, context_of, StateStands}
 use Rattle.wcv_state.specs.Promises.{MemoryOrCausedBy, Finished}
 use Rattle.wcv_decls.specs.Declaring.{innermost}
 use Rattle.wcv_decls.proofs.InnermostStates.{innermost_at, around_at, open_here}
-use Rattle.wcv_decls.proofs.TypesOn.{declares_on}
-use Rattle.wcv_decls.proofs.Whole.{component_whole}
-use Rattle.wcv_decls.proofs.OverInnermost.{core_reads}
-use Rattle.wcv_decls.proofs.InstanceNodes.{instance_same}
-use Rattle.wcv_decls.proofs.Opening.{opened_stack}
-use Rattle.wcv_decls.proofs.Closing.{type_ends}
 use Rattle.wcv_decls.proofs.close.pop_type.Goals as goal
 
 pub type_at_end-requires-clause-live : goal.type_at_end-requires-clause-live

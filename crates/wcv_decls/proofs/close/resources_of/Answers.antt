@@ -1,4 +1,4 @@
-use Rattle.std.proofs.Common.{◌≡◌, ◌∙◌, ◌<◌, subst, sym, arith}
+use Rattle.std.proofs.Common.{◌∙◌, ◌<◌, subst, sym, arith}
 use Rattle.wcv_types.proofs.Copying.{none_past}
 use Rattle.wcv_decls.proofs.PathKeys.{first_next, first_all}
 use Rattle.wcv_decls.proofs.close.resources_of.Goals as goal

@@ -1,11 +1,11 @@
-use Rattle.std.proofs.Common.{◌≡◌, ◌<◌, List, length, sym, subst, take}
-use Rattle.std.specs.Prelude.{All, OnOk, OnErr, IfErr}
+use Rattle.std.proofs.Common.{◌≡◌, ◌<◌, List, length, sym, subst}
+use Rattle.std.specs.Prelude.{All, OnOk, OnErr}
 use Rattle.std.proofs.lemmas.Result.{on_ok_weaker, IfErr-weaker}
 use Rattle.wcv_core.specs.Names.{Place}
 use Rattle.wcv_syntax.specs.Model.{core_type_item, core_type_decl}
 use Rattle.wcv_syntax.specs.View.{core_type_view}
 use Rattle.wcv_state.specs.Contents.{Contents}
-use Rattle.wcv_decls.specs.Declaring.{StayReady, DeclaresInstance, MemoryOr, SameAround, ReadsDecl, RefusesDecl}
+use Rattle.wcv_decls.specs.Declaring.{StayReady, DeclaresInstance, SameAround, ReadsDecl}
 use Rattle.wcv_decls.specs.Stack.{IsOpen, GrewOn, RefusedOn, KeepsOn}
 use Rattle.wcv_decls.proofs.Outcomes.{marks_where}
 use Rattle.wcv_decls.proofs.OverInnermost.{core_reads, core_stays, core_body, core_refuses, core_marks}
@@ -65,7 +65,6 @@ returns-clause-err c =
     let ys : List Contents = c.add_core_type_on.new.components in
     let same : c.as_mut_slice.result.now ≡ ss = c.as_mut_slice.ensures.value in
     let kept : KeepsOn a b ss ys = subst (λ (xs : List Contents). KeepsOn a b xs ys) same c.add_core_type_on.ensures.keeps in
-    let back = kept_back a b ss ys _ c.args.components.now.len c.args.components.now.ok.0 kept in
     let t = core_type_view c.args.ty in
     IfErr-weaker c.add_core_type_on.result _ _ (λ x f. core_refuses a b ss ys c.requires.ready kept t c.args.offset x (subst (λ (xs : List Contents). (p : Place) → RefusedOn a b p xs ys (core_type_item t) c.args.offset x) same f)) c.add_core_type_on.ensures.err
 

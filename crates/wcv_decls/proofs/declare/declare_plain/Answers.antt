@@ -1,5 +1,5 @@
 use Rattle.std.proofs.Common.{◌≡◌, ℕ, ◌-◌, ◌∙◌, List, length, ap, sym, subst, slice_set}
-use Rattle.std.proofs.lemmas.Result.{on_ok_weaker, on_err_weaker, IfErr-weaker}
+use Rattle.std.proofs.lemmas.Result.{on_ok_weaker, IfErr-weaker}
 use Rattle.wcv_syntax.specs.View.{type_view}
 use Rattle.wcv_state.specs.Contents.{Contents, StateStands}
 use Rattle.wcv_state.specs.Promises.{Keeps}

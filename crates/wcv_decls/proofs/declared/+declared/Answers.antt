@@ -1,64 +1,59 @@
-use Rattle.std.proofs.Common.{◌≡◌, ℕ, suc, ◌<◌, List, [], ◌∷◌, ◌++◌, length, map, refl, sym, ◌∙◌, ap, subst, arith, rules, true, false, inl, ◌≤◌}
+use Rattle.std.proofs.Common.{◌≡◌, ℕ, suc, ◌<◌, List, [], ◌∷◌, ◌++◌, length, map, sym, ◌∙◌, ap, subst, arith, inl, ◌≤◌}
 use Rattle.std.specs.Prelude.{OnOk, OnErr, IfErr}
-use Rattle.std.specs.Vec.Iter.{into_iter_items, into_iter_len}
+use Rattle.std.specs.Vec.Iter.{into_iter_items}
 use Rattle.std.proofs.lemmas.List.{length-append}
-use Rattle.std.proofs.lemmas.Result.{err_from_is_err_and, on_ok_weaker, on_err_weaker, IfErr-weaker}
-use Rattle.wcv_syntax.specs.Built.{is_built_type, is_built_decl, are_built}
-use Rattle.wcv_syntax.specs.Model.{Type_form, Decl, Decls, no_decls, declare, component_type, instance_type, type_decl, export_decl, import_decl, core_type_decl}
-use Rattle.wcv_syntax.specs.View.{decls_of, type_view, component_decl_view, instance_decl_view, core_type_view}
+use Rattle.std.proofs.lemmas.Result.{err_from_is_err_and, on_ok_weaker, IfErr-weaker}
+use Rattle.wcv_syntax.specs.Built.{is_built_type, is_built_decl}
+use Rattle.wcv_syntax.specs.Model.{Type_form, Decl, Decls, no_decls, declare, component_type, instance_type, type_decl}
+use Rattle.wcv_syntax.specs.View.{decls_of, type_view, component_decl_view, instance_decl_view}
 use Rattle.wcv_syntax.specs.declared.component_type.ComponentTypeDeclaration.{ComponentTypeDeclaration}
 use Rattle.wcv_syntax.specs.declared.component_type.InstanceTypeDeclaration.{InstanceTypeDeclaration}
-use Rattle.wcv_syntax.proofs.Views.{component_of_core_type, component_of_type, component_of_alias, component_of_export, component_of_import, instance_of_core_type, instance_of_type, instance_of_alias, instance_of_export}
+use Rattle.wcv_syntax.proofs.Views.{type_view-Component, type_view-Instance, component_of_core_type, component_of_type, component_of_export, component_of_import, instance_of_core_type, instance_of_type, instance_of_export}
 use Rattle.wcv_types.proofs.Grown.{extends_refl}
 use Rattle.wcv_lower.specs.Context.{declares_instance, declares_component}
 use Rattle.wcv_lower.proofs.DeclaredDoes.{inside_built}
 use Rattle.wcv_state.specs.Contents.{Contents}
-use Rattle.wcv_decls.specs.Declaring.{around, AreReady, StayReady, SameAround, DeclaresInstance, Opened, MemoryOr, ReadsType, ReadsDecl, ReadsDecls, RefusesType, RefusesDecl, RefusesDecls, Ends}
+use Rattle.wcv_decls.specs.Declaring.{around, SameAround, MemoryOr, ReadsType, ReadsDecl, RefusesType, RefusesDecl, RefusesDecls}
 use Rattle.wcv_decls.specs.Stack.{all_spent, KeepsOn}
-use Rattle.wcv_decls.proofs.Forms.{component_form, instance_form, plain_where}
 use Rattle.wcv_decls.proofs.FormSizes.{type_size, decl_size, decls_size, first_smaller, rest_smaller}
 use Rattle.wcv_decls.proofs.ReadingOn.{SoFar, so_far_start, so_far_next, so_far_all, so_far_refused, built_first, nothing_left, refused_same, kept_both, extends_on, grown_numbers}
 use Rattle.wcv_decls.proofs.Stacks.{around_kept}
-use Rattle.wcv_decls.proofs.Whole.{component_barred, instance_barred, same_states, marks_around, kept_around, whole_stays, whole_declares, whole_kept, component_whole, instance_whole, component_inside_refused, instance_inside_refused, component_end_refused, opened_body}
+use Rattle.wcv_decls.proofs.Whole.{component_barred, instance_barred, same_states, marks_around, kept_around, whole_stays, whole_declares, component_whole, instance_whole, component_inside_refused, instance_inside_refused, component_end_refused, opened_body}
 use Rattle.wcv_decls.proofs.declared.+declared.Goals as goal
 
 -- ## A type by its form
 
 pub declare_type-declare_component_type-requires : goal.declare_type-declare_component_type-requires
 declare_type-declare_component_type-requires t c =
-    let e : type_view c.args.ty ≡ component_type (decls_of (map component_decl_view c.in-Component.decls.items)) = ap type_view c.in-Component.is ∙ component_form c.in-Component.decls in
+    let e : type_view c.args.ty ≡ component_type (decls_of (map component_decl_view c.in-Component.decls.items)) = ap type_view c.in-Component.is ∙ type_view-Component c.in-Component.decls in
     let size = ap type_size e in
     (omega (arith, size, c.decreases), (c.requires.ready, sym (ap is_built_type e) ∙ c.requires.built))
 
 pub declare_type-returns-in-Component-clause-ok : goal.declare_type-returns-in-Component-clause-ok
 declare_type-returns-in-Component-clause-ok t c =
-    let e : type_view c.args.ty ≡ component_type (decls_of (map component_decl_view c.in-Component.decls.items)) = ap type_view c.in-Component.is ∙ component_form c.in-Component.decls in
+    let e : type_view c.args.ty ≡ component_type (decls_of (map component_decl_view c.in-Component.decls.items)) = ap type_view c.in-Component.is ∙ type_view-Component c.in-Component.decls in
     subst (λ (x : Type_form). OnOk c.declare_component_type.result (ReadsType c.args.check_limit c.args.types.now c.declare_component_type.new.types c.args.components.now.items c.declare_component_type.new.components.items x)) (sym e) c.declare_component_type.ensures.ok
 
 pub declare_type-returns-in-Component-clause-err : goal.declare_type-returns-in-Component-clause-err
 declare_type-returns-in-Component-clause-err t c =
-    let e : type_view c.args.ty ≡ component_type (decls_of (map component_decl_view c.in-Component.decls.items)) = ap type_view c.in-Component.is ∙ component_form c.in-Component.decls in
+    let e : type_view c.args.ty ≡ component_type (decls_of (map component_decl_view c.in-Component.decls.items)) = ap type_view c.in-Component.is ∙ type_view-Component c.in-Component.decls in
     subst (λ (x : Type_form). IfErr c.declare_component_type.result (MemoryOr (RefusesType c.args.check_limit c.args.types.now c.declare_component_type.new.types c.args.components.now.items x) c.args.offset)) (sym e) c.declare_component_type.ensures.err
 
 pub declare_type-declare_instance_type-requires : goal.declare_type-declare_instance_type-requires
 declare_type-declare_instance_type-requires t c =
-    let e : type_view c.args.ty ≡ instance_type (decls_of (map instance_decl_view c.in-Instance.decls.items)) = ap type_view c.in-Instance.is ∙ instance_form c.in-Instance.decls in
+    let e : type_view c.args.ty ≡ instance_type (decls_of (map instance_decl_view c.in-Instance.decls.items)) = ap type_view c.in-Instance.is ∙ type_view-Instance c.in-Instance.decls in
     let size = ap type_size e in
     (omega (arith, size, c.decreases), (c.requires.ready, inside_built (decls_of (map instance_decl_view c.in-Instance.decls.items)) (sym (ap is_built_type e) ∙ c.requires.built)))
 
 pub declare_type-returns-in-Instance-clause-ok : goal.declare_type-returns-in-Instance-clause-ok
 declare_type-returns-in-Instance-clause-ok t c =
-    let e : type_view c.args.ty ≡ instance_type (decls_of (map instance_decl_view c.in-Instance.decls.items)) = ap type_view c.in-Instance.is ∙ instance_form c.in-Instance.decls in
+    let e : type_view c.args.ty ≡ instance_type (decls_of (map instance_decl_view c.in-Instance.decls.items)) = ap type_view c.in-Instance.is ∙ type_view-Instance c.in-Instance.decls in
     subst (λ (x : Type_form). OnOk c.declare_instance_type.result (ReadsType c.args.check_limit c.args.types.now c.declare_instance_type.new.types c.args.components.now.items c.declare_instance_type.new.components.items x)) (sym e) c.declare_instance_type.ensures.ok
 
 pub declare_type-returns-in-Instance-clause-err : goal.declare_type-returns-in-Instance-clause-err
 declare_type-returns-in-Instance-clause-err t c =
-    let e : type_view c.args.ty ≡ instance_type (decls_of (map instance_decl_view c.in-Instance.decls.items)) = ap type_view c.in-Instance.is ∙ instance_form c.in-Instance.decls in
+    let e : type_view c.args.ty ≡ instance_type (decls_of (map instance_decl_view c.in-Instance.decls.items)) = ap type_view c.in-Instance.is ∙ type_view-Instance c.in-Instance.decls in
     subst (λ (x : Type_form). IfErr c.declare_instance_type.result (MemoryOr (RefusesType c.args.check_limit c.args.types.now c.declare_instance_type.new.types c.args.components.now.items x) c.args.offset)) (sym e) c.declare_instance_type.ensures.err
-
-pub declare_type-declare_plain-requires-clause-plain : goal.declare_type-declare_plain-requires-clause-plain
-declare_type-declare_plain-requires-clause-plain t c =
-    plain_where c.args.ty c.requires.built c.in_default.not-Component c.in_default.not-Instance
 
 -- ## Declared types
 
@@ -546,3 +541,48 @@ read_instance_decl-declare_type-requires t c =
     let e : instance_decl_view c.args.decl ≡ type_decl (type_view c.in-Ty.ty) = ap instance_decl_view c.in-Ty.is ∙ instance_of_type c.in-Ty.ty in
     let size = ap decl_size e in
     (omega (arith, size, c.decreases), (c.requires.ready, sym (ap is_built_decl e) ∙ c.requires.built))
+
+pub read_component_decl-returns-in-CoreType-clause-ok : goal.read_component_decl-returns-in-CoreType-clause-ok
+read_component_decl-returns-in-CoreType-clause-ok t c =
+    let e = ap component_decl_view c.in-CoreType.is ∙ component_of_core_type c.in-CoreType.ty in
+    subst (λ (d : Decl). OnOk c.declare_core_type.result (ReadsDecl c.args.types.now c.declare_core_type.new.types c.args.components.now.items c.declare_core_type.new.components.items d)) (sym e) c.declare_core_type.ensures.ok
+
+pub read_component_decl-returns-in-Ty-clause-ok : goal.read_component_decl-returns-in-Ty-clause-ok
+read_component_decl-returns-in-Ty-clause-ok t c =
+    let e = ap component_decl_view c.in-Ty.is ∙ component_of_type c.in-Ty.ty in
+    subst (λ (d : Decl). OnOk c.declare_type.result (ReadsDecl c.args.types.now c.declare_type.new.types c.args.components.now.items c.declare_type.new.components.items d)) (sym e) c.declare_type.ensures.ok
+
+pub read_component_decl-returns-in-Ty-clause-err : goal.read_component_decl-returns-in-Ty-clause-err
+read_component_decl-returns-in-Ty-clause-err t c =
+    let e = ap component_decl_view c.in-Ty.is ∙ component_of_type c.in-Ty.ty in
+    subst (λ (d : Decl). IfErr c.declare_type.result (MemoryOr (RefusesDecl c.args.types.now c.declare_type.new.types c.args.components.now.items d) c.args.offset)) (sym e) c.declare_type.ensures.err
+
+pub read_component_decl-returns-in-Export-clause-ok : goal.read_component_decl-returns-in-Export-clause-ok
+read_component_decl-returns-in-Export-clause-ok t c =
+    let e = ap component_decl_view c.in-Export.is ∙ component_of_export c.in-Export.name c.in-Export.ty in
+    subst (λ (d : Decl). OnOk c.declare_export.result (ReadsDecl c.args.types.now c.declare_export.new.types c.args.components.now.items c.declare_export.new.components.items d)) (sym e) c.declare_export.ensures.ok
+
+pub read_component_decl-returns-in-Import-clause-ok : goal.read_component_decl-returns-in-Import-clause-ok
+read_component_decl-returns-in-Import-clause-ok t c =
+    let e = ap component_decl_view c.in-Import.is ∙ component_of_import c.in-Import.import in
+    subst (λ (d : Decl). OnOk c.declare_import.result (ReadsDecl c.args.types.now c.declare_import.new.types c.args.components.now.items c.declare_import.new.components.items d)) (sym e) c.declare_import.ensures.ok
+
+pub read_instance_decl-returns-in-CoreType-clause-ok : goal.read_instance_decl-returns-in-CoreType-clause-ok
+read_instance_decl-returns-in-CoreType-clause-ok t c =
+    let e = ap instance_decl_view c.in-CoreType.is ∙ instance_of_core_type c.in-CoreType.ty in
+    subst (λ (d : Decl). OnOk c.declare_core_type.result (ReadsDecl c.args.types.now c.declare_core_type.new.types c.args.components.now.items c.declare_core_type.new.components.items d)) (sym e) c.declare_core_type.ensures.ok
+
+pub read_instance_decl-returns-in-Ty-clause-ok : goal.read_instance_decl-returns-in-Ty-clause-ok
+read_instance_decl-returns-in-Ty-clause-ok t c =
+    let e = ap instance_decl_view c.in-Ty.is ∙ instance_of_type c.in-Ty.ty in
+    subst (λ (d : Decl). OnOk c.declare_type.result (ReadsDecl c.args.types.now c.declare_type.new.types c.args.components.now.items c.declare_type.new.components.items d)) (sym e) c.declare_type.ensures.ok
+
+pub read_instance_decl-returns-in-Ty-clause-err : goal.read_instance_decl-returns-in-Ty-clause-err
+read_instance_decl-returns-in-Ty-clause-err t c =
+    let e = ap instance_decl_view c.in-Ty.is ∙ instance_of_type c.in-Ty.ty in
+    subst (λ (d : Decl). IfErr c.declare_type.result (MemoryOr (RefusesDecl c.args.types.now c.declare_type.new.types c.args.components.now.items d) c.args.offset)) (sym e) c.declare_type.ensures.err
+
+pub read_instance_decl-returns-in-Export-clause-ok : goal.read_instance_decl-returns-in-Export-clause-ok
+read_instance_decl-returns-in-Export-clause-ok t c =
+    let e = ap instance_decl_view c.in-Export.is ∙ instance_of_export c.in-Export.name c.in-Export.ty in
+    subst (λ (d : Decl). OnOk c.declare_export.result (ReadsDecl c.args.types.now c.declare_export.new.types c.args.components.now.items c.declare_export.new.components.items d)) (sym e) c.declare_export.ensures.ok

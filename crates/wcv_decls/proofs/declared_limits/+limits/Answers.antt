@@ -29,7 +29,7 @@ check_in_component-returns-in_err-check_component_decl-clause-err t c =
     let p = err_from_is_err_and c.from_residual-in_err-check_component_decl.result c.from_residual-in_err-check_component_decl.ensures.1 in
     let ds = c.deref-decl-items.result.now in
     let i : ℕ = c.loop-decl.decl-index in
-    let d = c.decl-item.result.now in
+    let d = c.decl-item.result in
     let x = c.in_err-check_component_decl.field-0.0 in
     let within : i < length ds = omega arith in
     let is : d ≡ get_or ds i d = cc (c.decl-item.is) in
@@ -41,7 +41,7 @@ pub check_in_component-loop-decl-preserved : goal.check_in_component-loop-decl-p
 check_in_component-loop-decl-preserved t c =
     let ds = c.deref-decl-items.result.now in
     let i : ℕ = c.loop-decl.decl-index in
-    let d = c.decl-item.result.now in
+    let d = c.decl-item.result in
     let within : i < length ds = omega arith in
     let is : d ≡ get_or ds i d = cc (c.decl-item.is) in
     left_free component_decl_view ds i d within is c.loop-decl.invariant c.in_ok-check_component_decl.ensures.ok
@@ -63,7 +63,7 @@ check_in_instance-returns-in_err-check_instance_decl-clause-err t c =
     let p = err_from_is_err_and c.from_residual-in_err-check_instance_decl.result c.from_residual-in_err-check_instance_decl.ensures.1 in
     let ds = c.deref-decl-items.result.now in
     let i : ℕ = c.loop-decl.decl-index in
-    let d = c.decl-item.result.now in
+    let d = c.decl-item.result in
     let x = c.in_err-check_instance_decl.field-0.0 in
     let within : i < length ds = omega arith in
     let is : d ≡ get_or ds i d = cc (c.decl-item.is) in
@@ -75,7 +75,7 @@ pub check_in_instance-loop-decl-preserved : goal.check_in_instance-loop-decl-pre
 check_in_instance-loop-decl-preserved t c =
     let ds = c.deref-decl-items.result.now in
     let i : ℕ = c.loop-decl.decl-index in
-    let d = c.decl-item.result.now in
+    let d = c.decl-item.result in
     let within : i < length ds = omega arith in
     let is : d ≡ get_or ds i d = cc (c.decl-item.is) in
     left_free instance_decl_view ds i d within is c.loop-decl.invariant c.in_ok-check_instance_decl.ensures.ok
