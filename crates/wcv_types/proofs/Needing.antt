@@ -1,10 +1,10 @@
 -- Sets of what types need to be named.
 use Rattle.std.proofs.Common.{◌≡◌, ℕ, suc, ◌+◌, ◌<◌, ◌≤◌, List, [], ◌∷◌, ◌++◌, length, drop, drop-cons, get_or, refl, sym, ◌∙◌, ap, subst, append_assoc, add-one, Bool, true, false, ◌&&◌, ◌||◌, cond, eqb, Some, None}
-use Rattle.std.specs.Prelude.{Option, is_some, slice_get}
+use Rattle.std.specs.Prelude.{Option, slice_get}
 use Rattle.std.specs.Map.{lookup}
-use Rattle.std.proofs.lemmas.Bool.{false≢true, eqb-true}
-use Rattle.std.proofs.lemmas.List.Elements.{All-nil, All-head, All-tail, All-push}
-use Rattle.std.proofs.lemmas.Option.{same_Some, slice_get_within, get_or_from_slice_get}
+use Rattle.std.proofs.lemmas.Bool.{false≢true}
+use Rattle.std.proofs.lemmas.List.Elements.{All-nil}
+use Rattle.std.proofs.lemmas.Option.{slice_get_within, get_or_from_slice_get}
 use Rattle.std.proofs.Math.Dec.{eqb-suc-zero}
 use Rattle.std.proofs.Math.ListN.{drop_of_length-le}
 use Rattle.wcv_core.specs.Names.{Name}
@@ -13,37 +13,27 @@ use Rattle.wcv_types.specs.Entities.{any_part, entity_tree, EntityStands}
 use Rattle.wcv_types.specs.Identity.{Identity, identity_at, same_identity}
 use Rattle.wcv_types.specs.Named.{is_in, with_identity, with_created, passes, all_pass}
 use Rattle.wcv_types.specs.NamedBySet.{with_created_type}
-use Rattle.wcv_types.specs.Needing.{are_in, beside, Needs, AllNeeded, with_needed}
-use Rattle.wcv_types.specs.Sets.{same_type, has_type, with_type, AllStand, identities}
+use Rattle.wcv_types.specs.Needing.{are_in, beside, with_beyond, Needs, AllNeeded}
+use Rattle.wcv_types.specs.Sets.{with_set, same_type, has_type, with_type, AllStand, identities}
 use Rattle.wcv_types.specs.Standing.{Stands, identity_of}
 use Rattle.wcv_types.specs.Tree.{Text, export, type_entity, Tree, node, head, created}
 use Rattle.wcv_types.specs.Unfold.{Type_tree, entry_slots, slot_parts, trees, tree_at, tree_in, unfolded}
-use Rattle.wcv_types.specs.declared.arena.Node.{Node}
 use Rattle.wcv_types.specs.declared.arena.Node.TheVariants as n
 use Rattle.wcv_types.specs.declared.ids.ComponentAnyTypeId.{ComponentAnyTypeId}
-use Rattle.wcv_types.specs.declared.ids.ComponentAnyTypeId.TheVariants as any
 use Rattle.wcv_types.specs.declared.ids.ComponentInstanceTypeId.{ComponentInstanceTypeId}
 use Rattle.wcv_types.specs.declared.ids.Part.TheVariants as p
 use Rattle.wcv_types.specs.declared.instance_type.ComponentInstanceType.{ComponentInstanceType}
 use Rattle.wcv_types.specs.declared.item_map.ComponentItem.{ComponentItem}
 use Rattle.wcv_types.specs.declared.shapes.ComponentEntityType.{ComponentEntityType}
-use Rattle.wcv_types.proofs.NamedExports.{SameMembers, same_identities, with_type_stands, created_stands, created_members, all_pass_by}
+use Rattle.wcv_types.proofs.NamedBySet.{in_set, and_true}
+use Rattle.wcv_types.proofs.NamedExports.{or_true, or_swap, SameMembers, same_identities, with_type_stands, created_stands, created_members, all_pass_by}
+use Rattle.wcv_types.proofs.Placed.{placed_found, placed_put}
 
 -- ## Two tests
 
 or_assoc : (a b c : Bool) → (a || (b || c)) ≡ ((a || b) || c)
 or_assoc true b c = refl
 or_assoc false b c = refl
-
-or_swap : (a b c : Bool) → (a || (b || c)) ≡ (b || (a || c))
-or_swap true true c = refl
-or_swap true false c = refl
-or_swap false true c = refl
-or_swap false false c = refl
-
-or_true : (b : Bool) → (b || true) ≡ true
-or_true true = refl
-or_true false = refl
 
 or_false : (b : Bool) → (b || false) ≡ b
 or_false true = refl
@@ -52,10 +42,6 @@ or_false false = refl
 and_assoc : (a b c : Bool) → (a && (b && c)) ≡ ((a && b) && c)
 and_assoc true b c = refl
 and_assoc false b c = refl
-
-and_true : (b : Bool) → (b && true) ≡ b
-and_true true = refl
-and_true false = refl
 
 and_again : (p r : Bool) → (p && r) ≡ ((p && r) && p)
 and_again true true = refl
@@ -70,49 +56,6 @@ is_in-append (x ∷ xs) ys i = ap (λ (b : Bool). same_identity i x || b) (is_in
 
 abbrev of : ComponentAnyTypeId → Identity
 of c = identity_of (any_part c)
-
-module _ (a : Arena) where
-  -- nodes of two sorts have two places
-  apart : (i j : ℕ) (x y : Node) → slice_get a.nodes i ≡ Some x → slice_get a.nodes j ≡ Some y → (x ≡ y → ⊥) → false ≡ eqb i j
-  apart i j x y s t d = go (eqb i j) refl
-    where
-      go : (b : Bool) → eqb i j ≡ b → false ≡ b
-      go false e = refl
-      go true e = absurd (d (same_Some x y (sym s ∙ ap (slice_get a.nodes) (eqb-true i j e) ∙ t)))
-
-  same_here : (x y : ComponentAnyTypeId) → Stands a (any_part x) → Stands a (any_part y) → same_type x y ≡ same_identity (identity_of (any_part x)) (identity_of (any_part y))
-  same_here (any.Defined i) (any.Func j) s t = apart i.index j.index (n.Defined s.0) (n.Func t.0) s.1 t.1 (λ e. cc)
-  same_here (any.Defined i) (any.Instance j) s t = apart i.index j.index (n.Defined s.0) (n.Instance t.0) s.1 t.1 (λ e. cc)
-  same_here (any.Defined i) (any.Component j) s t = apart i.index j.index (n.Defined s.0) (n.Component t.0) s.1 t.1 (λ e. cc)
-  same_here (any.Func i) (any.Defined j) s t = apart i.index j.index (n.Func s.0) (n.Defined t.0) s.1 t.1 (λ e. cc)
-  same_here (any.Func i) (any.Instance j) s t = apart i.index j.index (n.Func s.0) (n.Instance t.0) s.1 t.1 (λ e. cc)
-  same_here (any.Func i) (any.Component j) s t = apart i.index j.index (n.Func s.0) (n.Component t.0) s.1 t.1 (λ e. cc)
-  same_here (any.Instance i) (any.Defined j) s t = apart i.index j.index (n.Instance s.0) (n.Defined t.0) s.1 t.1 (λ e. cc)
-  same_here (any.Instance i) (any.Func j) s t = apart i.index j.index (n.Instance s.0) (n.Func t.0) s.1 t.1 (λ e. cc)
-  same_here (any.Instance i) (any.Component j) s t = apart i.index j.index (n.Instance s.0) (n.Component t.0) s.1 t.1 (λ e. cc)
-  same_here (any.Component i) (any.Defined j) s t = apart i.index j.index (n.Component s.0) (n.Defined t.0) s.1 t.1 (λ e. cc)
-  same_here (any.Component i) (any.Func j) s t = apart i.index j.index (n.Component s.0) (n.Func t.0) s.1 t.1 (λ e. cc)
-  same_here (any.Component i) (any.Instance j) s t = apart i.index j.index (n.Component s.0) (n.Instance t.0) s.1 t.1 (λ e. cc)
-  same_here (any.Resource q) (any.Resource r) s t = refl
-  same_here (any.Resource q) (any.Defined j) s t = refl
-  same_here (any.Resource q) (any.Func j) s t = refl
-  same_here (any.Resource q) (any.Instance j) s t = refl
-  same_here (any.Resource q) (any.Component j) s t = refl
-  same_here (any.Defined i) (any.Resource r) s t = refl
-  same_here (any.Defined i) (any.Defined j) s t = refl
-  same_here (any.Func i) (any.Resource r) s t = refl
-  same_here (any.Func i) (any.Func j) s t = refl
-  same_here (any.Instance i) (any.Resource r) s t = refl
-  same_here (any.Instance i) (any.Instance j) s t = refl
-  same_here (any.Component i) (any.Resource r) s t = refl
-  same_here (any.Component i) (any.Component j) s t = refl
-
-  in_set : (c : ComponentAnyTypeId) → Stands a (any_part c) → (ids : List ComponentAnyTypeId) → AllStand a ids → has_type ids c ≡ is_in (identities ids) (identity_of (any_part c))
-  in_set c s [] h = refl
-  in_set c s (y ∷ ids) h =
-      let e = same_here c y s (All-head (λ z. Stands a (any_part z)) y ids h) in
-      let e' = in_set c s ids (All-tail (λ z. Stands a (any_part z)) y ids h) in
-      λ j. e j || e' j
 
 -- ## Sets that are among identities
 
@@ -141,9 +84,6 @@ with_type_among ids xs c = go (has_type xs c) refl
 
 -- ## What is needed
 
-abbrev Test : Type 0
-Test = List Identity → Bool
-
 module _ (a : Arena) where
   pub needs_nothing : (f : List Identity → Bool) (xs : List ComponentAnyTypeId) → AllStand a xs → ((ids : List Identity) → f ids ≡ true) → Needs a f xs xs
   needs_nothing f xs h t = record {
@@ -161,31 +101,33 @@ module _ (a : Arena) where
   needs_push c old h s = record { stand = with_type_stands a old c h s; same = λ ids. with_type_among ids old c }
 
   module _ (c : ComponentAnyTypeId) (cr : List ComponentAnyTypeId) (old : List ComponentAnyTypeId) (s : Stands a (any_part c)) (made : AllStand a cr) (h : AllStand a old) where
-    pub created_already : has_type cr c ≡ true → Needs a (λ ids. is_in (ids ++ identities cr) (identity_of (any_part c))) old old
-    created_already e = needs_nothing (λ ids. is_in (ids ++ identities cr) (of c)) old h
-        (λ ids. is_in-append ids (identities cr) (of c) ∙ ap (λ (b : Bool). is_in ids (of c) || b) (sym (in_set a c s cr made) ∙ e) ∙ or_true (is_in ids (of c)))
+    pub beyond_needs : (new : List ComponentAnyTypeId) → new ≡ with_beyond cr old c → Needs a (λ ids. is_in (ids ++ identities cr) (identity_of (any_part c))) old new
+    beyond_needs new is = subst (λ (xs : List ComponentAnyTypeId). Needs a (λ ids. is_in (ids ++ identities cr) (of c)) old xs) (sym is) (go (has_type cr c) refl)
+      where
+        held : (ids : List Identity) → is_in (ids ++ identities cr) (of c) ≡ (is_in ids (of c) || has_type cr c)
+        held ids = is_in-append ids (identities cr) (of c) ∙ ap (λ (b : Bool). is_in ids (of c) || b) (sym (in_set a c s cr made))
 
-    pub not_created : (new : List ComponentAnyTypeId) → has_type cr c ≡ false → new ≡ with_type old c → Needs a (λ ids. is_in (ids ++ identities cr) (identity_of (any_part c))) old new
-    not_created new e is =
-        needs_as (λ ids. is_in ids (of c)) (λ ids. is_in (ids ++ identities cr) (of c)) old new
-        (λ ids. sym (is_in-append ids (identities cr) (of c) ∙ ap (λ (b : Bool). is_in ids (of c) || b) (sym (in_set a c s cr made) ∙ e) ∙ or_false (is_in ids (of c))))
-        (subst (λ (xs : List ComponentAnyTypeId). Needs a (λ ids. is_in ids (of c)) old xs) (sym is) (needs_push c old h s))
+        go : (b : Bool) → has_type cr c ≡ b → Needs a (λ ids. is_in (ids ++ identities cr) (of c)) old (cond b old (with_type old c))
+        go true e = needs_nothing (λ ids. is_in (ids ++ identities cr) (of c)) old h
+            (λ ids. held ids ∙ ap (λ (b : Bool). is_in ids (of c) || b) e ∙ or_true (is_in ids (of c)))
+        go false e =
+            needs_as (λ ids. is_in ids (of c)) (λ ids. is_in (ids ++ identities cr) (of c)) old (with_type old c)
+            (λ ids. sym (held ids ∙ ap (λ (b : Bool). is_in ids (of c) || b) e ∙ or_false (is_in ids (of c)))) (needs_push c old h s)
 
-    module _ (set : List ComponentAnyTypeId) (named : AllStand a set) where
-      in_three : (ids : List Identity) → is_in (beside ids cr set) (of c) ≡ (is_in (ids ++ identities cr) (of c) || has_type set c)
-      in_three ids =
-          ap (λ (xs : List Identity). is_in xs (of c)) (sym (append_assoc ids (identities cr) (identities set))) ∙ is_in-append (ids ++ identities cr) (identities set) (of c) ∙
-          ap (λ (b : Bool). is_in (ids ++ identities cr) (of c) || b) (sym (in_set a c s set named))
+    pub unnamed_needs : (set new : List ComponentAnyTypeId) → AllStand a set → new ≡ cond (has_type set c) old (with_beyond cr old c) → Needs a (λ ids. is_in (beside ids cr set) (identity_of (any_part c))) old new
+    unnamed_needs set new named is = subst (λ (xs : List ComponentAnyTypeId). Needs a (λ ids. is_in (beside ids cr set) (of c)) old xs) (sym is) (go (has_type set c) refl)
+      where
+        held : (ids : List Identity) → is_in (beside ids cr set) (of c) ≡ (is_in (ids ++ identities cr) (of c) || has_type set c)
+        held ids =
+            ap (λ (xs : List Identity). is_in xs (of c)) (sym (append_assoc ids (identities cr) (identities set))) ∙ is_in-append (ids ++ identities cr) (identities set) (of c) ∙
+            ap (λ (b : Bool). is_in (ids ++ identities cr) (of c) || b) (sym (in_set a c s set named))
 
-      pub named_already : has_type set c ≡ true → Needs a (λ ids. is_in (beside ids cr set) (identity_of (any_part c))) old old
-      named_already e = needs_nothing (λ ids. is_in (beside ids cr set) (of c)) old h
-          (λ ids. in_three ids ∙ ap (λ (b : Bool). is_in (ids ++ identities cr) (of c) || b) e ∙ or_true (is_in (ids ++ identities cr) (of c)))
-
-      pub not_named : (new : List ComponentAnyTypeId) → has_type set c ≡ false → Needs a (λ ids. is_in (ids ++ identities cr) (identity_of (any_part c))) old new →
-          Needs a (λ ids. is_in (beside ids cr set) (identity_of (any_part c))) old new
-      not_named new e w =
-          needs_as (λ ids. is_in (ids ++ identities cr) (of c)) (λ ids. is_in (beside ids cr set) (of c)) old new
-          (λ ids. sym (in_three ids ∙ ap (λ (b : Bool). is_in (ids ++ identities cr) (of c) || b) e ∙ or_false (is_in (ids ++ identities cr) (of c)))) w
+        go : (b : Bool) → has_type set c ≡ b → Needs a (λ ids. is_in (beside ids cr set) (of c)) old (cond b old (with_beyond cr old c))
+        go true e = needs_nothing (λ ids. is_in (beside ids cr set) (of c)) old h
+            (λ ids. held ids ∙ ap (λ (b : Bool). is_in (ids ++ identities cr) (of c) || b) e ∙ or_true (is_in (ids ++ identities cr) (of c)))
+        go false e =
+            needs_as (λ ids. is_in (ids ++ identities cr) (of c)) (λ ids. is_in (beside ids cr set) (of c)) old (with_beyond cr old c)
+            (λ ids. sym (held ids ∙ ap (λ (b : Bool). is_in (ids ++ identities cr) (of c) || b) e ∙ or_false (is_in (ids ++ identities cr) (of c)))) (beyond_needs (with_beyond cr old c) refl)
 
   -- ## One after another
 
@@ -238,25 +180,13 @@ module _ (a : Arena) where
     abbrev Known : ℕ × List ComponentAnyTypeId → Type 0
     Known k = Needs a (λ ids. passes (ids ++ identities set) (tree_in (trees a.nodes) k.0)) [] k.1
 
-    pub none_known : (ks : List (ℕ × List ComponentAnyTypeId)) → ks ≡ [] → AllNeeded a set ks
-    none_known ks e = subst (AllNeeded a set) (sym e) (All-nil Known)
-
     pub known_needs : (ks : List (ℕ × List ComponentAnyTypeId)) (k : ℕ) (xs : List ComponentAnyTypeId) → AllNeeded a set ks → lookup (eqb k) ks ≡ Some xs →
         Needs a (λ ids. passes (ids ++ identities set) (tree_in (trees a.nodes) k)) [] xs
-    known_needs [] k xs h e = cc
-    known_needs (x ∷ ks) k xs h e = go (eqb k x.0) refl e (λ f. known_needs ks k xs (All-tail Known x ks h) f)
-      where
-        go : (b : Bool) → eqb k x.0 ≡ b → cond b (Some x.1) (lookup (eqb k) ks) ≡ Some xs → (lookup (eqb k) ks ≡ Some xs → Known (k, xs)) → Known (k, xs)
-        go true i w f = subst Known (λ j. (sym (eqb-true k x.0 i) j, same_Some _ _ w j)) (All-head Known x ks h)
-        go false i w f = f w
+    known_needs ks k xs h e = placed_found Known ks k xs h e
 
     pub known_put : (ks : List (ℕ × List ComponentAnyTypeId)) (k : ℕ) (xs : List ComponentAnyTypeId) → AllNeeded a set ks → Needs a (λ ids. passes (ids ++ identities set) (tree_in (trees a.nodes) k)) [] xs →
-        AllNeeded a set (with_needed ks k xs)
-    known_put ks k xs h g = go (is_some (lookup (eqb k) ks))
-      where
-        go : (b : Bool) → AllNeeded a set (cond b ks (ks ++ (k, xs) ∷ []))
-        go true = h
-        go false = All-push Known ks (k, xs) h g
+        AllNeeded a set (with_set ks k xs)
+    known_put ks k xs h g = placed_put Known ks k xs h g
 
     -- what a type needs, but for what was created
     pub needs_more : (t : Type_tree) (cr more old new : List ComponentAnyTypeId) → Needs a (λ ids. passes (ids ++ identities set) t) [] more → Needs a (λ ids. are_in (ids ++ identities cr) (identities more)) old new →
@@ -324,10 +254,13 @@ module _ (a : Arena) where
         none_left (passing_from [] 0) (passing_from cr k) [] needed g.left
         (λ ids. ap (λ ds. all_pass (beside ids cr set) (slot_parts (trees a.nodes) (entry_slots export ds))) (drop_of_length-le es h))
 
--- no more has to be named where nothing is needed
-pub nothing_needed : (xs : List ComponentAnyTypeId) → eqb (length xs) 0 ≡ are_in [] (identities xs)
+nothing_needed : (xs : List ComponentAnyTypeId) → eqb (length xs) 0 ≡ are_in [] (identities xs)
 nothing_needed [] = refl
 nothing_needed (x ∷ xs) = eqb-suc-zero (length xs)
+
+-- a type passes where it needs nothing
+pub passes_where_none : (a : Arena) (t : Type_tree) (set cr old new : List ComponentAnyTypeId) → cr ≡ [] → old ≡ [] → Needs a (λ ids. passes (beside ids cr set) t) old new → eqb (length new) 0 ≡ passes (identities set) t
+passes_where_none a t set cr old new c o w = nothing_needed new ∙ w.same [] ∙ (λ j. are_in [] (identities (o j)) && passes (beside [] (c j) set) t)
 
 -- an instance type needs what its exports need
 pub instance_needs : (a : Arena) (set : List ComponentAnyTypeId) (id : ComponentInstanceTypeId) (s : ComponentInstanceType) (es : List (Text × ComponentItem)) (more : List ComponentAnyTypeId) → tree_at a (p.Instance id) ≡ unfolded a id.index (n.Instance s) → es ≡ s.exports →

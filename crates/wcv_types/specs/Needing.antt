@@ -1,10 +1,9 @@
 -- What types need to be named beside a set.
-use Rattle.std.specs.Prelude.{ℕ, List, [], ◌∷◌, ◌++◌, Bool, true, cond, eqb, ◌&&◌, ◌≡◌, All, is_some}
-use Rattle.std.specs.Map.{lookup}
+use Rattle.std.specs.Prelude.{ℕ, List, [], ◌∷◌, ◌++◌, Bool, true, cond, ◌&&◌, ◌≡◌, All}
 use Rattle.wcv_types.specs.Arena.{Arena}
 use Rattle.wcv_types.specs.Identity.{Identity}
 use Rattle.wcv_types.specs.Named.{is_in, passes}
-use Rattle.wcv_types.specs.Sets.{AllStand, identities}
+use Rattle.wcv_types.specs.Sets.{has_type, with_type, AllStand, identities}
 use Rattle.wcv_types.specs.Unfold.{trees, tree_in}
 use Rattle.wcv_types.specs.declared.ids.ComponentAnyTypeId.{ComponentAnyTypeId}
 
@@ -17,6 +16,10 @@ are_in ids (i ∷ is) = is_in ids i && are_in ids is
 abbrev pub beside : List Identity → List ComponentAnyTypeId → List ComponentAnyTypeId → List Identity
 beside ids created set = ids ++ (identities created ++ identities set)
 
+-- the set with that type, unless it was created
+abbrev pub with_beyond : List ComponentAnyTypeId → List ComponentAnyTypeId → ComponentAnyTypeId → List ComponentAnyTypeId
+with_beyond created needed id = cond (has_type created id) needed (with_type needed id)
+
 -- any identities have all of the new set where they have all of the old one and meet the test
 pub record Needs (a : Arena) (test : List Identity → Bool) (old new : List ComponentAnyTypeId) : Type 0 where
   pub stand : AllStand a new
@@ -25,7 +28,3 @@ pub record Needs (a : Arena) (test : List Identity → Bool) (old new : List Com
 -- these are the sets of what the nodes at these places need to pass, beside a set
 abbrev pub AllNeeded : Arena → List ComponentAnyTypeId → List (ℕ × List ComponentAnyTypeId) → Type 0
 AllNeeded a set ks = All (λ k. Needs a (λ ids. passes (ids ++ identities set) (tree_in (trees a.nodes) k.0)) [] k.1) ks
-
--- the sets with one more, which the place may have already
-abbrev pub with_needed : List (ℕ × List ComponentAnyTypeId) → ℕ → List ComponentAnyTypeId → List (ℕ × List ComponentAnyTypeId)
-with_needed ks k ids = cond (is_some (lookup (eqb k) ks)) ks (ks ++ (k, ids) ∷ [])

@@ -1,7 +1,7 @@
 // What instance types need beside a set, once it was gathered.
 ghost use Rattle.std.specs.Prelude.{◌≡◌, [], eqb, option_copied, OnOk, OnErr};
 ghost use Rattle.std.specs.Map.{lookup};
-ghost use Rattle.wcv_types.specs.Needing.{with_needed};
+ghost use Rattle.wcv_types.specs.Sets.{with_set};
 
 use crate::type_set::TypeSet;
 use std::alloc::Global;
@@ -42,7 +42,7 @@ impl NeededSets {
 
     /// One more set, unless the place has one.
     pub fn put(&mut self, place: u64, set: TypeSet) -> Result<(), OutOfMemory>
-        ensures ok { OnOk result (self.new ≡ with_needed self.old place set) }
+        ensures ok { OnOk result (self.new ≡ with_set self.old place set) }
         ensures err { OnErr result (self.new ≡ self.old) }
     {
         if self.get(place).is_some() {

@@ -1,10 +1,10 @@
 // What the types of functions and of values need to be named.
-ghost use Rattle.std.specs.Prelude.{◌≡◌, ◌++◌, All, OnOk};
-ghost use Rattle.wcv_types.specs.Entities.{any_part, SlotStands};
-ghost use Rattle.wcv_types.specs.Named.{is_in, is_named, are_named};
-ghost use Rattle.wcv_types.specs.Needing.{are_in, beside, Needs};
-ghost use Rattle.wcv_types.specs.Sets.{AllStand, identities};
-ghost use Rattle.wcv_types.specs.Standing.{Stands, identity_of};
+ghost use Rattle.std.specs.Prelude.{◌≡◌, ◌++◌, cond, All, OnOk};
+ghost use Rattle.wcv_types.specs.Entities.{SlotStands};
+ghost use Rattle.wcv_types.specs.Named.{is_named, are_named};
+ghost use Rattle.wcv_types.specs.Needing.{are_in, beside, with_beyond, Needs};
+ghost use Rattle.wcv_types.specs.Sets.{has_type, AllStand, identities};
+ghost use Rattle.wcv_types.specs.Standing.{Stands};
 ghost use Rattle.wcv_types.specs.Unfold.{option_slot, parts_of, slots_of, slot_parts, slot_tree, trees};
 ghost use Rattle.wcv_types.specs.declared.arena.Node.TheVariants as n;
 
@@ -16,17 +16,12 @@ use wcv_core::OutOfMemory;
 
 /// A type joins what is needed, unless it was created.
 fn need_beyond(
-    types: &TypeAlloc,
     id: ComponentAnyTypeId,
     created: &TypeSet,
     needed: &mut TypeSet,
 ) -> Result<(), OutOfMemory>
-    requires id { Stands types.now (any_part id) }
-    requires created { AllStand types.now created.now }
-    requires needed { AllStand types.now needed.old }
-    ensures { OnOk result (Needs types.now (λ ids. is_in (ids ++ identities created.now) (identity_of (any_part id))) needed.old needed.new) }
+    ensures { OnOk result (needed.new ≡ with_beyond created.now needed.old id) }
 {
-    let _ = types;
     if created.contains(&id) {
         return Ok(());
     }
@@ -35,22 +30,17 @@ fn need_beyond(
 
 /// A type joins what is needed, unless it is named or was created.
 fn need(
-    types: &TypeAlloc,
     id: ComponentAnyTypeId,
     set: &TypeSet,
     created: &TypeSet,
     needed: &mut TypeSet,
 ) -> Result<(), OutOfMemory>
-    requires id { Stands types.now (any_part id) }
-    requires set { AllStand types.now set.now }
-    requires created { AllStand types.now created.now }
-    requires needed { AllStand types.now needed.old }
-    ensures { OnOk result (Needs types.now (λ ids. is_in (beside ids created.now set.now) (identity_of (any_part id))) needed.old needed.new) }
+    ensures { OnOk result (needed.new ≡ cond (has_type set.now id) needed.old (with_beyond created.now needed.old id)) }
 {
     if set.contains(&id) {
         return Ok(());
     }
-    need_beyond(types, id, created, needed)
+    need_beyond(id, created, needed)
 }
 
 /// All of a set join what is needed, but for what was created.
@@ -65,9 +55,10 @@ pub fn need_all(
     requires needed { AllStand types.now needed.old }
     ensures { OnOk result (Needs types.now (λ ids. are_in (ids ++ identities created.now) (identities more.now)) needed.old needed.new) }
 {
+    let _ = types;
     for k in 0..more.len() {
         match more.get_index(k) {
-            Some(id) => need_beyond(types, *id, created, needed)?,
+            Some(id) => need_beyond(*id, created, needed)?,
             None => unreachable!(),
         }
     }
@@ -76,7 +67,7 @@ pub fn need_all(
 
 /// What a value type needs, which may be left out.
 #[cycle(needing_values)]
-pub fn need_value(
+fn need_value(
     types: &TypeAlloc,
     ty: Option<ComponentValType>,
     set: &TypeSet,
@@ -95,7 +86,7 @@ pub fn need_value(
     };
     let shape = types.get(id);
     if shape.names_itself() {
-        return need(types, ComponentAnyTypeId::Defined(id), set, created, needed);
+        return need(ComponentAnyTypeId::Defined(id), set, created, needed);
     }
     need_defined(types, shape, set, created, needed)
 }
@@ -116,13 +107,7 @@ pub fn need_defined(
     ensures { OnOk result (Needs types.now (λ ids. are_named (beside ids created.now set.now) (slot_parts (trees types.now.nodes) (slots_of (n.Defined shape.now)))) needed.old needed.new) }
 {
     if let Some(handle) = shape.handle() {
-        return need(
-            types,
-            ComponentAnyTypeId::Resource(handle),
-            set,
-            created,
-            needed,
-        );
+        return need(ComponentAnyTypeId::Resource(handle), set, created, needed);
     }
     for k in 0..shape.value_count() {
         need_value(types, shape.value_at(k), set, created, needed)?;

@@ -1,9 +1,9 @@
-use Rattle.std.proofs.Common.{rules, arith, ◌≡◌, List, sym, ◌∙◌, ap, subst}
+use Rattle.std.proofs.Common.{rules, arith, sym, ◌∙◌, ap, subst}
+use Rattle.std.specs.Prelude.{option_copied}
 use Rattle.std.proofs.lemmas.Result.{on_ok_weaker}
 use Rattle.wcv_types.specs.Entities.{any_part, entity_tree, EntityStands}
 use Rattle.wcv_types.specs.Named.{are_named, passes}
-use Rattle.wcv_types.specs.Needing.{beside, Needs, AllNeeded}
-use Rattle.wcv_types.specs.Sets.{AllStand}
+use Rattle.wcv_types.specs.Needing.{beside, AllNeeded}
 use Rattle.wcv_types.specs.Standing.{Stands}
 use Rattle.wcv_types.specs.Tree.{export}
 use Rattle.wcv_types.specs.Unfold.{slot_parts, slots_of, tree_at, trees}
@@ -13,7 +13,7 @@ use Rattle.wcv_types.specs.declared.ids.Part.TheVariants as part
 use Rattle.wcv_types.specs.declared.shapes.ComponentEntityType.{ComponentEntityType}
 use Rattle.wcv_types.proofs.FreeBelow.{entry_rank, entries_ready}
 use Rattle.wcv_types.proofs.NamedExports.{module_passes, component_passes}
-use Rattle.wcv_types.proofs.Needing.{needs_nothing, needs_as, needs_more, known_put, none_gone, one_gone, all_gone, instance_needs}
+use Rattle.wcv_types.proofs.Needing.{needs_nothing, needs_as, needs_more, known_needs, known_put, none_gone, one_gone, all_gone, instance_needs}
 use Rattle.wcv_types.proofs.named_contents.+needing.Goals as goal
 
 -- ## What is exported
@@ -55,25 +55,32 @@ needs_of_exports-returns-clause-needed t c =
 
 -- ## An instance type
 
+pub need_instance-need_all-requires-clause-more : goal.need_instance-need_all-requires-clause-more
+need_instance-need_all-requires-clause-more t c =
+    let w = known_needs c.args.types.now c.args.set.now c.args.known.now c.args.id.index c.in-Some.more.now c.requires.known (sym c.get.ensures ∙ ap option_copied c.in-Some.is) in
+    w.stand
+
+pub need_instance-returns-in-Some-clause-needed : goal.need_instance-returns-in-Some-clause-needed
+need_instance-returns-in-Some-clause-needed t c =
+    on_ok_weaker c.need_all.result
+    (needs_more c.args.types.now c.args.set.now (tree_at c.args.types.now (part.Instance c.args.id)) c.args.created.now c.in-Some.more.now c.args.needed.now c.need_all.new.needed
+    (known_needs c.args.types.now c.args.set.now c.args.known.now c.args.id.index c.in-Some.more.now c.requires.known (sym c.get.ensures ∙ ap option_copied c.in-Some.is)))
+    c.need_all.ensures
+
 pub need_instance-needs_of_exports-requires : goal.need_instance-needs_of_exports-requires
 need_instance-needs_of_exports-requires t c =
-    let w = entries_ready c.args.types.now c.args.id.index export c.get.result.now.exports c.as_slice.result.now c.as_slice.ensures c.get.ensures.before in
+    let w = entries_ready c.args.types.now c.args.id.index export c.get-2.result.now.exports c.as_slice.result.now c.as_slice.ensures c.get-2.ensures.before in
     (omega (arith, w.0, c.decreases), (w.1, (c.requires.set, c.requires.known)))
 
-pub need_instance-need_all-requires-clause-more : goal.need_instance-need_all-requires-clause-more
-need_instance-need_all-requires-clause-more t c = c.in_ok-more.ensures.needed.stand
-
-pub need_instance-need_all-requires-clause-needed : goal.need_instance-need_all-requires-clause-needed
-need_instance-need_all-requires-clause-needed t c = subst (AllStand c.args.types.now) (sym (c.in_ok-need_known.ensures.unknown c.if-branch.false)) c.requires.needed
+pub need_instance-need_all-requires-2-clause-more : goal.need_instance-need_all-requires-2-clause-more
+need_instance-need_all-requires-2-clause-more t c = c.in_ok-more.ensures.needed.stand
 
 pub need_instance-returns-clause-needed : goal.need_instance-returns-clause-needed
 need_instance-returns-clause-needed t c =
     on_ok_weaker c.put.result
-    (λ w. subst (λ (xs : List ComponentAnyTypeId). Needs c.args.types.now (λ ids. passes (beside ids c.args.created.now c.args.set.now) (tree_at c.args.types.now (part.Instance c.args.id))) xs c.need_all.new.needed)
-    (c.in_ok-need_known.ensures.unknown c.if-branch.false)
-    (needs_more c.args.types.now c.args.set.now (tree_at c.args.types.now (part.Instance c.args.id)) c.args.created.now c.in_ok-more.more c.need_known.new.needed c.need_all.new.needed
-    (instance_needs c.args.types.now c.args.set.now c.args.id c.get.result.now c.as_slice.result.now c.in_ok-more.more c.get.ensures.unfolds c.as_slice.ensures c.in_ok-more.ensures.needed)
-    c.in_ok-need_all.ensures))
+    (λ w. needs_more c.args.types.now c.args.set.now (tree_at c.args.types.now (part.Instance c.args.id)) c.args.created.now c.in_ok-more.more c.args.needed.now c.need_all-2.new.needed
+    (instance_needs c.args.types.now c.args.set.now c.args.id c.get-2.result.now c.as_slice.result.now c.in_ok-more.more c.get-2.ensures.unfolds c.as_slice.ensures c.in_ok-more.ensures.needed)
+    c.in_ok-need_all.ensures)
     c.put.ensures.ok
 
 pub need_instance-returns-clause-known : goal.need_instance-returns-clause-known
@@ -81,7 +88,7 @@ need_instance-returns-clause-known t c =
     on_ok_weaker c.put.result
     (λ w. subst (AllNeeded c.args.types.now c.args.set.now) (sym w)
     (known_put c.args.types.now c.args.set.now c.needs_of_exports.new.known c.args.id.index c.in_ok-more.more c.in_ok-more.ensures.known
-    (instance_needs c.args.types.now c.args.set.now c.args.id c.get.result.now c.as_slice.result.now c.in_ok-more.more c.get.ensures.unfolds c.as_slice.ensures c.in_ok-more.ensures.needed)))
+    (instance_needs c.args.types.now c.args.set.now c.args.id c.get-2.result.now c.as_slice.result.now c.in_ok-more.more c.get-2.ensures.unfolds c.as_slice.ensures c.in_ok-more.ensures.needed)))
     c.put.ensures.ok
 
 -- ## Types
@@ -100,9 +107,9 @@ need_type-returns-in-Resource-clause-needed t c =
 pub need_type-returns-in-Defined-clause-needed : goal.need_type-returns-in-Defined-clause-needed
 need_type-returns-in-Defined-clause-needed t c =
     on_ok_weaker c.need_defined.result
-    (needs_as c.args.types.now (λ ids. are_named (beside ids c.args.created.now c.args.set.now) (slot_parts (trees c.args.types.now.nodes) (slots_of (n.Defined c.get-in-Defined.result.now))))
+    (needs_as c.args.types.now (λ ids. are_named (beside ids c.args.created.now c.args.set.now) (slot_parts (trees c.args.types.now.nodes) (slots_of (n.Defined c.get.result.now))))
     (λ ids. passes (beside ids c.args.created.now c.args.set.now) (tree_at c.args.types.now (any_part c.args.id))) c.args.needed.now c.need_defined.new.needed
-    (λ ids. sym (ap (λ (id : ComponentAnyTypeId). passes (beside ids c.args.created.now c.args.set.now) (tree_at c.args.types.now (any_part id))) c.in-Defined.is ∙ ap (passes (beside ids c.args.created.now c.args.set.now)) c.get-in-Defined.ensures.unfolds)))
+    (λ ids. sym (ap (λ (id : ComponentAnyTypeId). passes (beside ids c.args.created.now c.args.set.now) (tree_at c.args.types.now (any_part id))) c.in-Defined.is ∙ ap (passes (beside ids c.args.created.now c.args.set.now)) c.get.ensures.unfolds)))
     c.need_defined.ensures
 
 pub need_type-returns-in-Func-clause-needed : goal.need_type-returns-in-Func-clause-needed

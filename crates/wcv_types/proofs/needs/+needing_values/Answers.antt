@@ -1,18 +1,19 @@
-use Rattle.std.proofs.Common.{◌≡◌, ◌+◌, sym, ◌∙◌, ap, Some, None, arith, refl}
+use Rattle.std.proofs.Common.{◌≡◌, ◌+◌, sym, ◌∙◌, ap, Some, None, arith, refl, subst}
 use Rattle.std.proofs.lemmas.Result.{on_ok_weaker}
 use Rattle.wcv_types.specs.Named.{is_in, is_named, are_named}
 use Rattle.wcv_types.specs.NamedBySet.{handle_of}
 use Rattle.wcv_types.specs.Needing.{beside}
-use Rattle.wcv_types.specs.Standing.{identity_of}
+use Rattle.wcv_types.specs.Entities.{SlotStands}
+use Rattle.wcv_types.specs.Standing.{Stands, identity_of}
 use Rattle.wcv_types.specs.Unfold.{option_slot, parts_of, slot_parts, slot_tree, slots_of, trees}
 use Rattle.wcv_types.specs.declared.arena.Node.TheVariants as n
+use Rattle.wcv_types.specs.declared.ids.ComponentAnyTypeId.TheVariants as any
 use Rattle.wcv_types.specs.declared.ids.Part.TheVariants as p
 use Rattle.wcv_types.specs.declared.shapes.ComponentValType.TheVariants as v
 use Rattle.wcv_types.proofs.Gathered.{parts_ready}
-use Rattle.wcv_types.proofs.NamedBySet.{value_rank, named_from, named_next, named_all, is_node}
-use Rattle.wcv_types.proofs.NamedContents.{made_of_values, handle_named, value_stands}
-use Rattle.wcv_types.proofs.Needing.{needs_as, all_left_to_do, one_done, none_left}
-use Rattle.wcv_types.proofs.NeedingValues.{value_itself, value_made, handle_stands, value_within}
+use Rattle.wcv_types.proofs.NamedBySet.{value_rank, named_from, named_next, named_all, handle_all, is_node}
+use Rattle.wcv_types.proofs.Needing.{unnamed_needs, needs_as, all_left_to_do, one_done, none_left}
+use Rattle.wcv_types.proofs.NeedingValues.{made_of_values, handle_named, value_stands, value_itself, value_made, value_within}
 use Rattle.wcv_types.proofs.needs.+needing_values.Goals as goal
 
 -- ## A value type
@@ -20,10 +21,12 @@ use Rattle.wcv_types.proofs.needs.+needing_values.Goals as goal
 pub need_value-returns-then-names_itself : goal.need_value-returns-then-names_itself
 need_value-returns-then-names_itself t c =
     let is : c.args.ty ≡ Some (v.Ty c.in-Some.id) = is_node c.args.ty c.in-Some.id (sym c.node_of.ensures ∙ c.in-Some.is) in
+    let stands : Stands c.args.types.now (p.Defined c.in-Some.id) = subst (λ ty. SlotStands c.args.types.now (option_slot ty)) is c.requires.value in
     on_ok_weaker c.need.result
-    (needs_as c.args.types.now (λ ids. is_in (beside ids c.args.created.now c.args.set.now) (identity_of (p.Defined c.in-Some.id)))
+    (λ w. needs_as c.args.types.now (λ ids. is_in (beside ids c.args.created.now c.args.set.now) (identity_of (p.Defined c.in-Some.id)))
     (λ ids. is_named (beside ids c.args.created.now c.args.set.now) (slot_tree (trees c.args.types.now.nodes) (option_slot c.args.ty))) c.args.needed.now c.need.new.needed
-    (λ ids. value_itself c.args.types.now c.args.ty c.in-Some.id c.get-shape.result.now is c.get-shape.ensures.unfolds (sym c.names_itself.ensures ∙ c.if-names_itself.true) (beside ids c.args.created.now c.args.set.now)))
+    (λ ids. value_itself c.args.types.now c.args.ty c.in-Some.id c.get-shape.result.now is c.get-shape.ensures.unfolds (sym c.names_itself.ensures ∙ c.if-names_itself.true) (beside ids c.args.created.now c.args.set.now))
+    (unnamed_needs c.args.types.now (any.Defined c.in-Some.id) c.args.created.now c.args.needed.now stands c.requires.created c.requires.needed c.args.set.now c.need.new.needed c.requires.set w))
     c.need.ensures
 
 pub need_value-need_defined-requires : goal.need_value-need_defined-requires
@@ -43,15 +46,15 @@ need_value-returns t c =
 
 -- ## A defined type
 
-pub need_defined-need-requires-clause-id : goal.need_defined-need-requires-clause-id
-need_defined-need-requires-clause-id t c = handle_stands c.args.types.now c.args.shape.now c.in-Some.handle c.requires.stands (sym c.handle.ensures ∙ c.in-Some.is)
-
 pub need_defined-returns-in-Some : goal.need_defined-returns-in-Some
 need_defined-returns-in-Some t c =
+    let of : handle_of c.args.shape.now ≡ Some c.in-Some.handle = sym c.handle.ensures ∙ c.in-Some.is in
+    let stands = handle_all (Stands c.args.types.now) c.args.shape.now c.in-Some.handle c.requires.stands of in
     on_ok_weaker c.need.result
-    (needs_as c.args.types.now (λ ids. is_in (beside ids c.args.created.now c.args.set.now) (identity_of (p.Resource c.in-Some.handle)))
+    (λ w. needs_as c.args.types.now (λ ids. is_in (beside ids c.args.created.now c.args.set.now) (identity_of (p.Resource c.in-Some.handle)))
     (λ ids. are_named (beside ids c.args.created.now c.args.set.now) (slot_parts (trees c.args.types.now.nodes) (slots_of (n.Defined c.args.shape.now)))) c.args.needed.now c.need.new.needed
-    (λ ids. handle_named (beside ids c.args.created.now c.args.set.now) (trees c.args.types.now.nodes) c.args.shape.now c.in-Some.handle (sym c.handle.ensures ∙ c.in-Some.is)))
+    (λ ids. handle_named (beside ids c.args.created.now c.args.set.now) (trees c.args.types.now.nodes) c.args.shape.now c.in-Some.handle of)
+    (unnamed_needs c.args.types.now (any.Resource c.in-Some.handle) c.args.created.now c.args.needed.now stands c.requires.created c.requires.needed c.args.set.now c.need.new.needed c.requires.set w))
     c.need.ensures
 
 pub need_defined-loop-k-init : goal.need_defined-loop-k-init
