@@ -1,6 +1,7 @@
 // States of declared types, which stand on top of the others while their declarations are read.
 ghost use Rattle.std.specs.Prelude.{◌≡◌, ◌+◌, ◌++◌, OnOk, OnErr, IfErr};
-ghost use Rattle.wcv_lower.specs.Checks.{IsFree, no_type_room, too_many, max_open};
+ghost use Rattle.wcv_core.specs.Limits.{max_open};
+ghost use Rattle.wcv_lower.specs.Checks.{IsFree, no_type_room, too_many};
 ghost use Rattle.wcv_lower.specs.Context.{counts};
 ghost use Rattle.wcv_lower.specs.Declared.{full_stack};
 ghost use Rattle.wcv_state.specs.Contents.{kind_of};
@@ -9,12 +10,10 @@ ghost use Rattle.wcv_decls.specs.Declaring.{stack_in, top_in, AreReady, Opened};
 
 use crate::core_type::innermost;
 use crate::room::check_types;
+use wcv_core::limits::MAX_OPEN;
 use wcv_core::{Error, ErrorKind, OutOfMemory, Refusal, Why};
 use wcv_state::{ComponentKind, ComponentState};
 use wcv_types::TypeAlloc;
-
-/// How many components and declared types may be open.
-const MAX_OPEN: usize = 100;
 
 /// Whether one more may be open.
 fn check_open(count: usize, offset: u64) -> Result<(), Refusal<'static>>

@@ -1,7 +1,6 @@
 -- How a root is read, whose state alone is open.
 use Rattle.std.proofs.Common.{◌≡◌, ℕ, suc, List, [], ◌∷◌, ◌++◌, refl, sym, ◌∙◌, ap, subst, arith, slice_set, slice_index_or, All}
-use Rattle.std.specs.Prelude.{IfOk, OnOk, Ok, Err}
-use Rattle.core.specs.declared.result.Result.{Result}
+use Rattle.std.specs.Prelude.{Result, IfOk, OnOk, Ok, Err}
 use Rattle.std.proofs.lemmas.List.Elements.{All-nil, All-cons, All-head}
 use Rattle.wcv_core.specs.Names.{Place, deeper}
 use Rattle.wcv_core.specs.declared.error.Error.{Error}
@@ -12,13 +11,13 @@ use Rattle.wcv_types.specs.declared.component_type.ComponentType.{ComponentType}
 use Rattle.wcv_lower.specs.Context.{concrete}
 use Rattle.wcv_lower.specs.Ending.{end_checks}
 use Rattle.wcv_lower.specs.Owned.{IsCalm}
-use Rattle.wcv_lower.specs.Trees.{Tree_context}
 use Rattle.wcv_lower.proofs.Calm.{calm_start}
 use Rattle.wcv_state.specs.Contents.{Contents, context_of, empty_state, finished, StateStands}
 use Rattle.wcv_state.specs.Promises.{numbers_of, RefusesBy, Finished}
 use Rattle.wcv_state.specs.declared.kind.ComponentKind.TheVariants.{Component}
 use Rattle.wcv_state.proofs.Keeping.{empty_stands}
 use Rattle.wcv_decls.specs.Stack.{IsOpen, contexts_around, stack_on}
+use Rattle.wcv_decls.proofs.InnermostStates.{calm_all}
 use Rattle.wcv_link.specs.Accepts.{AcceptsWith}
 use Rattle.wcv_link.specs.Progress.{IsReady, GrewAt, AcceptsItem, RefusesItem, ValidSoFar, MemoryOrRefused}
 use Rattle.wcv_link.proofs.Leading.{empty_stack, read_none, read_one, refused_one, refused_end, read_all}
@@ -37,9 +36,7 @@ module _ (a : Arena) (features : WasmFeatures) (none : a.core ≡ []) where
   root_ready = record {
     some = omega arith;
     usable = All-cons (IsOpen a) root [] (record { live = refl; stands = empty_stands a Component features }) (All-nil (IsOpen a));
-    calm = λ outer s e.
-        let r = same_end [] outer root s e in
-        subst (λ (t : Contents). IsCalm (numbers_of a) (stack_on a outer t)) r.1 (subst (λ (ss : List Contents). IsCalm (numbers_of a) (stack_on a ss root)) r.0 root_calm);
+    calm = calm_all a (root ∷ []) root_calm;
   }
 
   pub begins : (ss : List Contents) (is : Items) → ss ≡ root ∷ [] → ValidSoFar a ss 0 features is is

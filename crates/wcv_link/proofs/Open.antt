@@ -1,50 +1,33 @@
 -- The states that are open, before and after an item in the innermost of them.
-use Rattle.std.proofs.Common.{◌≡◌, ℕ, zero, suc, ◌<◌, ◌≤◌, ◌-◌, List, [], ◌∷◌, ◌++◌, length, map, refl, sym, ◌∙◌, ap, subst, arith, slice_set, slice_index_or, All, true, false, cond, Some}
-use Rattle.std.specs.Prelude.{Option, slice_get, reverse, take, OnOk, Ok, Err}
-use Rattle.core.specs.declared.result.Result.{Result}
-use Rattle.std.specs.List.{AllZip}
-use Rattle.std.specs.Option.{option_map}
-use Rattle.std.proofs.lemmas.List.{length-append}
-use Rattle.std.proofs.lemmas.List.Elements.{All-append, All-nil, All-cons, All-head, All-tail, All-push}
-use Rattle.wcv_core.specs.Names.{Name, Place, number}
+use Rattle.std.proofs.Common.{◌≡◌, ℕ, ◌<◌, ◌-◌, List, [], ◌∷◌, ◌++◌, length, refl, sym, ◌∙◌, ap, subst, arith, slice_set, slice_index_or, true, false, cond}
+use Rattle.wcv_core.specs.Names.{Place}
 use Rattle.wcv_core.specs.Refusal.{error_kind, error_offset}
-use Rattle.wcv_core.specs.declared.features.WasmFeatures.{WasmFeatures}
-use Rattle.wcv_core.specs.declared.core_types.ValType.{ValType}
 use Rattle.wcv_core.specs.declared.error.Error.{Error}
 use Rattle.wcv_syntax.specs.Built.{is_built_type}
 use Rattle.wcv_syntax.specs.Model.{Form, Core_type_form, core_type_item, Type_form, type_item}
-use Rattle.wcv_syntax.specs.declared.component_type.ComponentTypeRef.{ComponentTypeRef}
-use Rattle.wcv_syntax.specs.declared.component_type.ComponentTypeRef.TheVariants as ref
 use Rattle.wcv_types.specs.Arena.{Arena}
-use Rattle.wcv_types.specs.ComponentTrees.{resource_path, ResourceStands}
-use Rattle.wcv_types.specs.Standing.{Extends}
-use Rattle.wcv_types.specs.Unfold.{tree_at}
 use Rattle.wcv_types.proofs.Grown.{extends_refl}
-use Rattle.wcv_types.specs.declared.ids.ComponentAnyTypeId.TheVariants as any
-use Rattle.wcv_types.specs.declared.ids.ComponentInstanceTypeId.{ComponentInstanceTypeId}
-use Rattle.wcv_types.specs.declared.ids.Part.TheVariants as part
-use Rattle.wcv_types.specs.declared.ids.ResourceId.{ResourceId}
-use Rattle.wcv_lower.specs.Given.{names_of, AtMost, Numbers}
 use Rattle.wcv_lower.specs.Checks.{IsFree}
 use Rattle.wcv_lower.specs.Declared.{declared_left}
+use Rattle.wcv_lower.specs.Given.{names_of}
 use Rattle.wcv_lower.specs.Growth.{left_checks, unbuilt}
 use Rattle.wcv_lower.specs.Names.{Under}
-use Rattle.wcv_lower.specs.Owned.{IsGiven, AllOwn, own_resources, IsCalm}
+use Rattle.wcv_lower.specs.Owned.{IsCalm}
 use Rattle.wcv_lower.specs.Trees.{Tree_context, tree_maker}
-use Rattle.wcv_lower.proofs.Calm.{calm_opens}
 use Rattle.wcv_lower.proofs.CalmGrowth.{calm_grows}
-use Rattle.wcv_state.specs.Contents.{Contents, context_of, stack_of, defined_resource, StateStands}
-use Rattle.wcv_state.specs.Instances.{MayOpen}
+use Rattle.wcv_state.specs.Contents.{Contents, context_of, stack_of}
 use Rattle.wcv_state.specs.Promises.{MemoryOrCausedBy, numbers_of, Keeps}
-use Rattle.wcv_state.proofs.Found.{type_is}
+use Rattle.wcv_decls.specs.Declaring.{innermost, around}
 use Rattle.wcv_decls.specs.Stack.{IsOpen, AreCalm, ChangesLast, stay, contexts_around, stack_on, GrewOn, RefusedOn, DeclaresOn, RefusesOn, KeepsOn}
-use Rattle.wcv_decls.proofs.CoreEntries.{open_split}
-use Rattle.wcv_decls.proofs.Stacks.{LastSet, last_set, around_same, kept_on}
+use Rattle.wcv_decls.proofs.InnermostStates.{innermost_at, indexed, calm_all, open_here, open_around, outer_contexts, stays, last_changed}
+use Rattle.wcv_decls.proofs.Plain.{own_given}
+use Rattle.wcv_decls.proofs.ReadingOn.{grown_numbers, extends_on, innermost_kept}
+use Rattle.wcv_decls.proofs.SimpleDecls as simple
+use Rattle.wcv_decls.proofs.Stacks.{around_same}
 use Rattle.wcv_link.specs.Progress.{IsReady, RefusedAt, TakesItem, TakenOn, AcceptsItem, RefusesItem, LeavesItem, AllMayOpen}
-use Rattle.wcv_link.proofs.Steps.{OneStep, one_step, grew_here, item_refused, type_grew, type_caused, type_left_caused, caused_same_at}
+use Rattle.wcv_link.proofs.Steps.{OneStep, one_step, grew_here, step_refused, type_grew, type_caused, type_left_caused, caused_same_at}
 
--- ## Lists that end alike
-
+-- lists that end alike
 pub same_end : {X : Type 0} (xs ys : List X) (x y : X) → xs ++ x ∷ [] ≡ ys ++ y ∷ [] → (xs ≡ ys) × (x ≡ y)
 same_end [] [] x y e = (refl, cc)
 same_end [] (z ∷ []) x y e = absurd (omega (arith, ap length e))
@@ -57,152 +40,81 @@ same_end (z ∷ xs) (w ∷ ys) x y e =
     let r = same_end xs ys x y t in
     ((λ j. h j ∷ r.0 j), r.1)
 
--- what holds of the last of two lists
-last_zip : {X : Type 0} (R : X → X → Type 0) (xs : List X) (x y : X) → AllZip R (xs ++ x ∷ []) (xs ++ y ∷ []) → R x y
-last_zip R [] x y h = h.0
-last_zip R (z ∷ xs) x y h = last_zip R xs x y h.1
+-- ## The innermost, as it is looked up
 
--- ## Resources that are given
+is_innermost : (ss : List Contents) (k : ℕ) (s : Contents) → 0 < length ss → k ≡ length ss - 1 → s ≡ slice_index_or ss k s → s ≡ innermost ss
+is_innermost ss k s h e i = i ∙ indexed ss k s h e
 
-pub grown_numbers : (a b : Arena) → Extends a b → AtMost (numbers_of a) (numbers_of b)
-grown_numbers a b e = record {
-  resources = e.resources;
-  nodes = subst (λ (n : ℕ). length a.nodes ≤ n) (sym (ap length e.nodes)) (front a.nodes e.more);
-  stamps = e.stamps;
-}
-  where
-    front : {X : Type 0} (xs ys : List X) → length xs ≤ length (xs ++ ys)
-    front [] ys = omega arith
-    front (x ∷ xs) ys = omega (arith, front xs ys)
-
--- what a state imports and defines, its arena gave
-pub own_given : (a : Arena) (s : Contents) → StateStands a s → AllOwn (numbers_of a) (context_of a s)
-own_given a s h =
-    All-append (IsGiven (numbers_of a)) (map (λ r. r.0) (map resource_path s.imported_resources)) (map (λ r. r.0) (map defined_resource s.defined_resources))
-    (paths s.imported_resources h.imported) (reps s.defined_resources h.defined)
-  where
-    paths : (rs : List (ResourceId × List ℕ)) → All (λ (p : ResourceId × List ℕ). ResourceStands a p.0) rs → All (IsGiven (numbers_of a)) (map (λ (r : Name × List ℕ). r.0) (map resource_path rs))
-    paths [] w = All-nil (IsGiven (numbers_of a))
-    paths (r ∷ rs) w =
-        All-cons (IsGiven (numbers_of a)) (number r.0.index) (map (λ (r : Name × List ℕ). r.0) (map resource_path rs))
-        (All-head (λ (p : ResourceId × List ℕ). ResourceStands a p.0) r rs w) (paths rs (All-tail (λ (p : ResourceId × List ℕ). ResourceStands a p.0) r rs w))
-
-    reps : (rs : List (ResourceId × Option ValType)) → All (λ (p : ResourceId × Option ValType). ResourceStands a p.0) rs → All (IsGiven (numbers_of a)) (map (λ (r : Name × Option ValType). r.0) (map defined_resource rs))
-    reps [] w = All-nil (IsGiven (numbers_of a))
-    reps (r ∷ rs) w =
-        All-cons (IsGiven (numbers_of a)) (number r.0.index) (map (λ (r : Name × Option ValType). r.0) (map defined_resource rs))
-        (All-head (λ (p : ResourceId × Option ValType). ResourceStands a p.0) r rs w) (reps rs (All-tail (λ (p : ResourceId × Option ValType). ResourceStands a p.0) r rs w))
-
--- ## Instance types that may be opened
-
-pub may_open : (a : Arena) (ss outer : List Contents) (s : Contents) → IsReady a ss → ss ≡ outer ++ s ∷ [] → AllMayOpen a s
-may_open a ss outer s h e (ref.Instance k) i found =
-    let o = open_split a outer s (subst (All (IsOpen a)) e h.usable) in
-    calm_opens (numbers_of a) (stack_on a outer s) (h.calm outer s e) k (tree_at a (part.Instance i)) (type_is a s o.1.stands k (any.Instance i) found)
-may_open a ss outer s h e (ref.Func k) = tt
-may_open a ss outer s h e (ref.Module k) = tt
-may_open a ss outer s h e (ref.Ty k) = tt
-may_open a ss outer s h e (ref.Value k) = tt
-may_open a ss outer s h e (ref.Component k) = tt
-
--- the innermost, as it is looked up
 module _ (a : Arena) (ss : List Contents) (k : ℕ) (s : Contents) (e : k ≡ length ss - 1) (i : s ≡ slice_index_or ss k s) (h : IsReady a ss) where
-  abbrev here : LastSet ss k s s
-  here = last_set ss k s s e h.some i
-
   pub last_open : IsOpen a s
-  last_open = (open_split a here.front s (subst (All (IsOpen a)) here.was h.usable)).1
+  last_open = subst (IsOpen a) (sym (is_innermost ss k s h.some e i)) (open_here a ss h.some h.usable)
 
+  -- an instance may be made of each instance type in it
   pub last_may_open : AllMayOpen a s
-  last_may_open = may_open a ss here.front s h here.was
+  last_may_open r =
+      let was : ss ≡ around ss ++ s ∷ [] = (last_changed ss k s s h.some e (is_innermost ss k s h.some e i)).was in
+      simple.may_open a (contexts_around a (around ss)) s r last_open.stands (h.calm (around ss) s was)
 
--- ## An item in the innermost
+-- ## An item that the innermost took
 
-module _ (a b : Arena) (ss ss' : List Contents) (h : IsReady a ss) (ext : Extends a b) where
-  -- the states may be used further
-  pub ready_after : (last : ChangesLast stay ss ss') → last.new.spent ≡ false → KeepsOn a b ss ss' → AreCalm b ss' → IsReady b ss'
-  ready_after last live keeps calm =
-      let kept : KeepsOn a b (last.outer ++ last.old ∷ []) (last.outer ++ last.new ∷ []) = subst (λ (xs : List Contents). KeepsOn a b xs (last.outer ++ last.new ∷ [])) last.was (subst (KeepsOn a b ss) last.becomes keeps) in
-      let opened : All (IsOpen a) last.outer = (open_split a last.outer last.old (subst (All (IsOpen a)) last.was h.usable)).0 in
-      record {
-        some = subst (λ (xs : List Contents). 0 < length xs) (sym last.becomes) (omega (arith, length-append last.outer (last.new ∷ [])));
-        usable = subst (All (IsOpen b)) (sym last.becomes) (All-push (IsOpen b) last.outer last.new (each last.outer opened kept) (record { live = live; stands = (last_zip (Keeps a b) last.outer last.old last.new kept).stands }));
-        calm = calm;
-      }
-    where
-      each : (os : List Contents) → All (IsOpen a) os → {x y : Contents} → KeepsOn a b (os ++ x ∷ []) (os ++ y ∷ []) → All (IsOpen b) os
-      each [] w k = All-nil (IsOpen b)
-      each (o ∷ os) w k = All-cons (IsOpen b) o os (record { live = (All-head (IsOpen a) o os w).live; stands = k.0.stands }) (each os (All-tail (IsOpen a) o os w) k.1)
+module _ (a b : Arena) (ss ss' : List Contents) (h : IsReady a ss) (f : Form) (taken : (p : Place) → TakenOn a b p ss ss' f) where
+  abbrev last : ChangesLast stay ss ss'
+  last = (taken []).last
 
-  -- the last split of a list of states is one
-  only_split : (P : List Contents → Contents → Type 0) (outer : List Contents) (s : Contents) → ss' ≡ outer ++ s ∷ [] → P outer s → (outer' : List Contents) (s' : Contents) → ss' ≡ outer' ++ s' ∷ [] → P outer' s'
-  only_split P outer s e x outer' s' e' =
-      let r = same_end outer outer' s s' (sym e ∙ e') in
-      subst (λ (y : Contents). P outer' y) r.1 (subst (λ (xs : List Contents). P xs s) r.0 x)
+  module _ (keeps : Keeps a b last.old last.new) (live : last.new.spent ≡ false) where
+    -- the states may be used further
+    accepts_so : IsCalm (numbers_of b) (stack_of b last.new (outer_contexts a b ss ss' last)) → AcceptsItem a b ss ss' f
+    accepts_so calm =
+        let r = (stays a b ss ss' last h.usable keeps live calm).ready in
+        record { taken = taken; ready = record { some = r.some; usable = r.each; calm = calm_all b ss' r.calm }; arena = keeps.arena }
 
-  -- what was read in one step leaves them calm
-  pub calm_after : (f : Form) → OneStep f → (p : Place) → TakenOn a b p ss ss' f → ((outer : List Contents) (s : Contents) → ss' ≡ outer ++ s ∷ [] → StateStands b s) → AreCalm b ss'
-  calm_after f one p t stands =
-      only_split (λ outer s. IsCalm (numbers_of b) (stack_on b outer s)) t.last.outer t.last.new t.last.becomes
-      (subst (λ (cs : List Tree_context). IsCalm (numbers_of b) (stack_of b t.last.new cs)) (sym t.around)
-      (calm_grows (Under p) (numbers_of a) (numbers_of b) t.grew.names p (stack_on a t.last.outer t.last.old) (grown_numbers a b ext) t.grew.given (h.calm t.last.outer t.last.old t.last.was)
-      t.last.old.features (stack_of b t.last.new (contexts_around a t.last.outer)) f (own_given b t.last.new (stands t.last.outer t.last.new t.last.becomes))
-      (sym (one.read t.last.old.features (tree_maker (names_of t.grew.names)) p (stack_on a t.last.outer t.last.old)) ∙ t.grew.grown)))
+    -- what is read in one step leaves them calm
+    pub accepts_step : OneStep f → AcceptsItem a b ss ss' f
+    accepts_step one =
+        let g = (taken []).grew in
+        accepts_so
+        (calm_grows (Under []) (numbers_of a) (numbers_of b) g.names [] (stack_on a last.outer last.old) (grown_numbers a b keeps.arena) g.given (h.calm last.outer last.old last.was)
+        last.old.features (stack_of b last.new (outer_contexts a b ss ss' last)) f (own_given b last.new keeps.stands)
+        (sym (one.read last.old.features (tree_maker (names_of g.names)) [] (stack_on a last.outer last.old)) ∙ g.grown))
+
+    -- a type is said to
+    pub accepts_calm : AreCalm b ss' → AcceptsItem a b ss ss' f
+    accepts_calm calm = accepts_so (subst (λ (cs : List Tree_context). IsCalm (numbers_of b) (stack_of b last.new cs)) (taken []).around (calm last.outer last.new last.becomes))
 
 -- a state took it
 module _ (a b : Arena) (ss : List Contents) (k : ℕ) (s s' : Contents) (e : k ≡ length ss - 1) (i : s ≡ slice_index_or ss k s) (h : IsReady a ss) (f : Form) (one : OneStep f) (w : TakesItem a b s s' f) where
-  abbrev became : List Contents
-  became = slice_set ss k s'
-
-  abbrev set : LastSet ss k s s'
-  set = last_set ss k s s' e h.some i
-
-  taken_last : (p : Place) → TakenOn a b p ss became f
+  abbrev taken_last : (p : Place) → TakenOn a b p ss (slice_set ss k s') f
   taken_last p = record {
-    last = record { outer = set.front; old = s; new = s'; was = set.was; becomes = set.becomes };
-    around = around_same a b w.keeps.arena set.front (open_split a set.front s (subst (All (IsOpen a)) set.was h.usable)).0;
-    grew = w.grew (contexts_around a set.front) p;
+    last = last_changed ss k s s' h.some e (is_innermost ss k s h.some e i);
+    around = around_same a b w.keeps.arena (around ss) (open_around a ss h.some h.usable);
+    grew = w.grew (contexts_around a (around ss)) p;
     features = w.keeps.features;
   }
 
-  last_stands : (outer : List Contents) (t : Contents) → became ≡ outer ++ t ∷ [] → StateStands b t
-  last_stands outer t x = subst (StateStands b) ((same_end set.front outer s' t (sym set.becomes ∙ x)).1) w.keeps.stands
-
-  pub accepts_last : AcceptsItem a b ss became f
-  accepts_last = record {
-    taken = taken_last;
-    ready = ready_after a b ss became h w.keeps.arena (taken_last []).last w.live (kept_on ss k s s' e h.some i a b h.usable w.keeps)
-        (calm_after a b ss became h w.keeps.arena f one [] (taken_last []) last_stands);
-    arena = w.keeps.arena;
-  }
+  pub accepts_last : AcceptsItem a b ss (slice_set ss k s') f
+  accepts_last = accepts_step a b ss (slice_set ss k s') h f taken_last w.keeps w.live one
 
 -- a state left it
 pub refuses_last : {M : Type 0} (a b : Arena) (ss : List Contents) (k : ℕ) (s : Contents) (e : k ≡ length ss - 1) (some : 0 < length ss) (i : s ≡ slice_index_or ss k s) (f : Form) (offset : ℕ) (x : Error M) →
     LeavesItem a b s f offset x → RefusesItem a b ss f offset x
 refuses_last a b ss k s e some i f offset x w = record {
   refused = λ outer t g p.
-      let set = last_set ss k s s e some i in
-      let r = same_end set.front outer s t (sym set.was ∙ g) in
-      subst (λ (y : Contents). RefusedAt a b (contexts_around a outer) y f p offset x) r.1 (w.refused (contexts_around a outer) p);
+      let same : s ≡ t = is_innermost ss k s some e i ∙ ap innermost g ∙ innermost_at outer t in
+      subst (λ (y : Contents). RefusedAt a b (contexts_around a outer) y f p offset x) same (w.refused (contexts_around a outer) p);
   arena = w.arena;
 }
 
 -- ## Types and core types
 
--- the innermost is the same state
-same_innermost : {M : Type 0} (a b : Arena) (ss : List Contents) (f : Form) (p : Place) (offset : ℕ) (x : Error M) (outer outer' : List Contents) (s s' : Contents) → ss ≡ outer ++ s ∷ [] → ss ≡ outer' ++ s' ∷ [] →
-    RefusedAt a b (contexts_around a outer) s f p offset x → RefusedAt a b (contexts_around a outer') s' f p offset x
-same_innermost a b ss f p offset x outer outer' s s' e e' w =
-    let r = same_end outer outer' s s' (sym e ∙ e') in
-    subst (λ (y : Contents). RefusedAt a b (contexts_around a outer') y f p offset x) r.1 (subst (λ (os : List Contents). RefusedAt a b (contexts_around a os) s f p offset x) r.0 w)
-
 module _ (a b : Arena) (ss ss' : List Contents) (h : IsReady a ss) (keeps : KeepsOn a b ss ss') where
   kept_last : (last : ChangesLast stay ss ss') → Keeps a b last.old last.new
-  kept_last last = last_zip (Keeps a b) last.outer last.old last.new (subst (λ (xs : List Contents). KeepsOn a b xs (last.outer ++ last.new ∷ [])) last.was (subst (KeepsOn a b ss) last.becomes keeps))
+  kept_last last =
+      subst (λ (s : Contents). Keeps a b s last.new) (ap innermost last.was ∙ innermost_at last.outer last.old)
+      (subst (Keeps a b (innermost ss)) (ap innermost last.becomes ∙ innermost_at last.outer last.new) (innermost_kept a b ss ss' h.some keeps))
 
   -- a core type was taken
   module _ (t : Core_type_form) (left : (s : Contents) → IsFree (left_checks (context_of a s) (core_type_item t))) (grew : (p : Place) → GrewOn a b p ss ss' (core_type_item t)) where
-    core_taken : (p : Place) → TakenOn a b p ss ss' (core_type_item t)
+    abbrev core_taken : (p : Place) → TakenOn a b p ss ss' (core_type_item t)
     core_taken p =
         let g = grew p in
         record {
@@ -212,23 +124,12 @@ module _ (a b : Arena) (ss ss' : List Contents) (h : IsReady a ss) (keeps : Keep
           features = (kept_last g.last).features;
         }
 
-    core_stands : (outer : List Contents) (s : Contents) → ss' ≡ outer ++ s ∷ [] → StateStands b s
-    core_stands outer s e =
-        let last = (grew []).last in
-        subst (StateStands b) (same_end last.outer outer last.new s (sym last.becomes ∙ e)).1 (kept_last last).stands
-
     pub accepts_core : AcceptsItem a b ss ss' (core_type_item t)
-    accepts_core =
-        let ext : Extends a b = (kept_last (grew []).last).arena in
-        record {
-          taken = core_taken;
-          ready = ready_after a b ss ss' h ext (grew []).last (grew []).grew.live keeps (calm_after a b ss ss' h ext (core_type_item t) (one_step (core_type_item t) refl) [] (core_taken []) core_stands);
-          arena = ext;
-        }
+    accepts_core = accepts_step a b ss ss' h (core_type_item t) core_taken (kept_last (grew []).last) (grew []).grew.live (one_step (core_type_item t) refl)
 
   -- a type was
-  module _ (t : Type_form) (built : is_built_type t ≡ true) (left : IsFree (declared_left t)) (declares : (p : Place) → DeclaresOn true a b p ss ss' t) (calm : AreCalm b ss') where
-    type_taken : (p : Place) → TakenOn a b p ss ss' (type_item t)
+  module _ (t : Type_form) (built : is_built_type t ≡ true) (left : IsFree (declared_left t)) (declares : (p : Place) → DeclaresOn true a b p ss ss' t) where
+    abbrev type_taken : (p : Place) → TakenOn a b p ss ss' (type_item t)
     type_taken p =
         let g = declares p in
         record {
@@ -238,19 +139,24 @@ module _ (a b : Arena) (ss ss' : List Contents) (h : IsReady a ss) (keeps : Keep
           features = (kept_last g.last).features;
         }
 
-    pub accepts_type : AcceptsItem a b ss ss' (type_item t)
-    accepts_type =
-        let ext : Extends a b = (kept_last (declares []).last).arena in
-        record { taken = type_taken; ready = ready_after a b ss ss' h ext (declares []).last (declares []).declared.live keeps calm; arena = ext }
+    pub accepts_type : AreCalm b ss' → AcceptsItem a b ss ss' (type_item t)
+    accepts_type calm = accepts_calm a b ss ss' h (type_item t) type_taken (kept_last (declares []).last) (declares []).declared.live calm
 
-module _ {M : Type 0} (a b : Arena) (ss ss' : List Contents) (ext : Extends a b) (offset : ℕ) (x : Error M) where
+-- the innermost is the same state
+same_innermost : {M : Type 0} (a b : Arena) (ss : List Contents) (f : Form) (p : Place) (offset : ℕ) (x : Error M) (outer outer' : List Contents) (s s' : Contents) → ss ≡ outer ++ s ∷ [] → ss ≡ outer' ++ s' ∷ [] →
+    RefusedAt a b (contexts_around a outer) s f p offset x → RefusedAt a b (contexts_around a outer') s' f p offset x
+same_innermost a b ss f p offset x outer outer' s s' e e' w =
+    let r = same_end outer outer' s s' (sym e ∙ e') in
+    subst (λ (y : Contents). RefusedAt a b (contexts_around a outer') y f p offset x) r.1 (subst (λ (os : List Contents). RefusedAt a b (contexts_around a os) s f p offset x) r.0 w)
+
+module _ {M : Type 0} (a b : Arena) (ss ss' : List Contents) (some : 0 < length ss) (keeps : KeepsOn a b ss ss') (offset : ℕ) (x : Error M) where
   pub refuses_core : (t : Core_type_form) → ((p : Place) → RefusedOn a b p ss ss' (core_type_item t) offset x) → RefusesItem a b ss (core_type_item t) offset x
   refuses_core t w = record {
     refused = λ outer s e p.
         let r = w p in
         same_innermost a b ss (core_type_item t) p offset x r.last.outer outer r.last.old s r.last.was e
-        ((item_refused a b r.last.old (core_type_item t) (one_step (core_type_item t) refl) offset x ext (λ o q. r.refused.1)).refused (contexts_around a r.last.outer) p);
-    arena = ext;
+        (step_refused a b r.last.old (core_type_item t) (one_step (core_type_item t) refl) offset x (contexts_around a r.last.outer) p r.refused.1);
+    arena = extends_on a b ss ss' some keeps;
   }
 
   pub refuses_type : (t : Type_form) → ((p : Place) → RefusesOn true a b p ss ss' t offset x) → RefusesItem a b ss (type_item t) offset x
@@ -258,7 +164,7 @@ module _ {M : Type 0} (a b : Arena) (ss ss' : List Contents) (ext : Extends a b)
     refused = λ outer s e p.
         let r = w p in
         same_innermost a b ss (type_item t) p offset x r.last.outer outer r.last.old s r.last.was e (type_caused a b (contexts_around a r.last.outer) p r.last.old t offset x r.caused);
-    arena = ext;
+    arena = extends_on a b ss ss' some keeps;
   }
 
 -- ## Refusals before the call
@@ -277,29 +183,3 @@ module _ {M : Type 0} (a : Arena) (ss : List Contents) (offset : ℕ) (x : Error
 -- another error of that kind and that offset is as good a refusal
 pub refused_same : {M N : Type 0} (a b : Arena) (ss : List Contents) (f : Form) (offset : ℕ) (e : Error M) (x : Error N) → error_kind x ≡ error_kind e → error_offset x ≡ error_offset e → RefusesItem a b ss f offset e → RefusesItem a b ss f offset x
 refused_same a b ss f offset e x k o r = record { refused = λ outer s w p. caused_same_at a b (contexts_around a outer) s f p offset e x k o (r.refused outer s w p); arena = r.arena }
-
--- ## The arena
-
--- what some state keeps, the arena keeps
-pub kept_arena : (a b : Arena) (ss ss' : List Contents) → 0 < length ss → KeepsOn a b ss ss' → Extends a b
-kept_arena a b [] ss' h k = absurd (omega (arith, h))
-kept_arena a b (s ∷ ss) [] h k = elim k [ ]
-kept_arena a b (s ∷ ss) (t ∷ ts) h k = k.0.arena
-
--- states that keep what stood are as many
-kept_length : (a b : Arena) (ss ss' : List Contents) → KeepsOn a b ss ss' → length ss' ≡ length ss
-kept_length a b [] [] k = refl
-kept_length a b [] (t ∷ ts) k = elim k [ ]
-kept_length a b (s ∷ ss) [] k = elim k [ ]
-kept_length a b (s ∷ ss) (t ∷ ts) k = ap suc (kept_length a b ss ts k.1)
-
--- what a vector holds once a call on a slice of it wrote back
-pub written : (a b : Arena) (ss ys zs : List Contents) (n : ℕ) → n ≡ length ss → KeepsOn a b ss ys → take n (ys ++ zs) ≡ ys
-written a b ss ys zs n l k = ap (λ m. take m (ys ++ zs)) (l ∙ sym (kept_length a b ss ys k)) ∙ take_at ys zs (length ys) refl
-
--- ## Clauses
-
--- what two clauses say of a success
-pub both_ok : {T E : Type 0} (r : Result T E) {P Q R : Type 0} → (P → Q → R) → OnOk r P → OnOk r Q → OnOk r R
-both_ok (Ok x) f p q = f p q
-both_ok (Err e) f p q = tt

@@ -2,13 +2,14 @@
 use Rattle.std.proofs.Common.{◌≡◌, ℕ, suc, List, [], ◌∷◌, ◌++◌, refl, ◌∙◌, ap, subst, Bool, true, Some, None}
 use Rattle.std.specs.Prelude.{Option}
 use Rattle.std.specs.Option.{option_map, option_and_then}
+use Rattle.wcv_core.specs.Limits.{max_open}
 use Rattle.wcv_core.specs.Names.{Place, deeper}
 use Rattle.wcv_core.specs.declared.features.WasmFeatures.{WasmFeatures}
 use Rattle.wcv_syntax.specs.Model.{core_type_item, type_item, import_item, Type_form, defined_type, func_type, component_type, instance_type, resource_type, Decl, core_type_decl, type_decl, alias_decl, export_decl, import_decl, Decls, no_decls, declare}
 use Rattle.wcv_syntax.specs.declared.component_type.ComponentTypeRef.{ComponentTypeRef}
 use Rattle.wcv_syntax.specs.declared.name.ComponentExternName.{ComponentExternName}
 use Rattle.wcv_lower.specs.Aliases.{alias_step}
-use Rattle.wcv_lower.specs.Checks.{Checks, too_many, no_type_room, max_open}
+use Rattle.wcv_lower.specs.Checks.{Checks, too_many, no_type_room}
 use Rattle.wcv_lower.specs.Context.{Kind, declares_instance, declares_component, Context, Stack, exporting}
 use Rattle.wcv_lower.specs.Declared.{Makers, inside, around, ended, full_stack, applied, declared_export_step, declared_export_checks, read_type, read_decl, read_decls, on_read, declared_checks, decl_checks, decls_checks}
 use Rattle.wcv_lower.specs.DeclaredMaps.{TypeAlike, DeclAlike, DeclsAlike}

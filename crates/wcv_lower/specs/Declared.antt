@@ -1,16 +1,16 @@
 -- Declared types: instance types and component types. Their declarations are read one by one, as items are, each in the stack that
 -- those before it leave, with a context of their own on top.
-use Rattle.wcv_core.specs.Limits.{max_list}
 use Rattle.std.specs.Prelude.{ℕ, zero, suc, List, [], ◌∷◌, ◌++◌, length, Bool, true, Option, Some, None}
 use Rattle.std.specs.Option.{option_map, option_and_then}
 use Rattle.wcv_core.specs.CoreForm.{Group}
+use Rattle.wcv_core.specs.Limits.{max_list, max_open}
 use Rattle.wcv_core.specs.Names.{Place, deeper}
 use Rattle.wcv_core.specs.declared.features.WasmFeatures.{WasmFeatures}
 use Rattle.wcv_syntax.specs.Model.{core_type_item, type_item, import_item, Type_form, component_type, instance_type, Decl, core_type_decl, type_decl, alias_decl, export_decl, import_decl, Decls, no_decls, declare}
 use Rattle.wcv_syntax.specs.declared.component_type.ComponentTypeRef.{ComponentTypeRef}
 use Rattle.wcv_syntax.specs.declared.name.ComponentExternName.{ComponentExternName}
 use Rattle.wcv_lower.specs.Aliases.{alias_step, alias_checks, alias_left}
-use Rattle.wcv_lower.specs.Checks.{Checks, too_many, each_too_long, texts_of, no_type_room, max_open}
+use Rattle.wcv_lower.specs.Checks.{Checks, too_many, each_too_long, texts_of, no_type_room}
 use Rattle.wcv_lower.specs.Context.{Kind, declares_instance, declares_component, Context, Stack, empty, exporting, counts}
 use Rattle.wcv_lower.specs.CoreItems.{core_type_checks, core_type_left}
 use Rattle.wcv_lower.specs.Ending.{declared_made, declared_end_checks}

@@ -2,7 +2,8 @@ use Rattle.std.proofs.Common.{◌≡◌, ◌+◌, ◌++◌, List, length, ap, sy
 use Rattle.std.specs.Prelude.{OnOk, IfErr}
 use Rattle.std.proofs.lemmas.Result.{err_from_is_err_and, on_ok_weaker, IfErr-weaker}
 use Rattle.wcv_core.specs.Refusal.{error_kind}
-use Rattle.wcv_lower.specs.Checks.{Checks, IsFree, no_type_room, too_many, max_open}
+use Rattle.wcv_core.specs.Limits.{max_open}
+use Rattle.wcv_lower.specs.Checks.{Checks, IsFree, no_type_room, too_many}
 use Rattle.wcv_lower.specs.Context.{counts}
 use Rattle.wcv_lower.specs.Declared.{full_stack}
 use Rattle.wcv_lower.proofs.Causes.{cause_left, cause_right}

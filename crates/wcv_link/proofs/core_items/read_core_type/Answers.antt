@@ -1,5 +1,5 @@
-use Rattle.std.proofs.Common.{◌≡◌, ℕ, List, ◌++◌, ◌∙◌, refl, sym, subst, take}
-use Rattle.std.specs.Prelude.{All, OnOk, IfErr}
+use Rattle.std.proofs.Common.{◌≡◌, List, refl, sym, subst}
+use Rattle.std.specs.Prelude.{All, OnOk}
 use Rattle.std.proofs.lemmas.Result.{err_from_is_err_and, on_ok_weaker, IfErr-weaker}
 use Rattle.wcv_core.proofs.Closing.{caused_same}
 use Rattle.wcv_syntax.specs.Model.{Core_type_form, Form, core_type_item}
@@ -8,9 +8,9 @@ use Rattle.wcv_types.proofs.Lists.{map-id}
 use Rattle.wcv_lower.specs.CoreItems.{core_type_left}
 use Rattle.wcv_state.specs.Contents.{Contents}
 use Rattle.wcv_decls.specs.Stack.{IsOpen, GrewOn, RefusedOn, KeepsOn}
-use Rattle.wcv_decls.proofs.Stacks.{unmapped}
+use Rattle.wcv_decls.proofs.Stacks.{unmapped, kept_back}
 use Rattle.wcv_link.specs.Progress.{AcceptsItem}
-use Rattle.wcv_link.proofs.Open.{accepts_core, refuses_core, refuses_left, kept_arena, written}
+use Rattle.wcv_link.proofs.Open.{accepts_core, refuses_core, refuses_left}
 use Rattle.wcv_link.proofs.Steps.{one_step, built_refused}
 use Rattle.wcv_link.proofs.core_items.read_core_type.Goals as goal
 
@@ -37,7 +37,7 @@ returns-clause-ok c =
     let same : ws ≡ ss = c.as_mut_slice.ensures.value in
     let t : Core_type_form = core_type_view c.args.ty in
     let keeps : KeepsOn a b ss ys = subst (λ (xs : List Contents). KeepsOn a b xs ys) same (unmapped (KeepsOn a b) ws ys c.add_core_type.ensures.keeps) in
-    let back = written a b ss ys _ c.args.components.now.len c.args.components.now.ok.0 keeps in
+    let back = kept_back a b ss ys _ c.args.components.now.len c.args.components.now.ok.0 keeps in
     subst (λ (xs : List Contents). OnOk c.add_core_type.result (AcceptsItem a b ss xs (core_type_item t))) (sym back)
     (on_ok_weaker c.add_core_type.result
     (λ g. accepts_core a b ss ys c.requires keeps t (λ s. c.in_ok-check_core_limits.ensures.ok)
@@ -55,6 +55,6 @@ returns-clause-err c =
     let t : Core_type_form = core_type_view c.args.ty in
     let keeps : KeepsOn a b ss ys = subst (λ (xs : List Contents). KeepsOn a b xs ys) same (unmapped (KeepsOn a b) ws ys c.add_core_type.ensures.keeps) in
     IfErr-weaker c.add_core_type.result _ _
-    (λ e g. refuses_core a b ss ys (kept_arena a b ss ys c.requires.some keeps) c.args.offset e t
+    (λ e g. refuses_core a b ss ys c.requires.some keeps c.args.offset e t
     (λ p. subst (λ (xs : List Contents). RefusedOn a b p xs ys (core_type_item t) c.args.offset e) same (unmapped (λ xs zs. RefusedOn a b p xs zs (core_type_item t) c.args.offset e) ws ys (g p))))
     c.add_core_type.ensures.err

@@ -11,8 +11,9 @@ use Rattle.wcv_lower.specs.Growth.{unbuilt}
 use Rattle.wcv_state.specs.Contents.{Contents}
 use Rattle.wcv_state.specs.Promises.{MemoryOrCausedBy}
 use Rattle.wcv_decls.specs.Stack.{IsOpen, AreCalm, DeclaresOn, RefusesOn, KeepsOn}
+use Rattle.wcv_decls.proofs.Outcomes.{both_ok}
 use Rattle.wcv_decls.proofs.Stacks.{unmapped}
-use Rattle.wcv_link.proofs.Open.{accepts_type, refuses_type, refuses_type_left, kept_arena, both_ok}
+use Rattle.wcv_link.proofs.Open.{accepts_type, refuses_type, refuses_type_left}
 use Rattle.wcv_link.proofs.reading.read_type.Goals as goal
 
 pub returns-in_err-check_form-clause-err : goal.returns-in_err-check_form-clause-err
@@ -48,7 +49,7 @@ returns-clause-ok c =
     let ss' : List Contents = c.add_type.new.components.items in
     let t : Type_form = type_view c.args.ty in
     let built : is_built_type t ≡ true = sym c.is_built_type.ensures ∙ c.in_ok-check_form.ensures.ok in
-    both_ok c.add_type.result
+    both_ok c.add_type.result _ _ _
     (λ d calm. accepts_type a b ss ss' c.requires (unmapped (KeepsOn a b) ss ss' c.add_type.ensures.keeps) t built c.in_ok-check_declared_limits.ensures.ok
     (λ p. unmapped (λ xs ys. DeclaresOn true a b p xs ys t) ss ss' (d p)) (subst (AreCalm b) (map-id ss') calm))
     c.add_type.ensures.ok c.add_type.ensures.calm
@@ -61,6 +62,6 @@ returns-clause-err c =
     let ss' : List Contents = c.add_type.new.components.items in
     let t : Type_form = type_view c.args.ty in
     IfErr-weaker c.add_type.result _ _
-    (λ e g. refuses_type a b ss ss' (kept_arena a b ss ss' c.requires.some (unmapped (KeepsOn a b) ss ss' c.add_type.ensures.keeps)) c.args.offset e t
+    (λ e g. refuses_type a b ss ss' c.requires.some (unmapped (KeepsOn a b) ss ss' c.add_type.ensures.keeps) c.args.offset e t
     (λ p. unmapped (λ xs ys. RefusesOn true a b p xs ys t c.args.offset e) ss ss' (g p)))
     c.add_type.ensures.err
