@@ -1,3 +1,4 @@
 pub mod Refusals
 pub mod ItemTests
 pub mod ItemTables
+pub mod ByName

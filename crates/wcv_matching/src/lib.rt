@@ -1,6 +1,7 @@
 //! Whether types match, and what opens the imports of a component.
 #![tactic(auto)]
 
+mod by_name;
 mod core_items;
 
 pub use core_items::{entity_type, memory_type, table_type};
