@@ -1,2 +1,4 @@
 pub mod ItemTests
 pub mod ByName
+pub mod Entries
+pub mod Found

@@ -2,3 +2,5 @@ pub mod Refusals
 pub mod ItemTests
 pub mod ItemTables
 pub mod ByName
+pub mod ModuleItems
+pub mod Standings

@@ -3,5 +3,6 @@
 
 mod by_name;
 mod core_items;
+mod modules;
 
 pub use core_items::{entity_type, memory_type, table_type};
