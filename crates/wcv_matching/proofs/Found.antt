@@ -16,3 +16,6 @@ other_found {X} {Y} R o x y e n f =
 -- so over an equal table, of what is equal
 pub carried : {G X : Type 0} (P : G → Option X → Type 0) (g h : G) (o p : Option X) → g ≡ h → o ≡ p → P g o → P h p
 carried {G} {X} P g h o p e f x = subst (λ (q : Option X). P h q) f (subst (λ (k : G). P k o) e x)
+
+pub both_carried : {X Y : Type 0} (P : X → Y → Type 0) (x x' : X) (y y' : Y) → x ≡ x' → y ≡ y' → P x y → P x' y'
+both_carried {X} {Y} P x x' y y' e f h = subst (λ (z : Y). P x' z) f (subst (λ (z : X). P z y) e h)

@@ -4,3 +4,4 @@ pub mod ItemTables
 pub mod ByName
 pub mod ModuleItems
 pub mod Standings
+pub mod CoreArguments

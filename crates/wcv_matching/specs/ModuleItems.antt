@@ -3,6 +3,7 @@ use Rattle.std.specs.Prelude.{List, [], ◌∷◌, ◌++◌, map, Option, Some, 
 use Rattle.wcv_core.specs.CoreForm.{Group}
 use Rattle.wcv_core.specs.declared.core_types.EntityType.{EntityType}
 use Rattle.wcv_types.specs.Tree.{Text, Head, core_item, here, core_import, core_export, Tree, Parts, none, part, head, parts}
+use Rattle.wcv_types.specs.declared.core_shapes.ModuleType.{ModuleType}
 use Rattle.wcv_closed.specs.ClosedItems.{ItemMatches}
 use Rattle.wcv_closed.specs.ClosedValue.{closed_item}
 use Rattle.wcv_closed.specs.CoreModules.{Module_items}
@@ -35,6 +36,10 @@ core_exports_in (part r t ps) = core_exports_in ps
 -- of a core module
 abbrev pub module_items : {R I : Type 0} → Tree R I → Module_items EntityType
 module_items t = record { imports = core_imports_in (parts t); exports = core_exports_in (parts t) }
+
+-- of the shape of a node
+abbrev pub items_of : ModuleType → Module_items EntityType
+items_of s = record { imports = s.imports; exports = s.exports }
 
 -- a core instance exports what its module exports, or what it lists
 abbrev pub instance_exports_in : {R I : Type 0} → Parts R I → List (Text × EntityType)

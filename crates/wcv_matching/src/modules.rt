@@ -3,13 +3,14 @@ ghost use Rattle.std.specs.Prelude.{◌≡◌, All, Option, OnOk, IfOk, IfErr, I
 ghost use Rattle.wcv_core.specs.CoreGroups.{total};
 ghost use Rattle.wcv_core.specs.CoreSizes.{IsEntityWithin};
 ghost use Rattle.wcv_core.specs.Refusal.{error_kind, error_offset};
-ghost use Rattle.wcv_types.specs.Standing.{Stands};
+ghost use Rattle.wcv_types.specs.Standing.{Stands, core_items};
 ghost use Rattle.wcv_types.specs.Unfold.{tree_at};
+ghost use Rattle.wcv_types.specs.declared.arena.Node.TheVariants as n;
 ghost use Rattle.wcv_types.specs.declared.ids.Part.TheVariants as p;
 ghost use Rattle.wcv_closed.specs.CoreModules.{same_pair, ModuleMatches};
 ghost use Rattle.wcv_closed.specs.Found.{EachFound};
 ghost use Rattle.wcv_matching.specs.ByName.{held, held_pair};
-ghost use Rattle.wcv_matching.specs.ModuleItems.{ItemsMatch, module_items};
+ghost use Rattle.wcv_matching.specs.ModuleItems.{ItemsMatch, items_of, module_items};
 ghost use Rattle.wcv_matching.specs.Refusals.{IsMismatch, MemoryOrMismatch};
 ghost use Rattle.wcv_matching.specs.Standings.{FoundAs};
 
@@ -25,6 +26,8 @@ use wcv_types::{ComponentCoreModuleTypeId, ExportMap, ImportMap, ModuleType, Typ
 pub(crate) enum Sought<'a> {
     Export(&'a str),
     Import(&'a str, &'a str),
+    /// What the argument of the one name is to export under the other.
+    Argument(&'a str, &'a str),
 }
 
 impl fmt::Display for Sought<'_> {
@@ -36,6 +39,12 @@ impl fmt::Display for Sought<'_> {
                 "core import `{}` of `{}`",
                 Excerpt(name),
                 Excerpt(module)
+            ),
+            Sought::Argument(argument, name) => write!(
+                f,
+                "argument `{}` for the core import `{}`",
+                Excerpt(argument),
+                Excerpt(name)
             ),
         }
     }
@@ -66,7 +75,7 @@ fn unfit(
 }
 
 /// Whether what was found is there, and matches.
-fn check_item(
+pub(crate) fn check_item(
     types: &CoreTypes,
     found: Option<EntityType>,
     expected: &EntityType,
@@ -172,4 +181,43 @@ fn imports_match(
         }
     }
     Ok(())
+}
+
+/// Whether each import of the one is an import of the other, which matches it, and each export of the other is one
+/// of its own, which matches that.
+fn shapes_match(
+    types: &TypeAlloc,
+    a: &ModuleType,
+    b: &ModuleType,
+    offset: u64,
+) -> Result<(), Error>
+    requires a { All (IsEntityWithin (total types.now.core)) (core_items (n.Module a.now)) }
+    requires b { All (IsEntityWithin (total types.now.core)) (core_items (n.Module b.now)) }
+    ensures ok { OnOk result (ModuleMatches (ItemsMatch types.now.core) (items_of a.now) (items_of b.now)) }
+    ensures err { IfErr result (MemoryOrMismatch offset (ModuleMatches (ItemsMatch types.now.core) (items_of a.now) (items_of b.now))) }
+{
+    match imports_match(types, &a.imports, &b.imports, offset) {
+        Ok(()) => {}
+        Err(err) => return Err(err),
+    }
+    match exports_match(types, &a.exports, &b.exports, offset) {
+        Ok(()) => Ok(()),
+        Err(err) => Err(err),
+    }
+}
+
+/// Whether one core module may stand where the other is expected.
+pub fn module_type(
+    types: &TypeAlloc,
+    a: ComponentCoreModuleTypeId,
+    b: ComponentCoreModuleTypeId,
+    offset: u64,
+) -> Result<(), Error>
+    requires a { Stands types.now (p.Module a) }
+    requires b { Stands types.now (p.Module b) }
+    ensures ok { OnOk result (ModuleMatches (ItemsMatch types.now.core) (module_items (tree_at types.now (p.Module a))) (module_items (tree_at types.now (p.Module b)))) }
+    ensures err { IfErr result (MemoryOrMismatch offset (ModuleMatches (ItemsMatch types.now.core) (module_items (tree_at types.now (p.Module a))) (module_items (tree_at types.now (p.Module b))))) }
+{
+    types.modules_within();
+    shapes_match(types, types.get(a), types.get(b), offset)
 }
