@@ -4,3 +4,10 @@ pub mod Entries
 pub mod Found
 pub mod ModuleTrees
 pub mod Arguments
+pub mod NamedLists
+pub mod TreeParts
+pub mod Moved
+pub mod MatchingKept
+pub mod MatchingOrder
+pub mod OneOpening
+pub mod TableMatching

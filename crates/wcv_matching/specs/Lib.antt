@@ -5,3 +5,6 @@ pub mod ByName
 pub mod ModuleItems
 pub mod Standings
 pub mod CoreArguments
+pub mod Matching
+pub mod Orderly
+pub mod TableMatching

@@ -4,8 +4,13 @@
 mod by_name;
 mod core_args;
 mod core_items;
+mod laws;
 mod modules;
 
 pub use core_args::{core_arguments, core_exports};
 pub use core_items::{entity_type, memory_type, table_type};
+pub use laws::{
+    a_type_matches_itself, at_most_one_substitution_opens, matching_goes_on,
+    renaming_keeps_matching, replacing_keeps_matching,
+};
 pub use modules::module_type;

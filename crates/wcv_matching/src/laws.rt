@@ -1,0 +1,43 @@
+// Laws of matching, over trees whose core types are of one table.
+ghost use Rattle.std.specs.Prelude.{◌≡◌, ℕ, List, true};
+ghost use Rattle.wcv_core.specs.CoreForm.{Group};
+ghost use Rattle.wcv_core.specs.Names.{Name, member};
+ghost use Rattle.wcv_types.specs.Paths.{PathLeadsTo};
+ghost use Rattle.wcv_types.specs.Rename.{rename};
+ghost use Rattle.wcv_types.specs.Resources.{Admits, Free, substitute};
+ghost use Rattle.wcv_types.specs.Tree.{Text, head, imported_at, imports};
+ghost use Rattle.wcv_types.specs.Unfold.{Type_tree};
+ghost use Rattle.wcv_closed.specs.ClosedMatching.{SupersKeepForm};
+ghost use Rattle.wcv_closed.specs.ClosedTable.{IsTable};
+ghost use Rattle.wcv_matching.specs.Orderly.{AllNamesDiffer};
+ghost use Rattle.wcv_matching.specs.TableMatching.{ModulesMatchThemselves, Opens, TypeMatches};
+
+/// Each type whose names differ matches itself.
+pub fn a_type_matches_itself()
+    ensures { (gs : List Group) (t : Type_tree) → AllNamesDiffer t → ModulesMatchThemselves gs t → TypeMatches gs t t }
+{}
+
+/// Matching goes on from one type to the next.
+pub fn matching_goes_on()
+    ensures { (gs : List Group) (a b c : Type_tree) → IsTable gs → SupersKeepForm gs → TypeMatches gs a b → TypeMatches gs b c → TypeMatches gs a c }
+{}
+
+/// Replacing of free resources keeps matching, whether or not two of them become one. Where each can be taken back, what does not match
+/// does not match afterwards.
+pub fn replacing_keeps_matching()
+    ensures to { (gs : List Group) (u : Name → Name) (a b : Type_tree) → Admits u a → Admits u b → TypeMatches gs a b → TypeMatches gs (substitute u a) (substitute u b) }
+    ensures back { (gs : List Group) (u v : Name → Name) (a b : Type_tree) → Admits u a → Admits u b → ((r : Name) → Free r a → v (u r) ≡ r) → ((r : Name) → Free r b → v (u r) ≡ r)
+        → TypeMatches gs (substitute u a) (substitute u b) → TypeMatches gs a b }
+{}
+
+/// Renaming of all names, own resources and identities too, keeps matching and its failure, where resources have a way back.
+pub fn renaming_keeps_matching()
+    ensures to { (gs : List Group) (f g back : Name → Name) (a b : Type_tree) → ((r : Name) → back (f r) ≡ r) → TypeMatches gs a b → TypeMatches gs (rename f g a) (rename f g b) }
+    ensures back { (gs : List Group) (f g back : Name → Name) (a b : Type_tree) → ((r : Name) → back (f r) ≡ r) → TypeMatches gs (rename f g a) (rename f g b) → TypeMatches gs a b }
+{}
+
+/// Arguments open the imports of a component under at most one substitution of the resources that it imports at a path.
+pub fn at_most_one_substitution_opens()
+    ensures { (gs : List Group) (p : List ℕ) (r : Name) (s t : Name → Name) (args : List (Text × Type_tree)) (c : Type_tree) → PathLeadsTo p r (imports c) → member r (imported_at (head c)) ≡ true
+        → Opens gs s args c → Opens gs t args c → s r ≡ t r }
+{}
