@@ -11,3 +11,6 @@ pub mod MatchingKept
 pub mod MatchingOrder
 pub mod OneOpening
 pub mod TableMatching
+pub mod SameTypes
+pub mod BothWays
+pub mod MatchingOnce

@@ -12,10 +12,8 @@ use Rattle.std.proofs.Math.ListN.{get_or-map}
 use Rattle.wcv_types.specs.Tree.{Text}
 use Rattle.wcv_closed.proofs.ModuleMatching.{same_text}
 use Rattle.wcv_matching.specs.Matching.{Entries}
+use Rattle.wcv_matching.specs.NamedPaths.{entry}
 
--- the first entry of that name
-abbrev pub entry : {X : Type 0} → Text → List (Text × X) → Option X
-entry n es = lookup (bytes_eq n) es
 
 
 pub map-map : {A B C : Type 0} (h : B → C) (f : A → B) (xs : List A) → map h (map f xs) ≡ map (λ x. h (f x)) xs

@@ -8,3 +8,5 @@ pub mod CoreArguments
 pub mod Matching
 pub mod Orderly
 pub mod TableMatching
+pub mod NamedPaths
+pub mod SameTypes

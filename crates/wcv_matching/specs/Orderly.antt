@@ -4,6 +4,7 @@ use Rattle.std.specs.List.{IsDistinct}
 use Rattle.std.specs.Map.{keys_of}
 use Rattle.wcv_core.specs.Names.{Name}
 use Rattle.wcv_core.specs.declared.core_types.EntityType.{EntityType}
+use Rattle.wcv_types.specs.Led.{HeadLed}
 use Rattle.wcv_types.specs.Tree.{Text, node, Parts, none, part}
 use Rattle.wcv_types.specs.Unfold.{Type_tree}
 use Rattle.wcv_closed.specs.CoreModules.{Module_items}
@@ -23,6 +24,21 @@ abbrev mutual
   pub PartNamesDiffer : Parts Name Name → Type 0
   PartNamesDiffer none = Unit {0}
   PartNamesDiffer (part r t ps) = AllNamesDiffer t × PartNamesDiffer ps
+
+-- ## Paths
+
+-- at each node inside the tree the resources that it owns are led to
+abbrev mutual
+  pub AllPathsLead : Type_tree → Type 0
+  AllPathsLead (node h ps) = HeadLed h ps × PartPathsLead ps
+
+  pub PartPathsLead : Parts Name Name → Type 0
+  PartPathsLead none = Unit {0}
+  PartPathsLead (part r t ps) = AllPathsLead t × PartPathsLead ps
+
+-- names differ in each list, and what is owned is led to
+abbrev pub Orderly : Type_tree → Type 0
+Orderly t = AllNamesDiffer t × AllPathsLead t
 
 -- ## Core modules
 
