@@ -32,7 +32,7 @@ Leads [] r es = ⊥
 Leads (k ∷ []) r es = (e : Text × Type_tree) × (slice_get es k ≡ Some e) × IsTypeOf r e.1
 Leads (k ∷ j ∷ p) r es = (e : Text × Type_tree) × (slice_get es k ≡ Some e) × IsWayTo r e.1 × Leads (j ∷ p) r (named_exports e.1)
 
-leads_named : (p : List ℕ) (r : Name) (es : List (Extern_name × Type_tree)) → PathLeadsTo p r es → Leads p r (named es)
+pub leads_named : (p : List ℕ) (r : Name) (es : List (Extern_name × Type_tree)) → PathLeadsTo p r es → Leads p r (named es)
 leads_named [] r es l = absurd l
 leads_named (k ∷ []) r es l = ((l.0.0.name, l.0.1), named_get es k l.0 l.1, l.2)
 leads_named (k ∷ j ∷ p) r es l = ((l.0.0.name, l.0.1), named_get es k l.0 l.1, l.2, leads_named (j ∷ p) r (tree.exports l.0.1) l.3)

@@ -14,3 +14,4 @@ pub mod TableMatching
 pub mod SameTypes
 pub mod BothWays
 pub mod MatchingOnce
+pub mod PassSame

@@ -10,3 +10,4 @@ pub mod Orderly
 pub mod TableMatching
 pub mod NamedPaths
 pub mod SameTypes
+pub mod OnePass
