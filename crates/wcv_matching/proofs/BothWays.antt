@@ -37,9 +37,6 @@ leads_named [] r es l = absurd l
 leads_named (k ∷ []) r es l = ((l.0.0.name, l.0.1), named_get es k l.0 l.1, l.2)
 leads_named (k ∷ j ∷ p) r es l = ((l.0.0.name, l.0.1), named_get es k l.0 l.1, l.2, leads_named (j ∷ p) r (tree.exports l.0.1) l.3)
 
-contains-get : {X : Type 0} (es : List X) (k : ℕ) (e : X) → slice_get es k ≡ Some e → Contains es e
-contains-get es k e h = among es k e h
-
 
 -- ## A path leads in both to resources that are read alike
 
@@ -125,16 +122,16 @@ module _ (C : Item_rule) where
       Entries (MatchBelow C d A f g) xs es → Entries (MatchBelow C d B g' f') es xs → Met f g f' g' (follow p es xs) r
   path-met [] r d A B f g f' g' xs es l i each m n = absurd l
   path-met (k ∷ []) r d A B f g f' g' xs es l i each m n =
-      let c : Contains es l.0 = contains-get es k l.0 l.1 in
+      let c : Contains es l.0 = among es k l.0 l.1 in
       let x = m l.0.0 l.0.1 c in
       let y = n l.0.0 x.0 (entry-contains l.0.0 xs x.0 x.1) in
       let e : y.0 ≡ l.0.1 = some-inj (sym y.1 ∙ lookup-from_Contains texts_equiv l.0.0 l.0.1 es i c) in
       let w = type-met C d A B f g f' g' x.0 l.0.1 r l.2 x.2 (subst (λ (z : Type_tree). MatchBelow C d B g' f' z x.0) e y.2) in
       (w.0, then-then (slice_get es k) l.0 (Some w.0) _ l.1 (then-then (entry l.0.0 xs) x.0 (Some w.0) _ x.1 w.1), w.2, w.3)
-  path-met (k ∷ j ∷ p) r zero A B f g f' g' xs es l i each m n = absurd (m l.0.0 l.0.1 (contains-get es k l.0 l.1)).2
+  path-met (k ∷ j ∷ p) r zero A B f g f' g' xs es l i each m n = absurd (m l.0.0 l.0.1 (among es k l.0 l.1)).2
   path-met (k ∷ j ∷ p) r (suc d) A B f g f' g' xs es l i each m n =
       let t : Type_tree = l.0.1 in
-      let c : Contains es l.0 = contains-get es k l.0 l.1 in
+      let c : Contains es l.0 = among es k l.0 l.1 in
       let x = m l.0.0 t c in
       let y = n l.0.0 x.0 (entry-contains l.0.0 xs x.0 x.1) in
       let e : y.0 ≡ t = some-inj (sym y.1 ∙ lookup-from_Contains texts_equiv l.0.0 t es i c) in

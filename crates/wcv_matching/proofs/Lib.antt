@@ -15,3 +15,6 @@ pub mod SameTypes
 pub mod BothWays
 pub mod MatchingOnce
 pub mod PassSame
+pub mod PassMatches
+pub mod PassBound
+pub mod PassArguments
