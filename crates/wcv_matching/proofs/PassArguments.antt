@@ -8,13 +8,13 @@ use Rattle.wcv_core.specs.Names.{Name, member}
 use Rattle.wcv_types.specs.Tree.{Text, head, imported_at}
 use Rattle.wcv_types.specs.Unfold.{Type_tree}
 use Rattle.wcv_matching.specs.Matching.{Item_rule, Entries, MatchBelow, opened_by, OpensImports, named_imports}
-use Rattle.wcv_matching.specs.OnePass.{Atom, given, imported_paths, enough, Tests, match_pass, argument_for, opens_pass}
-use Rattle.wcv_matching.specs.Orderly.{Orderly, height}
+use Rattle.wcv_matching.specs.OnePass.{Atom, given, imported_paths, enough, Tests, match_pass, argument_for, opens_pass, AreRight}
+use Rattle.wcv_matching.specs.Orderly.{Orderly, EachOrderly, height}
 use Rattle.wcv_matching.proofs.MatchingKept.{MatchBelow-map}
 use Rattle.wcv_matching.proofs.MatchingOrder.{EachFound-map}
 use Rattle.wcv_matching.proofs.MatchingOnce.{EachFound-in}
 use Rattle.wcv_matching.proofs.BothWays.{orderly-import}
-use Rattle.wcv_matching.proofs.PassSame.{AreRight, recorded-import, counterpart-some}
+use Rattle.wcv_matching.proofs.PassSame.{recorded-import, counterpart-some}
 use Rattle.wcv_matching.proofs.PassMatches.{path-met_once, each-decide, match_below-decides}
 use Rattle.wcv_matching.proofs.PassBound.{enough-both, MatchBelow-at, name_of}
 
@@ -33,9 +33,6 @@ all-within (e ∷ es) =
 
 within-total : (es : List (Text × Type_tree)) (n : Text) (x : Type_tree) → Contains es (n, x) → height x ≤ total es
 within-total es n x c = All-contains (λ (e : Text × Type_tree). height e.1 ≤ total es) es (n, x) (all-within es) c
-
-abbrev pub EachOrderly : List (Text × Type_tree) → Type 0
-EachOrderly es = (n : Text) (x : Type_tree) → Contains es (n, x) → Orderly x
 
 -- a substitution that lets the arguments open the imports is the one that the paths find
 module _ (C : Item_rule) where

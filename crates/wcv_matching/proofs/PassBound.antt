@@ -8,7 +8,7 @@ use Rattle.wcv_types.specs.Tree.{Text, node, nothing, Parts, none, part, Sort, i
 use Rattle.wcv_types.specs.Seen.{Within}
 use Rattle.wcv_types.specs.Unfold.{Type_tree}
 use Rattle.wcv_matching.specs.Matching.{Item_rule, Reading, in_instance, Fresh, made, left, right, MatchAs, MatchBelow, Matches, named_exports, named_imports}
-use Rattle.wcv_matching.specs.OnePass.{Atom, given, owned_in, made_in, Tests, enough, passes_match, passes_same}
+use Rattle.wcv_matching.specs.OnePass.{Atom, given, owned_in, made_in, Tests, enough, passes_match, passes_same, AreRight}
 use Rattle.wcv_matching.specs.Orderly.{Orderly, height, heights}
 use Rattle.wcv_matching.specs.SameTypes.{IsSame}
 use Rattle.wcv_matching.proofs.TreeParts.{EachPart, at_export, at_import}
@@ -17,7 +17,7 @@ use Rattle.wcv_matching.proofs.MatchingOrder.{second-part}
 use Rattle.wcv_matching.proofs.SameTypes.{SameBelow-both}
 use Rattle.wcv_matching.proofs.BothWays.{SameBelow-from}
 use Rattle.wcv_matching.proofs.MatchingOnce.{SameBelow-map, EachFound-in}
-use Rattle.wcv_matching.proofs.PassSame.{AreRight, same_below-decides}
+use Rattle.wcv_matching.proofs.PassSame.{same_below-decides}
 use Rattle.wcv_matching.proofs.PassMatches.{match_below-decides}
 
 

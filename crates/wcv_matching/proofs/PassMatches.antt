@@ -12,7 +12,7 @@ use Rattle.wcv_types.specs.Seen.{Within, outer, inner, seen}
 use Rattle.wcv_types.specs.Unfold.{Type_tree}
 use Rattle.wcv_matching.specs.Matching.{Item_rule, Entries, Reading, outside, in_instance, Fresh, within, made, in_component, atoms, left, right, MatchAs, MatchBelow, named_exports, named_imports}
 use Rattle.wcv_matching.specs.NamedPaths.{entry, resource_at, follow}
-use Rattle.wcv_matching.specs.OnePass.{Atom, given, owned_in, made_in, IsAbove, under_at, component_at, imported_paths, made_paths, imported_in, defined_in, found_in, each_passes, sort_number, Tests, right_at, opened_at, left_at, exports_at, is_made_in, same_below, match_as, match_below}
+use Rattle.wcv_matching.specs.OnePass.{Atom, given, owned_in, made_in, IsAbove, under_at, component_at, imported_paths, made_paths, imported_in, defined_in, found_in, each_passes, sort_number, Tests, right_at, opened_at, left_at, exports_at, is_made_in, same_below, match_as, match_below, AreRight}
 use Rattle.wcv_matching.specs.Orderly.{Orderly}
 use Rattle.wcv_matching.proofs.Entries.{among}
 use Rattle.wcv_matching.proofs.NamedLists.{entry-contains}
@@ -21,7 +21,7 @@ use Rattle.wcv_matching.proofs.MatchingKept.{MatchBelow-map}
 use Rattle.wcv_matching.proofs.OneOpening.{rule, outside-read}
 use Rattle.wcv_matching.proofs.SameTypes.{SameBelow-both, owned-defined}
 use Rattle.wcv_matching.proofs.BothWays.{Leads, orderly-export, orderly-import, orderly-referenced, outside-from, then-then, reference-met, SameBelow-from, read-imported, read-defined}
-use Rattle.wcv_matching.proofs.PassSame.{AreRight, ReadsAbove, same_below-decides, same_members-decides, sorts-decide, and_left, and_right, and_both, all-pass, passes, all-members, passes-member, under-above, under-to, under-from, above-cond, above-more, to_within, from_within, to_fresh, from_fresh, from_fresh-above, eqb-same, eqb-below, recorded-import, recorded-export, counterpart-some}
+use Rattle.wcv_matching.proofs.PassSame.{ReadsAbove, same_below-decides, same_members-decides, sorts-decide, and_left, and_right, and_both, all-pass, passes, all-members, passes-member, under-above, under-to, under-from, above-cond, above-more, to_within, from_within, to_fresh, from_fresh, from_fresh-above, eqb-same, eqb-below, recorded-import, recorded-export, counterpart-some}
 
 
 -- ## A path leads to what is read alike, one way

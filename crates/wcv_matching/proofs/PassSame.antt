@@ -23,7 +23,7 @@ use Rattle.wcv_closed.proofs.ModuleMatching.{texts_equiv}
 use Rattle.wcv_matching.specs.Matching.{Item_rule, Entries, Reading, outside, in_instance, Fresh, within, made, in_component, right, MatchBelow, named, named_exports, named_imports}
 use Rattle.wcv_matching.specs.ModuleItems.{module_items}
 use Rattle.wcv_matching.specs.NamedPaths.{entry, follow}
-use Rattle.wcv_matching.specs.OnePass.{Atom, given, owned_in, made_in, IsAbove, under_at, component_at, imported_paths, made_paths, counterpart, imported_in, defined_in, goes, first_to, one_to_one, own_pair_up, found_in, pairs_pass, same_members, sort_number, Pass, Tests, Seen_tree, same_as, same_below}
+use Rattle.wcv_matching.specs.OnePass.{Atom, given, owned_in, made_in, IsAbove, under_at, component_at, imported_paths, made_paths, counterpart, imported_in, defined_in, goes, first_to, one_to_one, own_pair_up, found_in, pairs_pass, same_members, sort_number, Pass, Tests, Seen_tree, AreRight, same_as, same_below}
 use Rattle.wcv_matching.specs.Orderly.{NamesDiffer, Orderly, AllPathsLead}
 use Rattle.wcv_matching.specs.SameTypes.{made_at, defined_by, Pairs, Pairing, paired_imports, paired, SameAs, SameBelow}
 use Rattle.wcv_matching.proofs.NamedLists.{entry-contains, some-inj}
@@ -31,11 +31,6 @@ use Rattle.wcv_matching.proofs.TreeParts.{two}
 use Rattle.wcv_matching.proofs.SameTypes.{SameBelow-both, in_component-at, owned-defined, defined-owned}
 use Rattle.wcv_matching.proofs.BothWays.{Leads, leads_named, orderly-export, orderly-import, orderly-referenced, exports-differ, imports-differ, export-differs, import-differs, path-met, read-imported, read-defined}
 use Rattle.wcv_matching.proofs.MatchingOnce.{SameBelow-map}
-
--- the tests answer what they ask
-pub record AreRight (C : Item_rule) (test : Tests) : Type 0 where
-  pub same_seen : (s t : Seen_tree) → Decides (test.same_seen s t) (s ≡ t)
-  pub modules : (a b : Type_tree) → Decides (test.modules a b) (ModuleMatches C (module_items a) (module_items b))
 
 
 -- ## Tests on lists

@@ -1,5 +1,6 @@
 -- One pass that decides whether two types are the same, and one that decides matching.
-use Rattle.std.specs.Prelude.{ℕ, zero, suc, List, [], ◌∷◌, Bool, true, false, ◌&&◌, ◌||◌, cond, eqb, ◌<◌, Some, None, is_some, ◌+◌}
+use Rattle.std.specs.Prelude.{ℕ, zero, suc, List, [], ◌∷◌, Bool, true, false, ◌&&◌, ◌||◌, cond, eqb, ◌<◌, ◌≡◌, Some, None, is_some, ◌+◌}
+use Rattle.std.specs.Bool.{Decides}
 use Rattle.std.specs.List.{list_all}
 use Rattle.std.specs.Map.{lookup}
 use Rattle.wcv_core.specs.Names.{Name, same, member}
@@ -8,7 +9,9 @@ use Rattle.wcv_types.specs.Replacing.{or_same}
 use Rattle.wcv_types.specs.Resources.{owns}
 use Rattle.wcv_types.specs.Seen.{Within, seen}
 use Rattle.wcv_types.specs.Unfold.{Type_tree}
-use Rattle.wcv_matching.specs.Matching.{Reading, outside, opened_by, named_exports, named_imports}
+use Rattle.wcv_closed.specs.CoreModules.{ModuleMatches}
+use Rattle.wcv_matching.specs.Matching.{Item_rule, Reading, outside, opened_by, named_exports, named_imports}
+use Rattle.wcv_matching.specs.ModuleItems.{module_items}
 use Rattle.wcv_matching.specs.NamedPaths.{entry, and_then, follow}
 use Rattle.wcv_matching.specs.Orderly.{height}
 use Rattle.wcv_matching.specs.SameTypes.{defined_by}
@@ -110,6 +113,11 @@ Seen_tree = Tree (Within Atom) (Unit {0})
 pub record Tests : Type 0 where
   pub same_seen : Seen_tree → Seen_tree → Bool
   pub modules : Type_tree → Type_tree → Bool
+
+-- the tests answer what they ask
+pub record AreRight (C : Item_rule) (test : Tests) : Type 0 where
+  pub same_seen : (s t : Seen_tree) → Decides (test.same_seen s t) (s ≡ t)
+  pub modules : (a b : Type_tree) → Decides (test.modules a b) (ModuleMatches C (module_items a) (module_items b))
 
 -- the rule of each sort, where S is the pass of parts; at a level that is above none of the resources read
 abbrev pub same_as : Tests → Pass → Sort → Pass

@@ -1,5 +1,5 @@
 -- What holds of the trees that items make.
-use Rattle.std.specs.Prelude.{ℕ, suc, max, List, bytes_eq}
+use Rattle.std.specs.Prelude.{ℕ, suc, max, List, bytes_eq, Contains}
 use Rattle.std.specs.List.{IsDistinct}
 use Rattle.std.specs.Map.{keys_of}
 use Rattle.wcv_core.specs.Names.{Name}
@@ -39,6 +39,9 @@ abbrev mutual
 -- names differ in each list, and what is owned is led to
 abbrev pub Orderly : Type_tree → Type 0
 Orderly t = AllNamesDiffer t × AllPathsLead t
+
+abbrev pub EachOrderly : List (Text × Type_tree) → Type 0
+EachOrderly es = (n : Text) (x : Type_tree) → Contains es (n, x) → Orderly x
 
 -- ## Core modules
 

@@ -1,5 +1,6 @@
 // Laws of matching, over trees whose core types are of one table.
 ghost use Rattle.std.specs.Prelude.{◌≡◌, ℕ, List, true};
+ghost use Rattle.std.specs.Bool.{Decides};
 ghost use Rattle.wcv_core.specs.CoreForm.{Group};
 ghost use Rattle.wcv_core.specs.Names.{Name, member};
 ghost use Rattle.wcv_types.specs.Paths.{PathLeadsTo};
@@ -9,8 +10,10 @@ ghost use Rattle.wcv_types.specs.Tree.{Text, head, imported_at, imports};
 ghost use Rattle.wcv_types.specs.Unfold.{Type_tree};
 ghost use Rattle.wcv_closed.specs.ClosedMatching.{SupersKeepForm};
 ghost use Rattle.wcv_closed.specs.ClosedTable.{IsTable};
-ghost use Rattle.wcv_matching.specs.Orderly.{AllNamesDiffer};
-ghost use Rattle.wcv_matching.specs.TableMatching.{ModulesMatchThemselves, Opens, TypeMatches};
+ghost use Rattle.wcv_matching.specs.ModuleItems.{ItemsMatch};
+ghost use Rattle.wcv_matching.specs.OnePass.{AreRight, Tests, argument_for, opens_pass, passes_match, passes_same};
+ghost use Rattle.wcv_matching.specs.Orderly.{AllNamesDiffer, EachOrderly, Orderly};
+ghost use Rattle.wcv_matching.specs.TableMatching.{MatchesByOnce, ModulesMatchThemselves, Opens, SameTypes, TypeMatches};
 
 /// Each type whose names differ matches itself.
 pub fn a_type_matches_itself()
@@ -40,4 +43,29 @@ pub fn renaming_keeps_matching()
 pub fn at_most_one_substitution_opens()
     ensures { (gs : List Group) (p : List ℕ) (r : Name) (s t : Name → Name) (args : List (Text × Type_tree)) (c : Type_tree) → PathLeadsTo p r (imports c) → member r (imported_at (head c)) ≡ true
         → Opens gs s args c → Opens gs t args c → s r ≡ t r }
+{}
+
+/// Types that are the same match each other, and types of items that match each other are the same.
+pub fn same_types_match_both_ways()
+    ensures to { (gs : List Group) (a b : Type_tree) → SameTypes gs a b → TypeMatches gs a b × TypeMatches gs b a }
+    ensures from { (gs : List Group) (a b : Type_tree) → Orderly a → Orderly b → TypeMatches gs a b → TypeMatches gs b a → SameTypes gs a b }
+{}
+
+/// Between types of items, to match is to match where a type entry asks once whether the types are the same.
+pub fn matching_asks_once()
+    ensures to { (gs : List Group) (a b : Type_tree) → Orderly a → Orderly b → MatchesByOnce gs a b → TypeMatches gs a b }
+    ensures from { (gs : List Group) (a b : Type_tree) → Orderly a → Orderly b → TypeMatches gs a b → MatchesByOnce gs a b }
+{}
+
+/// One pass decides matching, and one decides whether types are the same, for each type that items make.
+pub fn one_pass_decides_matching()
+    ensures matches { (gs : List Group) (test : Tests) (a b : Type_tree) → AreRight (ItemsMatch gs) test → Orderly a → Orderly b → Decides (passes_match test a b) (TypeMatches gs a b) }
+    ensures same { (gs : List Group) (test : Tests) (a b : Type_tree) → AreRight (ItemsMatch gs) test → Orderly a → Orderly b → Decides (passes_same test a b) (SameTypes gs a b) }
+{}
+
+/// The pass over arguments and imports decides whether some substitution opens, and each that opens is the one that the recorded paths
+/// find.
+pub fn one_pass_decides_openings()
+    ensures opens { (gs : List Group) (test : Tests) (args : List (Text × Type_tree)) (c : Type_tree) → AreRight (ItemsMatch gs) test → EachOrderly args → Orderly c → Decides (opens_pass test args c) ((s : Name → Name) × Opens gs s args c) }
+    ensures found { (gs : List Group) (s : Name → Name) (args : List (Text × Type_tree)) (c : Type_tree) (r : Name) → Orderly c → Opens gs s args c → member r (imported_at (head c)) ≡ true → argument_for args c r ≡ s r }
 {}
