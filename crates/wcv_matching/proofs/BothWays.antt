@@ -13,7 +13,7 @@ use Rattle.wcv_types.specs.Resources.{owns, RefersTo}
 use Rattle.wcv_types.specs.Seen.{Within, outer, inner, seen}
 use Rattle.wcv_types.specs.Unfold.{Type_tree}
 use Rattle.wcv_closed.proofs.ModuleMatching.{texts_equiv}
-use Rattle.wcv_matching.specs.Matching.{Item_rule, Entries, Reading, outside, in_instance, Fresh, within, made, in_component, atoms, left, right, Matching, MatchAs, MatchBelow, named, named_exports, named_imports, named_exports_in, named_imports_in}
+use Rattle.wcv_matching.specs.Matching.{Item_rule, Entries, Reading, outside, in_instance, Fresh, within, made, in_component, atoms, left, right, Matching, MatchAs, MatchBelow, named, named_exports, named_imports}
 use Rattle.wcv_matching.specs.NamedPaths.{entry, and_then, resource_at, follow}
 use Rattle.wcv_matching.specs.Orderly.{NamesDiffer, AllNamesDiffer, PartNamesDiffer, AllPathsLead, PartPathsLead, Orderly}
 use Rattle.wcv_matching.specs.SameTypes.{made_at, Pairs, paired_imports, paired, SameAs, SameBelow}
@@ -36,7 +36,6 @@ pub leads_named : (p : List ℕ) (r : Name) (es : List (Extern_name × Type_tree
 leads_named [] r es l = absurd l
 leads_named (k ∷ []) r es l = ((l.0.0.name, l.0.1), named_get es k l.0 l.1, l.2)
 leads_named (k ∷ j ∷ p) r es l = ((l.0.0.name, l.0.1), named_get es k l.0 l.1, l.2, leads_named (j ∷ p) r (tree.exports l.0.1) l.3)
-
 
 -- ## A path leads in both to resources that are read alike
 
@@ -145,7 +144,6 @@ module _ (C : Item_rule) where
         outside-from x.0 f' w.0 (g' r) (w.3 ∙ outside-read t g' r l.2.1),
       )
 
-
 -- ## Recorded paths
 abbrev LedBy : List (Name × List ℕ) → List (Extern_name × Type_tree) → Type 0
 LedBy ps es = All (λ (p : Name × List ℕ). PathLeadsTo p.1 p.0 es) ps
@@ -185,7 +183,6 @@ led-export (node (core_module i w) ps) l r h = cc
 led-export (node (core_instance i w) ps) l r h = cc
 led-export (node (core_type i) ps) l r h = cc
 led-export (node (core_item i) ps) l r h = cc
-
 
 -- ## The own resources of two components
 pub read-imported : {A : Type 0} (x : Head Name Name) (s t : Reading (Fresh A)) (f : Reading A) (r : Name) → member r (imported_at x) ≡ true → in_component x s t f r ≡ s r
@@ -262,7 +259,6 @@ module _ (C : Item_rule) where
         let e' : right t g b w.0 ≡ made r = w.3 ∙ read-defined (head a) (λ z. within (s z)) made f r o i in
         let z = defined-from (head b) g s' t (t' r) w.0 r e e' in
         (w.0, w.1, z.0, z.1)
-
 
 -- ## From both directions to Same
 orderly-parts : (ps : Parts Name Name) → PartNamesDiffer ps → PartPathsLead ps → EachPart Orderly ps

@@ -1,8 +1,8 @@
 -- A list that joins a map from its end leads to the first entry of each key.
-use Rattle.std.proofs.Common.{◌≡◌, ℕ, zero, suc, ◌-◌, ◌<◌, ◌≤◌, List, [], ◌∷◌, length, drop, Bool, ◌&&◌, cond, Option, Some, None, refl, sym, ◌∙◌, ap, arith, subst, bytes_eq, Bor, nat_cmp, Ordering}
+use Rattle.std.proofs.Common.{◌≡◌, ℕ, zero, suc, ◌-◌, ◌<◌, List, [], ◌∷◌, length, drop, Bool, ◌&&◌, cond, Option, Some, None, refl, sym, ◌∙◌, ap, arith, bytes_eq, Bor, nat_cmp, Ordering}
 use Rattle.std.specs.Prelude.{slice_get}
 use Rattle.std.specs.BTreeMap.{BTreeMap, Updates}
-use Rattle.std.specs.Cmp.{IsEquivalence, tied_then}
+use Rattle.std.specs.Cmp.{tied_then}
 use Rattle.std.specs.Cmp.Lexicographic.{slice_cmp}
 use Rattle.std.specs.Map.{lookup}
 use Rattle.std.specs.Ordering.{is_eq, ordering_then}

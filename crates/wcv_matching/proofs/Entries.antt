@@ -1,5 +1,5 @@
 -- A loop over a list finds what holds of each element, or one of which it does not hold.
-use Rattle.std.proofs.Common.{◌≡◌, ℕ, zero, suc, ◌+◌, ◌<◌, ◌≤◌, ◌⊎◌, inl, inr, List, [], ◌∷◌, length, Bool, Option, Some, None, refl, sym, ◌∙◌, ap, arith, subst, slice_index_or}
+use Rattle.std.proofs.Common.{◌≡◌, ℕ, zero, suc, ◌+◌, ◌<◌, ◌≤◌, ◌⊎◌, inl, inr, List, [], ◌∷◌, length, Some, None, sym, ◌∙◌, ap, arith, subst, slice_index_or}
 use Rattle.std.specs.Prelude.{slice_get, Contains, All}
 use Rattle.std.proofs.lemmas.List.Elements.{All-contains}
 use Rattle.wcv_matching.specs.Standings.{EachBefore}

@@ -1,10 +1,10 @@
 -- The tests by ids decide whether items match.
-use Rattle.std.proofs.Common.{◌≡◌, ℕ, ◌<◌, ◌≤◌, List, Bool, true, false, not, ◌&&◌, cond, eqb, eq-eqb, Option, Some, None, refl, sym, ◌∙◌, ap, arith, subst, nat_lt}
+use Rattle.std.proofs.Common.{◌≡◌, ℕ, ◌≤◌, List, Bool, true, false, not, ◌&&◌, eqb, eq-eqb, Option, Some, None, refl, ap, arith, nat_lt}
 use Rattle.std.proofs.lemmas.Bool.{eqb-true}
 use Rattle.std.proofs.lemmas.Bool.Decides.{nat_tests}
 use Rattle.wcv_core.specs.CoreForm.{Group}
 use Rattle.wcv_core.specs.CoreGroups.{total, IsHeapWithin, IsValWithin}
-use Rattle.wcv_core.specs.CoreMatching.{same_bool, same_name, val_matches}
+use Rattle.wcv_core.specs.CoreMatching.{same_bool}
 use Rattle.wcv_core.specs.CoreSizes.{IsEntityWithin}
 use Rattle.wcv_core.specs.CoreWritten.{closed_mark}
 use Rattle.wcv_core.specs.declared.core_types.AbstractHeap.{AbstractHeap}
@@ -20,7 +20,7 @@ use Rattle.wcv_core.specs.declared.core_types.ValType.{ValType}
 use Rattle.wcv_core.specs.declared.core_types.ValType.TheVariants as val
 use Rattle.wcv_core.proofs.Comparing.{names_told}
 use Rattle.wcv_core.proofs.Names.{and_left, and_right}
-use Rattle.wcv_closed.specs.ClosedItems.{RefEqual, ValEqual, IsBoundWithin, LimitsMatch, MemoryMatches, TableMatches, ContentMatches, GlobalMatches, ItemMatches}
+use Rattle.wcv_closed.specs.ClosedItems.{RefEqual, ValEqual, IsBoundWithin, LimitsMatch, MemoryMatches, ContentMatches, ItemMatches}
 use Rattle.wcv_closed.specs.ClosedMatching.{is_shared, shared_mark}
 use Rattle.wcv_closed.specs.ClosedTable.{IsTable}
 use Rattle.wcv_closed.specs.ClosedType.{Closed, closed}

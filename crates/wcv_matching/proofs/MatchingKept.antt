@@ -3,7 +3,7 @@ use Rattle.std.proofs.Common.{◌≡◌, ℕ, List, [], ◌∷◌, map, Bool, tr
 use Rattle.std.proofs.Math.Path.{fun_ext}
 use Rattle.std.specs.Bool.{one_answer}
 use Rattle.wcv_core.specs.Names.{Name, member}
-use Rattle.wcv_types.specs.Tree.{Head, nothing, primitive, resource, defined, func, instance, component, type_entity, core_module, core_instance, core_type, core_item, Tree, node, Parts, none, part, firsts, imported_at}
+use Rattle.wcv_types.specs.Tree.{Head, nothing, primitive, resource, defined, func, instance, component, type_entity, core_module, core_instance, core_type, core_item, node, Parts, none, part, firsts, imported_at}
 use Rattle.wcv_types.specs.Rename.{rename, rename_paths}
 use Rattle.wcv_types.specs.Resources.{owns, Free, FreeIn, spare, substitute_head, substitute, substitute_parts, Admits, AdmitsIn}
 use Rattle.wcv_types.specs.Unfold.{Type_tree}
@@ -13,9 +13,7 @@ use Rattle.wcv_matching.specs.Matching.{Item_rule, Reading, MatchBelow, Matches}
 use Rattle.wcv_matching.proofs.TreeParts.{below-as}
 use Rattle.wcv_matching.proofs.Moved.{move_head, moved, move, move_parts, Moves, MovesIn, MatchBelow-carry, rename-move, member-map_in, member-map_from}
 
-
 -- ## Replacing is a move
-
 
 substitute_head-move : (u : Name → Name) (x : Head Name Name) → substitute_head u x ≡ move_head (λ i. i) (λ r. r) u x
 substitute_head-move u nothing = refl
@@ -81,7 +79,6 @@ mutual
   moves_in-admitted u none a = tt
   moves_in-admitted u (part l t ps) a = (moves-admitted u t a.0, moves_in-admitted u ps a.1)
 
-
 -- ## Matching of trees in which resources are replaced
 -- replacing u and v, or u' and v', in the same trees
 module _ (C : Item_rule) where
@@ -136,7 +133,6 @@ module _ (C : Item_rule) where
       ((r : Name) → Free r a → v (u r) ≡ r) → ((r : Name) → Free r b → v (u r) ≡ r) → Matches C (substitute u a) (substitute u b) → Matches C a b
   Matches-back u v a b k l p q m =
       (m.0, MatchBelow-map C m.0 Name Name v u u (λ r. r) (λ r. r) a b p q (MatchBelow-out_of C m.0 Name (λ r. r) (λ r. r) u u a b k l m.1))
-
 
 -- ## Renaming everywhere, own resources and identities too
 pub member-renamed : (f back : Name → Name) → ((r : Name) → back (f r) ≡ r) → (r : Name) (xs : List Name) → member (f r) (map f xs) ≡ member r xs

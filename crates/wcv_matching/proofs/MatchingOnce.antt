@@ -15,7 +15,6 @@ use Rattle.wcv_matching.proofs.MatchingOrder.{Goes_on, MatchBelow-add, MatchBelo
 use Rattle.wcv_matching.proofs.SameTypes.{SameBelow-both}
 use Rattle.wcv_matching.proofs.BothWays.{orderly-export, orderly-import, orderly-referenced, SameBelow-from}
 
-
 -- ## Same at the top
 
 module _ (C : Item_rule) where
@@ -26,7 +25,6 @@ module _ (C : Item_rule) where
         (MatchBelow-add C n.0 m.0 (n.0 + m.0) Name (λ r. r) (λ r. r) a b refl m.1)
         (MatchBelow-add C m.0 n.0 (n.0 + m.0) Name (λ r. r) (λ r. r) b a (omega arith) n.1),
   )
-
 
 -- ## Same is an equivalence, and asks of readings only how they read what is free
 module _ (C : Item_rule) where
@@ -48,7 +46,6 @@ module _ (C : Item_rule) where
   SameBelow-map d A B h f g f' g' a b oa ob p q m =
       let w = SameBelow-both C d A f g a b m in
       SameBelow-from C d B f' g' a b oa ob (MatchBelow-map C d A B h f g f' g' a b p q w.0) (MatchBelow-map C d A B h g f g' f' b a q p w.1)
-
 
 -- ## Matching once
 pub EachFound-in : {X : Type 0} (R S : X → X → Type 0) (xs ys : List (Text × X)) → ((n : Text) (x y : X) → Contains xs (n, x) → Contains ys (n, y) → R x y → S x y) → Entries R xs ys → Entries S xs ys

@@ -27,7 +27,6 @@ modules_on {C} on a b c p q = record {
   exports = each_on bytes_eq C C C a.exports b.exports c.exports same_text (λ k x y z i j l r s. on x y z r s) p.exports q.exports;
 }
 
-
 pub EachFound-trans : {X : Type 0} {R S T : X → X → Type 0} (xs ys zs : List (Text × X)) → ((x y z : X) → R x y → S y z → T x z) →
     Entries R xs ys → Entries S ys zs → Entries T xs zs
 EachFound-trans xs ys zs k p q = λ n z c.
@@ -104,7 +103,6 @@ module _ (C : Item_rule) where
   MatchBelow-trans on (suc d) A f g h a b c p q =
       (p.0 ∙ q.0, MatchAs-trans C on d (MatchBelow-trans on d) (sort a) A f g h a b c p.1 (subst (λ (s : Sort). MatchAs C (MatchBelow C d) s A g h b c) (sym p.0) q.1))
 
-
 -- ## Reflexivity
 pub EachFound-refl : {X : Type 0} (R : X → X → Type 0) (xs : List (Text × X)) → NamesDiffer xs → ((n : Text) (x : X) → Contains xs (n, x) → R x x) → Entries R xs xs
 EachFound-refl R xs d k n y c = (y, lookup-from_Contains texts_equiv n y xs d c, k n y c)
@@ -162,7 +160,6 @@ module _ (C : Item_rule) where
 module _ (C : Item_rule) where
   pub Matches-refl : (t : Type_tree) → AllNamesDiffer t → EachModule (λ m. ModuleMatches C m m) t → Matches C t t
   Matches-refl t p m = (suc (height t), MatchBelow-refl C (suc (height t)) Name (λ r. r) t (p, m, omega arith))
-
 
 -- ## A greater bound on the height
 pub EachFound-map : {X : Type 0} (R S : X → X → Type 0) (xs ys : List (Text × X)) → ((x y : X) → R x y → S x y) → Entries R xs ys → Entries S xs ys

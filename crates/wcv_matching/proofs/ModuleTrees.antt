@@ -1,12 +1,12 @@
 -- What the tree of a core module or of a core instance imports and exports is what its node does.
-use Rattle.std.proofs.Common.{◌≡◌, List, [], ◌∷◌, ◌++◌, map, Some, refl, sym, ◌∙◌, ap, subst}
+use Rattle.std.proofs.Common.{◌≡◌, List, [], ◌∷◌, ◌++◌, map, refl, sym, ◌∙◌, ap, subst}
 use Rattle.std.specs.Prelude.{All}
 use Rattle.std.proofs.lemmas.List.{append-nil}
 use Rattle.std.proofs.lemmas.List.Elements.{All-nil, All-cons, All-head, All-tail}
 use Rattle.wcv_core.specs.declared.core_types.EntityType.{EntityType}
-use Rattle.wcv_types.specs.Tree.{Text, Head, node, parts}
+use Rattle.wcv_types.specs.Tree.{Text, parts}
 use Rattle.wcv_types.specs.Arena.{Arena}
-use Rattle.wcv_types.specs.Unfold.{Type_tree, core_import_slots, core_export_slots, module_slots, slot_parts, kind_slots, parts_in, parts_of, place, unfolded, tree_at, trees, head_of}
+use Rattle.wcv_types.specs.Unfold.{Type_tree, core_import_slots, core_export_slots, slot_parts, kind_slots, parts_in, parts_of, place, unfolded, tree_at, trees}
 use Rattle.wcv_types.specs.declared.arena.Node.TheVariants as n
 use Rattle.wcv_types.specs.declared.core_shapes.ModuleType.{ModuleType}
 use Rattle.wcv_types.specs.declared.core_shapes.InstanceType.{InstanceType}

@@ -16,7 +16,6 @@ use Rattle.wcv_matching.specs.ModuleItems.{item_at, before, core_imports_in, cor
 use Rattle.wcv_matching.proofs.NamedLists.{map-map, over, EachFound-over, EachFound-back}
 use Rattle.wcv_matching.proofs.TreeParts.{EachPart, at_export, at_import, each-free, second-free, owns-type, below-as, ArePartsOf, two}
 
-
 -- own resources are renamed by k, free ones replaced by u, identities renamed by g
 abbrev pub move_head : (Name → Name) → (Name → Name) → (Name → Name) → Head Name Name → Head Name Name
 move_head g k u nothing = nothing
@@ -143,7 +142,6 @@ moved-type : (k : Name → Name) (x : Head Name Name) → sort_at x ≡ is_type 
 moved-type k (instance i own) e u = cc
 moved-type k (component i ins outs) e u = cc
 moved-type k _ e u = refl
-
 
 -- ## Two moves of one tree
 -- c takes the own names of the first move to those of the second, h what is read
@@ -394,7 +392,6 @@ module _ (C : Item_rule) where
               (MatchAs-carry d (MatchBelow-carry d) (sort_at x) A B h f₁ g'₁ f₂ g'₂ u₁ u₂ v₁ v₂ x y ps qs refl (sym same_sort) m n m' n' p q
               (subst (λ (s : Sort). MatchAs C (MatchBelow C d) s A f₁ g'₁ (move g₁ k₁ u₁ (node x ps)) (move g₁ k₁ v₁ (node y qs))) (sort_at-move g₁ k₁ u₁ x) w.1)),
         )
-
 
 -- ## Replacing and renaming are moves
 pub rename_head-move : (f g : Name → Name) (x : Head Name Name) → rename_head f g x ≡ move_head g f f x

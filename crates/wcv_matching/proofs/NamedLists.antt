@@ -4,7 +4,6 @@ use Rattle.std.proofs.lemmas.Option.{slice_get_cases}
 use Rattle.std.proofs.lemmas.List.{get_or-map as get_or_map}
 use Rattle.std.specs.Prelude.{Contains, slice_get, Option, Some, None}
 use Rattle.std.specs.Option.{option_map}
-use Rattle.std.specs.Map.{lookup}
 use Rattle.std.proofs.lemmas.Map.Made.{lookup-map_values}
 use Rattle.std.proofs.lemmas.Map.Views.{Contains-from_lookup}
 use Rattle.std.proofs.lemmas.List.{length-map}
@@ -13,8 +12,6 @@ use Rattle.wcv_types.specs.Tree.{Text}
 use Rattle.wcv_closed.proofs.ModuleMatching.{same_text}
 use Rattle.wcv_matching.specs.Matching.{Entries}
 use Rattle.wcv_matching.specs.NamedPaths.{entry}
-
-
 
 pub map-map : {A B C : Type 0} (h : B → C) (f : A → B) (xs : List A) → map h (map f xs) ≡ map (λ x. h (f x)) xs
 map-map h f [] = refl

@@ -13,7 +13,6 @@ use Rattle.wcv_matching.proofs.Entries.{among}
 use Rattle.wcv_matching.proofs.MatchingOrder.{MatchBelow-add}
 use Rattle.wcv_matching.proofs.NamedLists.{some-inj}
 
-
 pub named_get : {X : Type 0} (es : List (Extern_name × X)) (k : ℕ) (e : Extern_name × X) → slice_get es k ≡ Some e → slice_get (named es) k ≡ Some (e.0.name, e.1)
 named_get [] k e h = cc
 named_get (x ∷ es) zero e h = ap (λ (z : Extern_name × _). Some (z.0.name, z.1)) (some-inj h)

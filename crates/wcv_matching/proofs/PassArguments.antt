@@ -18,7 +18,6 @@ use Rattle.wcv_matching.proofs.PassSame.{recorded-import, counterpart-some}
 use Rattle.wcv_matching.proofs.PassMatches.{path-met_once, each-decide, match_below-decides}
 use Rattle.wcv_matching.proofs.PassBound.{enough-both, MatchBelow-at, name_of}
 
-
 -- more than the height of each entry
 total : List (Text × Type_tree) → ℕ
 total [] = 0

@@ -20,7 +20,6 @@ use Rattle.wcv_matching.proofs.MatchingOnce.{SameBelow-map, EachFound-in}
 use Rattle.wcv_matching.proofs.PassSame.{same_below-decides}
 use Rattle.wcv_matching.proofs.PassMatches.{match_below-decides}
 
-
 -- e is enough for the tree
 abbrev pub Enough : ℕ → Type_tree → Type 0
 Enough e t = (height t < e) ⊎ ((t ≡ node nothing none) × (0 < e))
@@ -88,7 +87,6 @@ module _ (C : Item_rule) where
   MatchBelow-at zero d A f g a b ha hb m = absurd (⊎_elim (λ (l : height a < 0). absurd (omega arith)) (λ q. absurd (omega (arith, q.1))) ha)
   MatchBelow-at (suc e) zero A f g a b ha hb m = absurd m
   MatchBelow-at (suc e) (suc d) A f g a b ha hb m = (m.0, lower-as C e d (MatchBelow-at e) (sort a) A f g a b refl (sym m.0) ha hb m.1)
-
 
 -- ## The two passes at the top
 abbrev pub name_of : Atom → Name

@@ -23,7 +23,6 @@ use Rattle.wcv_matching.proofs.SameTypes.{SameBelow-both, owned-defined}
 use Rattle.wcv_matching.proofs.BothWays.{Leads, orderly-export, orderly-import, orderly-referenced, outside-from, then-then, reference-met, SameBelow-from, read-imported, read-defined}
 use Rattle.wcv_matching.proofs.PassSame.{ReadsAbove, same_below-decides, same_members-decides, sorts-decide, and_left, and_right, and_both, all-pass, passes, all-members, passes-member, under-above, under-to, under-from, above-cond, above-more, to_within, from_within, to_fresh, from_fresh, from_fresh-above, eqb-same, eqb-below, recorded-import, recorded-export, counterpart-some}
 
-
 -- ## A path leads to what is read alike, one way
 
 module _ (C : Item_rule) where
@@ -74,7 +73,6 @@ each-decide {X} T R xs ys k = (to, from)
 
     from : Entries R xs ys → each_passes T xs ys ≡ true
     from p = all-pass (found_in T xs) ys (founds p)
-
 
 -- ## Readings
 at-to : (k : ℕ) (x : Head Name Name) (s t : Reading (Fresh Atom)) (f s' t' : Reading Atom) →
@@ -146,7 +144,6 @@ within-not_made k x g h q w m = go (owns x q) refl (member q (imported_at x)) re
 true-not : (b : Bool) → cond b false true ≡ true → b ≡ false
 true-not true h = sym h
 true-not false h = refl
-
 
 -- ## The pass decides matching
 module _ (C : Item_rule) where

@@ -18,12 +18,10 @@ use Rattle.wcv_types.specs.Tree.{Text, Extern_name, Head, nothing, primitive, re
 use Rattle.wcv_types.specs.Resources.{owns}
 use Rattle.wcv_types.specs.Seen.{Within, outer, inner, seen}
 use Rattle.wcv_types.specs.Unfold.{Type_tree}
-use Rattle.wcv_closed.specs.CoreModules.{ModuleMatches}
 use Rattle.wcv_closed.proofs.ModuleMatching.{texts_equiv}
 use Rattle.wcv_matching.specs.Matching.{Item_rule, Entries, Reading, outside, in_instance, Fresh, within, made, in_component, right, MatchBelow, named, named_exports, named_imports}
-use Rattle.wcv_matching.specs.ModuleItems.{module_items}
 use Rattle.wcv_matching.specs.NamedPaths.{entry, follow}
-use Rattle.wcv_matching.specs.OnePass.{Atom, given, owned_in, made_in, IsAbove, under_at, component_at, imported_paths, made_paths, counterpart, imported_in, defined_in, goes, first_to, one_to_one, own_pair_up, found_in, pairs_pass, same_members, sort_number, Pass, Tests, Seen_tree, AreRight, same_as, same_below}
+use Rattle.wcv_matching.specs.OnePass.{Atom, given, owned_in, made_in, IsAbove, under_at, component_at, imported_paths, made_paths, counterpart, imported_in, defined_in, goes, first_to, one_to_one, own_pair_up, found_in, pairs_pass, same_members, sort_number, Pass, Tests, AreRight, same_as, same_below}
 use Rattle.wcv_matching.specs.Orderly.{NamesDiffer, Orderly, AllPathsLead}
 use Rattle.wcv_matching.specs.SameTypes.{made_at, defined_by, Pairs, Pairing, paired_imports, paired, SameAs, SameBelow}
 use Rattle.wcv_matching.proofs.NamedLists.{entry-contains, some-inj}
@@ -31,7 +29,6 @@ use Rattle.wcv_matching.proofs.TreeParts.{two}
 use Rattle.wcv_matching.proofs.SameTypes.{SameBelow-both, in_component-at, owned-defined, defined-owned}
 use Rattle.wcv_matching.proofs.BothWays.{Leads, leads_named, orderly-export, orderly-import, orderly-referenced, exports-differ, imports-differ, export-differs, import-differs, path-met, read-imported, read-defined}
 use Rattle.wcv_matching.proofs.MatchingOnce.{SameBelow-map}
-
 
 -- ## Tests on lists
 
@@ -151,7 +148,6 @@ sorts-true _ _ h = cc
 pub sorts-decide : (s t : Sort) → Decides (eqb (sort_number s) (sort_number t)) (s ≡ t)
 sorts-decide s t = (sorts-true s t, λ e. eq-eqb _ _ (ap sort_number e))
 
-
 -- ## The atoms of one type, and those that grow
 pub eqb-same : (k : ℕ) → eqb k k ≡ true
 eqb-same k = eq-eqb k k refl
@@ -229,7 +225,6 @@ component-from k x i o f h r =
     (two (from_fresh k) (member r (imported_at x)) (owned_in k (i r)) (made_in k (o r)) (within (inner (i r))) (made (o r)) (rw (eqb-same k) refl) (rw (eqb-same k) refl))
     (from_fresh-above k (f r) (h r))
 
-
 -- ## What the pass says of parts
 module _ (C : Item_rule) where
   abbrev pub IsRight : ℕ → Pass → Type 0
@@ -254,7 +249,6 @@ module _ (C : Item_rule) where
       (SameBelow-map C d (Fresh Atom) Atom (to_fresh k) (paired i o f a) (right made g b) _ _ x y ox oy (λ r _. component-to k (head a) i o f r) (λ r _. component-to k (head b) (λ z. z) (λ z. z) g r))
       (right_d (suc k) (component_at (head a) (λ r. owned_in k (i r)) (λ r. made_in k (o r)) f) (component_at (head b) (owned_in k) (made_in k) g) x y ox oy
       (component-above k (head a) i o f hf) (component-above k (head b) (λ z. z) (λ z. z) g hg))
-
 
 -- ## Counterparts
 abbrev LedBy : List (Name × List ℕ) → List (Extern_name × Type_tree) → Type 0
@@ -352,7 +346,6 @@ module _ (C : Item_rule) where
           let z = reads-made (head b) (λ q. q) (λ q. q) g w.0 (p.defined_to r) e' in
           counterpart-some (made_paths (head a)) (named_exports a) (named_exports b) r w.0 l.0 l.1 w.1 ∙ z.2
 
-
 -- ## One to one
 cond-goes : (skip : Name → Bool) (to : Name → Name) (q r : Name) → goes skip to q r ≡ true → (skip r ≡ false) × (to r ≡ q)
 cond-goes skip to q r h = go (skip r) refl
@@ -394,7 +387,6 @@ pub one_to_one-to : (skip : Name → Bool) (to : Name → Name) (rs : List Name)
 one_to_one-to skip to rs h r n m =
     same-true (first_to skip to (to r) rs) r
     (or_then (skip r) (same (first_to skip to (to r) rs) r) (passes-member (λ r. skip r || same (first_to skip to (to r) rs) r) rs h r m) n)
-
 
 -- ## The pass decides
 paired-same : {A : Type 0} (x : Head Name Name) (i i' o o' : Name → Name) (f : Reading A) → ((r : Name) → member r (imported_at x) ≡ true → i r ≡ i' r) →

@@ -10,7 +10,6 @@ use Rattle.wcv_matching.specs.SameTypes.{made_at, Pairs, paired_imports, paired,
 use Rattle.wcv_matching.proofs.MatchingKept.{MatchBelow-map}
 use Rattle.wcv_matching.proofs.MatchingOrder.{open_inner, open_made, EachFound-map}
 
-
 -- ## Readings in a component
 
 -- what is read may be mapped on; t is used for defined resources alone
@@ -48,7 +47,6 @@ defined-owned (core_module i w) r e = cc
 defined-owned (core_instance i w) r e = cc
 defined-owned (core_type i) r e = cc
 defined-owned (core_item i) r e = cc
-
 
 -- ## From Same to both directions
 abbrev pub Both : Matching → Matching

@@ -1,20 +1,15 @@
 -- Matching over the core types of one table.
-use Rattle.std.proofs.Common.{◌≡◌, ℕ, zero, suc, ◌+◌, ◌<◌, ◌≤◌, ◌⊎◌, inl, inr, List, [], ◌∷◌, length, get_or, Option, Some, None, refl, sym, ◌∙◌, ap, subst, arith, true}
-use Rattle.wcv_core.specs.Names.{Name, member}
+use Rattle.std.proofs.Common.{◌≡◌, ℕ, zero, suc, ◌<◌, ◌≤◌, ◌⊎◌, inl, inr, List, [], ◌∷◌, length, get_or, Some, None, refl, sym, ap, subst, arith}
 use Rattle.wcv_core.specs.CoreForm.{Group}
-use Rattle.wcv_core.specs.CoreGroups.{total, IsHeapWithin}
+use Rattle.wcv_core.specs.CoreGroups.{total}
 use Rattle.wcv_core.specs.declared.core_types.EntityType.{EntityType}
 use Rattle.wcv_core.specs.declared.core_types.EntityType.TheVariants as entity
 use Rattle.wcv_core.specs.declared.core_types.HeapType.{HeapType}
 use Rattle.wcv_core.specs.declared.core_types.HeapType.TheVariants as heap
 use Rattle.wcv_core.specs.declared.core_types.ValType.{ValType}
 use Rattle.wcv_core.specs.declared.core_types.ValType.TheVariants as val
-use Rattle.wcv_types.specs.Paths.{PathLeadsTo}
-use Rattle.wcv_types.specs.Tree as tree
-use Rattle.wcv_types.specs.Tree.{Text, head, imported_at}
-use Rattle.wcv_types.specs.Unfold.{Type_tree}
-use Rattle.wcv_closed.specs.ClosedItems.{ItemMatches, ItemKeepsForm}
-use Rattle.wcv_closed.specs.ClosedMatching.{form_word, Leads, IsBelow, KeepsForm, HeapKeepsForm, ValKeepsForm, SupersKeepForm}
+use Rattle.wcv_closed.specs.ClosedItems.{ItemKeepsForm}
+use Rattle.wcv_closed.specs.ClosedMatching.{form_word, Leads, KeepsForm, HeapKeepsForm, ValKeepsForm, SupersKeepForm}
 use Rattle.wcv_closed.specs.ClosedTable.{IsTable}
 use Rattle.wcv_closed.specs.ClosedType.{Closed, closed, all_closed, no_closed}
 use Rattle.wcv_closed.specs.ClosedValue.{closed_heap, closed_val, closed_item}

@@ -8,7 +8,6 @@ use Rattle.wcv_types.specs.Resources.{owns, Free, FreeIn}
 use Rattle.wcv_types.specs.Unfold.{Type_tree}
 use Rattle.wcv_matching.specs.Matching.{Item_rule, Reading, MatchBelow, named_exports_in, named_imports_in}
 
-
 abbrev pub EachPart : (Type_tree → Type 0) → Parts Name Name → Type 0
 EachPart P none = Unit {0}
 EachPart P (part k t ps) = P t × EachPart P ps

@@ -1,5 +1,5 @@
 -- When one type matches another.
-use Rattle.std.specs.Prelude.{ℕ, zero, suc, List, map, cond, Bool, bytes_eq, ◌≡◌}
+use Rattle.std.specs.Prelude.{ℕ, zero, suc, List, map, cond, bytes_eq, ◌≡◌}
 use Rattle.wcv_core.specs.Names.{Name, member}
 use Rattle.wcv_core.specs.declared.core_types.EntityType.{EntityType}
 use Rattle.wcv_types.specs.Tree.{Text, Extern_name, Head, Tree, Parts, Sort, is_instance, is_component, is_type, is_module, head, sort, parts, exports_in, imports_in, referenced, owned, imported_at}

@@ -1,5 +1,5 @@
 -- What core modules and core instances of a tree import and export, by ids of a table.
-use Rattle.std.specs.Prelude.{List, [], ◌∷◌, ◌++◌, map, Option, Some, None}
+use Rattle.std.specs.Prelude.{List, [], ◌∷◌, ◌++◌, Option, Some, None}
 use Rattle.wcv_core.specs.CoreForm.{Group}
 use Rattle.wcv_core.specs.declared.core_types.EntityType.{EntityType}
 use Rattle.wcv_types.specs.Tree.{Text, Head, core_item, here, core_import, core_export, Tree, Parts, none, part, head, parts}

@@ -86,7 +86,13 @@ fn check_argument<'a>(
     let module = import.0.0.as_str();
     let name = import.0.1.as_str();
     let found = export_under(items, module, name);
-    check_item(types, found, &import.1, Sought::Argument(module, name), offset)
+    check_item(
+        types,
+        found,
+        &import.1,
+        Sought::Argument(module, name),
+        offset,
+    )
 }
 
 /// Whether the arguments serve each of the imports.

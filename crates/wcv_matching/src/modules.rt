@@ -51,12 +51,7 @@ impl fmt::Display for Sought<'_> {
 }
 
 /// The refusal of what is not there, or is not as expected.
-fn unfit(
-    found: Option<EntityType>,
-    expected: &EntityType,
-    sought: Sought<'_>,
-    offset: u64,
-) -> Error
+fn unfit(found: Option<EntityType>, expected: &EntityType, sought: Sought<'_>, offset: u64) -> Error
     ensures kind { error_kind result ≡ ErrorKind.Mismatch }
     ensures offset { error_offset result ≡ offset }
 {
@@ -132,16 +127,17 @@ fn check_import<'a>(
     let module = import.0.0.as_str();
     let name = import.0.1.as_str();
     let found = items.get(&(module, name)).copied();
-    check_item(types, found, &import.1, Sought::Import(module, name), offset)
+    check_item(
+        types,
+        found,
+        &import.1,
+        Sought::Import(module, name),
+        offset,
+    )
 }
 
 /// Whether each of the exports on the right is one on the left, which matches it.
-fn exports_match(
-    types: &TypeAlloc,
-    a: &ExportMap,
-    b: &ExportMap,
-    offset: u64,
-) -> Result<(), Error>
+fn exports_match(types: &TypeAlloc, a: &ExportMap, b: &ExportMap, offset: u64) -> Result<(), Error>
     requires a { All (λ e. IsEntityWithin (total types.now.core) e.1) a.now }
     requires b { All (λ e. IsEntityWithin (total types.now.core) e.1) b.now }
     ensures ok { OnOk result (EachFound bytes_eq (ItemsMatch types.now.core) a.now b.now) }
@@ -160,12 +156,7 @@ fn exports_match(
 }
 
 /// Whether each of the imports on the left is one on the right, which matches it.
-fn imports_match(
-    types: &TypeAlloc,
-    a: &ImportMap,
-    b: &ImportMap,
-    offset: u64,
-) -> Result<(), Error>
+fn imports_match(types: &TypeAlloc, a: &ImportMap, b: &ImportMap, offset: u64) -> Result<(), Error>
     requires a { All (λ e. IsEntityWithin (total types.now.core) e.1) a.now }
     requires b { All (λ e. IsEntityWithin (total types.now.core) e.1) b.now }
     ensures ok { OnOk result (EachFound same_pair (ItemsMatch types.now.core) b.now a.now) }
@@ -185,12 +176,7 @@ fn imports_match(
 
 /// Whether each import of the one is an import of the other, which matches it, and each export of the other is one
 /// of its own, which matches that.
-fn shapes_match(
-    types: &TypeAlloc,
-    a: &ModuleType,
-    b: &ModuleType,
-    offset: u64,
-) -> Result<(), Error>
+fn shapes_match(types: &TypeAlloc, a: &ModuleType, b: &ModuleType, offset: u64) -> Result<(), Error>
     requires a { All (IsEntityWithin (total types.now.core)) (core_items (n.Module a.now)) }
     requires b { All (IsEntityWithin (total types.now.core)) (core_items (n.Module b.now)) }
     ensures ok { OnOk result (ModuleMatches (ItemsMatch types.now.core) (items_of a.now) (items_of b.now)) }

@@ -1,4 +1,4 @@
-use Rattle.std.proofs.Common.{List, ◌∷◌, ◌∙◌, sym, ap, arith, drop, ◌-◌}
+use Rattle.std.proofs.Common.{◌∷◌, ◌∙◌, sym, ap, arith, drop, ◌-◌}
 use Rattle.wcv_types.specs.Tree.{Text}
 use Rattle.wcv_matching.proofs.ByName.{before_end, is_there, name_joins}
 use Rattle.wcv_matching.proofs.by_name.exports_by_name.Goals as goal

@@ -1,4 +1,4 @@
-use Rattle.std.proofs.Common.{List, ◌∷◌, Option, subst, ◌∙◌, sym, ap, arith, drop, ◌-◌, bytes_eq}
+use Rattle.std.proofs.Common.{◌∷◌, Option, subst, ◌∙◌, sym, ap, arith, drop, ◌-◌, bytes_eq}
 use Rattle.std.specs.Prelude.{IfSome}
 use Rattle.std.specs.Map.{lookup}
 use Rattle.std.proofs.lemmas.List.Elements.{All-contains}

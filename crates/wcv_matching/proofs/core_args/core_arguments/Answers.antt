@@ -1,4 +1,4 @@
-use Rattle.std.proofs.Common.{◌≡◌, List, ap, subst, sym}
+use Rattle.std.proofs.Common.{List, ap, subst, sym}
 use Rattle.std.specs.Prelude.{OnOk, IfErr}
 use Rattle.wcv_core.specs.CoreGroups.{total}
 use Rattle.wcv_core.specs.CoreSizes.{IsEntityWithin}

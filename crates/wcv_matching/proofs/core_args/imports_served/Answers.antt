@@ -1,4 +1,4 @@
-use Rattle.std.proofs.Common.{◌≡◌, List, Option, inl, inr, sym, ◌∙◌, subst, arith, bytes_eq}
+use Rattle.std.proofs.Common.{List, Option, inr, sym, subst, arith, bytes_eq}
 use Rattle.std.specs.Prelude.{IfSome}
 use Rattle.std.specs.Map.{lookup}
 use Rattle.wcv_core.specs.CoreForm.{Group}
@@ -32,7 +32,7 @@ returns-in-Err-clause-err c =
     let gs = c.args.types.now.core in
     let args = argument_exports c.args.types.now c.args.args.now in
     let back = carried (λ (gs : List Group) (o : Option EntityType). FoundAs (ItemsMatch gs) o x.1) gs c.core_types.result.now (if_there (lookup (bytes_eq x.0.0) args) (λ es. lookup (bytes_eq x.0.1) es))
-        (export_under c.in_ok-items.items x.0) (sym c.core_types.ensures) (sym (under_served c.in_ok-items.items args x.0 (c.in_ok-items.ensures.held x.0.0))) in
+    (export_under c.in_ok-items.items x.0) (sym c.core_types.ensures) (sym (under_served c.in_ok-items.items args x.0 (c.in_ok-items.ensures.held x.0.0))) in
     inr (record {
       is = m.is;
       at = m.at;
@@ -44,13 +44,13 @@ loop-k-preserved c =
     let gs = c.args.types.now.core in
     let args = argument_exports c.args.types.now c.args.args.now in
     elim c.match-get_index.branch [
-  in-Some+in-Ok w ↦ one_more (λ (e : (Text × Text) × EntityType). IsServed (ItemsMatch gs) args e.0 e.1) c.args.imports.now c.loop-k.k w.in-Some.import.now c.loop-k.invariant w.in-Some.ensures
-      (served_from (ItemsMatch gs) args w.in-Some.import.now.0 w.in-Some.import.now.1
-      (carried (λ (gs : List Group) (o : Option EntityType). FoundAs (ItemsMatch gs) o w.in-Some.import.now.1) w.core_types.result.now gs (export_under c.in_ok-items.items w.in-Some.import.now.0)
-      (if_there (lookup (bytes_eq w.in-Some.import.now.0.0) args) (λ es. lookup (bytes_eq w.in-Some.import.now.0.1) es)) w.core_types.ensures
-      (under_served c.in_ok-items.items args w.in-Some.import.now.0 (c.in_ok-items.ensures.held w.in-Some.import.now.0.0)) w.in-Ok.ensures.ok))
-  | in_default w ↦ not_past c.args.imports.now c.loop-k.k (omega arith) w.in_default.ensures
-]
+      | in-Some+in-Ok w ↦ one_more (λ (e : (Text × Text) × EntityType). IsServed (ItemsMatch gs) args e.0 e.1) c.args.imports.now c.loop-k.k w.in-Some.import.now c.loop-k.invariant w.in-Some.ensures
+          (served_from (ItemsMatch gs) args w.in-Some.import.now.0 w.in-Some.import.now.1
+          (carried (λ (gs : List Group) (o : Option EntityType). FoundAs (ItemsMatch gs) o w.in-Some.import.now.1) w.core_types.result.now gs (export_under c.in_ok-items.items w.in-Some.import.now.0)
+          (if_there (lookup (bytes_eq w.in-Some.import.now.0.0) args) (λ es. lookup (bytes_eq w.in-Some.import.now.0.1) es)) w.core_types.ensures
+          (under_served c.in_ok-items.items args w.in-Some.import.now.0 (c.in_ok-items.ensures.held w.in-Some.import.now.0.0)) w.in-Ok.ensures.ok))
+      | in_default w ↦ not_past c.args.imports.now c.loop-k.k (omega arith) w.in_default.ensures
+    ]
 
 pub returns-clause-ok : goal.returns-clause-ok
 returns-clause-ok c i item k =

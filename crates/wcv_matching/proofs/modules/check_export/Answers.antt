@@ -1,9 +1,8 @@
-use Rattle.std.proofs.Common.{◌≡◌, Option, Result, sym, ◌∙◌, ap, subst}
+use Rattle.std.proofs.Common.{◌≡◌, Option, sym, ◌∙◌, ap, subst}
 use Rattle.std.specs.Prelude.{OnOk, IfErr, IfSome}
 use Rattle.wcv_core.specs.CoreGroups.{total}
 use Rattle.wcv_core.specs.CoreSizes.{IsEntityWithin}
 use Rattle.wcv_core.specs.declared.core_types.EntityType.{EntityType}
-use Rattle.wcv_types.specs.Tree.{Text}
 use Rattle.wcv_matching.specs.ByName.{held}
 use Rattle.wcv_matching.specs.ModuleItems.{ItemsMatch}
 use Rattle.wcv_matching.specs.Refusals.{IsMismatch}

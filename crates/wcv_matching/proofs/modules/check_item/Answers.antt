@@ -1,4 +1,4 @@
-use Rattle.std.proofs.Common.{◌≡◌, Option, sym, subst}
+use Rattle.std.proofs.Common.{Option, sym, subst}
 use Rattle.std.specs.Prelude.{IfSome}
 use Rattle.wcv_core.specs.CoreGroups.{total}
 use Rattle.wcv_core.specs.CoreSizes.{IsEntityWithin}
@@ -10,10 +10,11 @@ use Rattle.wcv_matching.proofs.modules.check_item.Goals as goal
 
 pub returns-then-item_matches-clause-ok : goal.returns-then-item_matches-clause-ok
 returns-then-item_matches-clause-ok c =
-    let within = subst (λ (o : Option EntityType). IfSome o (IsEntityWithin (total c.args.types.now))) c.in-Some.is c.requires.found in
-    ( c.in-Some.item,
+    let within = subst (λ (o : Option EntityType). IfSome o (IsEntityWithin (total c.args.types.now))) c.in-Some.is c.requires.found in (
+      c.in-Some.item,
       c.in-Some.is,
-      item_to c.args.types.now (record { closed = c.len-count.ensures.closed; distinct = c.len-count.ensures.distinct }) c.in-Some.item c.args.expected.now within c.requires.expected (sym c.if-item_matches.ensures))
+      item_to c.args.types.now (record { closed = c.len-count.ensures.closed; distinct = c.len-count.ensures.distinct }) c.in-Some.item c.args.expected.now within c.requires.expected (sym c.if-item_matches.ensures),
+    )
 
 pub returns-else-item_matches-clause-err : goal.returns-else-item_matches-clause-err
 returns-else-item_matches-clause-err c =

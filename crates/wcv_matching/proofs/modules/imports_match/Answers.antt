@@ -1,4 +1,4 @@
-use Rattle.std.proofs.Common.{◌≡◌, List, Option, inl, inr, sym, subst, arith}
+use Rattle.std.proofs.Common.{List, Option, inr, sym, subst, arith}
 use Rattle.std.specs.Prelude.{IfSome}
 use Rattle.std.specs.Map.{lookup}
 use Rattle.std.proofs.lemmas.Map.Entries.{All-lookup}
@@ -36,7 +36,7 @@ returns-in-Err-clause-err c =
 
 pub loop-k-preserved : goal.loop-k-preserved
 loop-k-preserved c = elim c.match-get_index.branch [
-  in-Some+in-Ok w ↦ one_more (λ (e : (Text × Text) × EntityType). Found same_pair (ItemsMatch c.args.types.now.core) c.args.b.now e.0 e.1) c.args.a.now c.loop-k.k w.in-Some.import.now c.loop-k.invariant w.in-Some.ensures
+  | in-Some+in-Ok w ↦ one_more (λ (e : (Text × Text) × EntityType). Found same_pair (ItemsMatch c.args.types.now.core) c.args.b.now e.0 e.1) c.args.a.now c.loop-k.k w.in-Some.import.now c.loop-k.invariant w.in-Some.ensures
       (carried (λ (gs : List Group) (o : Option EntityType). FoundAs (ItemsMatch gs) o w.in-Some.import.now.1) w.core_types.result.now c.args.types.now.core (held_pair c.in_ok-items.items w.in-Some.import.now.0) (lookup (same_pair w.in-Some.import.now.0) c.args.b.now)
       w.core_types.ensures (c.in_ok-items.ensures w.in-Some.import.now.0) w.in-Ok.ensures.ok)
   | in_default w ↦ not_past c.args.a.now c.loop-k.k (omega arith) w.in_default.ensures
