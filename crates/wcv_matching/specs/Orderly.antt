@@ -1,4 +1,4 @@
--- What holds of the trees that items make.
+-- What matching by one pass asks of trees, as items make them.
 use Rattle.std.specs.Prelude.{ℕ, suc, max, List, bytes_eq, Contains}
 use Rattle.std.specs.List.{IsDistinct}
 use Rattle.std.specs.Map.{keys_of}

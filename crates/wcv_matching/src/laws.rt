@@ -45,19 +45,19 @@ pub fn at_most_one_substitution_opens()
         → Opens gs s args c → Opens gs t args c → s r ≡ t r }
 {}
 
-/// Types that are the same match each other, and types of items that match each other are the same.
+/// Types that are the same match each other, and orderly types that match each other are the same.
 pub fn same_types_match_both_ways()
     ensures to { (gs : List Group) (a b : Type_tree) → SameTypes gs a b → TypeMatches gs a b × TypeMatches gs b a }
     ensures from { (gs : List Group) (a b : Type_tree) → Orderly a → Orderly b → TypeMatches gs a b → TypeMatches gs b a → SameTypes gs a b }
 {}
 
-/// Between types of items, to match is to match where a type entry asks once whether the types are the same.
+/// Between orderly types, to match is to match where a type entry asks once whether the types are the same.
 pub fn matching_asks_once()
     ensures to { (gs : List Group) (a b : Type_tree) → Orderly a → Orderly b → MatchesByOnce gs a b → TypeMatches gs a b }
     ensures from { (gs : List Group) (a b : Type_tree) → Orderly a → Orderly b → TypeMatches gs a b → MatchesByOnce gs a b }
 {}
 
-/// One pass decides matching, and one decides whether types are the same, for each type that items make.
+/// One pass decides matching of orderly types, and one decides whether they are the same.
 pub fn one_pass_decides_matching()
     ensures matches { (gs : List Group) (test : Tests) (a b : Type_tree) → AreRight (ItemsMatch gs) test → Orderly a → Orderly b → Decides (passes_match test a b) (TypeMatches gs a b) }
     ensures same { (gs : List Group) (test : Tests) (a b : Type_tree) → AreRight (ItemsMatch gs) test → Orderly a → Orderly b → Decides (passes_same test a b) (SameTypes gs a b) }
