@@ -18,3 +18,4 @@ pub mod PassSame
 pub mod PassMatches
 pub mod PassBound
 pub mod PassArguments
+pub mod ItemsInside

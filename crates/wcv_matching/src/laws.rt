@@ -1,5 +1,5 @@
 // Laws of matching, over trees whose core types are of one table.
-ghost use Rattle.std.specs.Prelude.{◌≡◌, ℕ, List, true};
+ghost use Rattle.std.specs.Prelude.{◌≡◌, ℕ, List, ◌++◌, true};
 ghost use Rattle.std.specs.Bool.{Decides};
 ghost use Rattle.wcv_core.specs.CoreForm.{Group};
 ghost use Rattle.wcv_core.specs.Names.{Name, member};
@@ -10,10 +10,11 @@ ghost use Rattle.wcv_types.specs.Tree.{Text, head, imported_at, imports};
 ghost use Rattle.wcv_types.specs.Unfold.{Type_tree};
 ghost use Rattle.wcv_closed.specs.ClosedMatching.{SupersKeepForm};
 ghost use Rattle.wcv_closed.specs.ClosedTable.{IsTable};
+ghost use Rattle.wcv_matching.specs.Matching.{Matches, OpensImports};
 ghost use Rattle.wcv_matching.specs.ModuleItems.{ItemsMatch};
 ghost use Rattle.wcv_matching.specs.OnePass.{AreRight, Tests, argument_for, opens_pass, passes_match, passes_same};
 ghost use Rattle.wcv_matching.specs.Orderly.{AllNamesDiffer, EachOrderly, Orderly};
-ghost use Rattle.wcv_matching.specs.TableMatching.{MatchesByOnce, ModulesMatchThemselves, Opens, SameTypes, TypeMatches};
+ghost use Rattle.wcv_matching.specs.TableMatching.{ByIds, CoreWithin, EachCoreWithin, MatchesByOnce, ModulesMatchThemselves, Opens, SameTypes, TypeMatches};
 
 /// Each type whose names differ matches itself.
 pub fn a_type_matches_itself()
@@ -43,6 +44,22 @@ pub fn renaming_keeps_matching()
 pub fn at_most_one_substitution_opens()
     ensures { (gs : List Group) (p : List ℕ) (r : Name) (s t : Name → Name) (args : List (Text × Type_tree)) (c : Type_tree) → PathLeadsTo p r (imports c) → member r (imported_at (head c)) ≡ true
         → Opens gs s args c → Opens gs t args c → s r ≡ t r }
+{}
+
+/// Groups that join the table later change no matching of types whose core types are there already, and nothing of what opens a component.
+pub fn groups_behind_change_no_matching()
+    ensures to { (gs hs : List Group) (a b : Type_tree) → CoreWithin gs a → CoreWithin gs b → TypeMatches gs a b → TypeMatches (gs ++ hs) a b }
+    ensures from { (gs hs : List Group) (a b : Type_tree) → CoreWithin gs a → CoreWithin gs b → TypeMatches (gs ++ hs) a b → TypeMatches gs a b }
+    ensures opens { (gs hs : List Group) (s : Name → Name) (args : List (Text × Type_tree)) (c : Type_tree) → EachCoreWithin gs args → CoreWithin gs c → Opens gs s args c → Opens (gs ++ hs) s args c }
+    ensures opened { (gs hs : List Group) (s : Name → Name) (args : List (Text × Type_tree)) (c : Type_tree) → EachCoreWithin gs args → CoreWithin gs c → Opens (gs ++ hs) s args c → Opens gs s args c }
+{}
+
+/// Matching is told by the ids of core types, where these are of the table.
+pub fn matching_is_told_by_ids()
+    ensures to { (gs : List Group) (a b : Type_tree) → IsTable gs → CoreWithin gs a → CoreWithin gs b → TypeMatches gs a b → Matches (ByIds gs) a b }
+    ensures from { (gs : List Group) (a b : Type_tree) → IsTable gs → CoreWithin gs a → CoreWithin gs b → Matches (ByIds gs) a b → TypeMatches gs a b }
+    ensures opens { (gs : List Group) (s : Name → Name) (args : List (Text × Type_tree)) (c : Type_tree) → IsTable gs → EachCoreWithin gs args → CoreWithin gs c → Opens gs s args c → OpensImports (ByIds gs) s args c }
+    ensures opened { (gs : List Group) (s : Name → Name) (args : List (Text × Type_tree)) (c : Type_tree) → IsTable gs → EachCoreWithin gs args → CoreWithin gs c → OpensImports (ByIds gs) s args c → Opens gs s args c }
 {}
 
 /// Types that are the same match each other, and orderly types that match each other are the same.
