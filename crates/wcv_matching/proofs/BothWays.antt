@@ -6,6 +6,7 @@ use Rattle.std.proofs.lemmas.List.Elements.{All-head, All-tail}
 use Rattle.std.proofs.lemmas.Map.Views.{lookup-from_Contains}
 use Rattle.wcv_core.specs.Names.{Name, base, member, same}
 use Rattle.wcv_core.proofs.Names.{same-true}
+use Rattle.wcv_types.specs.Led.{HeadLed}
 use Rattle.wcv_types.specs.Paths.{IsTypeOf, IsWayTo, PathLeadsTo}
 use Rattle.wcv_types.specs.Tree as tree
 use Rattle.wcv_types.specs.Tree.{Text, Extern_name, Head, nothing, primitive, resource, defined, func, instance, component, type_entity, core_module, core_instance, core_type, core_item, node, Parts, none, part, Sort, is_instance, is_component, is_type, is_resource, is_module, sort, head, referenced, first_part, rest_parts, imported_at, firsts}
@@ -15,7 +16,7 @@ use Rattle.wcv_types.specs.Unfold.{Type_tree}
 use Rattle.wcv_closed.proofs.ModuleMatching.{texts_equiv}
 use Rattle.wcv_matching.specs.Matching.{Item_rule, Entries, Reading, outside, in_instance, Fresh, within, made, in_component, atoms, left, right, Matching, MatchAs, MatchBelow, named, named_exports, named_imports}
 use Rattle.wcv_matching.specs.NamedPaths.{entry, and_then, resource_at, follow}
-use Rattle.wcv_matching.specs.Orderly.{NamesDiffer, AllNamesDiffer, PartNamesDiffer, AllPathsLead, PartPathsLead, Orderly}
+use Rattle.wcv_matching.specs.Orderly.{NamesDiffer, AllNamesDiffer, PartNamesDiffer, AllPathsLead, EachNodeIn, Orderly}
 use Rattle.wcv_matching.specs.SameTypes.{made_at, Pairs, paired_imports, paired, SameAs, SameBelow}
 use Rattle.wcv_matching.proofs.Entries.{among}
 use Rattle.wcv_matching.proofs.NamedLists.{entry-contains, some-inj}
@@ -261,7 +262,7 @@ module _ (C : Item_rule) where
         (w.0, w.1, z.0, z.1)
 
 -- ## From both directions to Same
-orderly-parts : (ps : Parts Name Name) → PartNamesDiffer ps → PartPathsLead ps → EachPart Orderly ps
+orderly-parts : (ps : Parts Name Name) → PartNamesDiffer ps → EachNodeIn HeadLed ps → EachPart Orderly ps
 orderly-parts none p l = tt
 orderly-parts (part k t ps) p l = ((p.0, l.0), orderly-parts ps p.1 l.1)
 

@@ -19,7 +19,7 @@ use Rattle.wcv_closed.proofs.ModuleMatching.{same_text, same_names}
 use Rattle.wcv_closed.proofs.Telling.{item_stays}
 use Rattle.wcv_matching.specs.Matching.{Item_rule, Reading, in_instance, Fresh, made, left, right, MatchAs, MatchBelow, Matches, OpensImports, opened_by, named_exports, named_imports}
 use Rattle.wcv_matching.specs.ModuleItems.{ItemsMatch, module_items}
-use Rattle.wcv_matching.specs.Orderly.{EachModule, EachModuleIn}
+use Rattle.wcv_matching.specs.Orderly.{EachModule, EachNodeIn, items_in}
 use Rattle.wcv_matching.proofs.Found.{both_carried}
 use Rattle.wcv_matching.proofs.MatchingOrder.{second-part}
 use Rattle.wcv_matching.proofs.TreeParts.{EachPart, at_export, at_import}
@@ -47,7 +47,7 @@ module _ (Q : EntityType → Type 0) where
   abbrev Inside : Type_tree → Type 0
   Inside t = EachModule (EachItem Q) t
 
-  each-inside : (ps : Parts Name Name) → EachModuleIn (EachItem Q) ps → EachPart Inside ps
+  each-inside : (ps : Parts Name Name) → EachNodeIn (λ h qs. EachItem Q (items_in qs)) ps → EachPart Inside ps
   each-inside none e = tt
   each-inside (part r t ps) e = (e.0, each-inside ps e.1)
 

@@ -19,3 +19,4 @@ pub mod PassMatches
 pub mod PassBound
 pub mod PassArguments
 pub mod ItemsInside
+pub mod ArenaTypes

@@ -12,7 +12,7 @@ use Rattle.wcv_closed.specs.CoreModules.{Module_items, ModuleMatches, same_pair}
 use Rattle.wcv_closed.proofs.ModuleMatching.{each_on, same_text, same_names, texts_equiv}
 use Rattle.wcv_matching.specs.Matching.{Item_rule, Entries, Reading, in_instance, Fresh, within, made, in_component, atoms, left, right, Matching, MatchAs, MatchBelow, Matches, named_exports, named_imports}
 use Rattle.wcv_matching.specs.ModuleItems.{module_items}
-use Rattle.wcv_matching.specs.Orderly.{NamesDiffer, AllNamesDiffer, PartNamesDiffer, EachModule, EachModuleIn, height, heights}
+use Rattle.wcv_matching.specs.Orderly.{NamesDiffer, AllNamesDiffer, PartNamesDiffer, EachModule, EachNodeIn, items_in, height, heights}
 use Rattle.wcv_matching.proofs.NamedLists.{entry-contains}
 use Rattle.wcv_matching.proofs.TreeParts.{two, EachPart, at_export, at_import}
 use Rattle.wcv_matching.proofs.MatchingKept.{MatchBelow-map}
@@ -122,7 +122,7 @@ module _ (C : Item_rule) where
   Plain d t = AllNamesDiffer t × EachModule (λ m. ModuleMatches C m m) t × (height t < d)
 
 module _ (C : Item_rule) where
-  Plain-parts : (d : ℕ) (ps : Parts Name Name) → PartNamesDiffer ps → EachModuleIn (λ m. ModuleMatches C m m) ps → heights ps < d → EachPart (Plain C d) ps
+  Plain-parts : (d : ℕ) (ps : Parts Name Name) → PartNamesDiffer ps → EachNodeIn (λ h qs. ModuleMatches C (items_in qs) (items_in qs)) ps → heights ps < d → EachPart (Plain C d) ps
   Plain-parts d none p m h = tt
   Plain-parts d (part r t ps) p m h = ((p.0, m.0, omega arith), Plain-parts d ps p.1 m.1 (omega arith))
 

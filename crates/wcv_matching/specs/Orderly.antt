@@ -5,11 +5,22 @@ use Rattle.std.specs.Map.{keys_of}
 use Rattle.wcv_core.specs.Names.{Name}
 use Rattle.wcv_core.specs.declared.core_types.EntityType.{EntityType}
 use Rattle.wcv_types.specs.Led.{HeadLed}
-use Rattle.wcv_types.specs.Tree.{Text, node, Parts, none, part}
+use Rattle.wcv_types.specs.Tree.{Text, Head, node, Parts, none, part}
 use Rattle.wcv_types.specs.Unfold.{Type_tree}
 use Rattle.wcv_closed.specs.CoreModules.{Module_items}
 use Rattle.wcv_matching.specs.Matching.{named_exports_in, named_imports_in}
 use Rattle.wcv_matching.specs.ModuleItems.{core_imports_in, core_exports_in}
+
+-- ## Each node
+
+-- P holds at each node inside the tree
+abbrev mutual
+  pub EachNode : (Head Name Name → Parts Name Name → Type 0) → Type_tree → Type 0
+  EachNode P (node h ps) = P h ps × EachNodeIn P ps
+
+  pub EachNodeIn : (Head Name Name → Parts Name Name → Type 0) → Parts Name Name → Type 0
+  EachNodeIn P none = Unit {0}
+  EachNodeIn P (part r t ps) = EachNode P t × EachNodeIn P ps
 
 -- ## Names
 
@@ -28,13 +39,8 @@ abbrev mutual
 -- ## Paths
 
 -- at each node inside the tree the resources that it owns are led to
-abbrev mutual
-  pub AllPathsLead : Type_tree → Type 0
-  AllPathsLead (node h ps) = HeadLed h ps × PartPathsLead ps
-
-  pub PartPathsLead : Parts Name Name → Type 0
-  PartPathsLead none = Unit {0}
-  PartPathsLead (part r t ps) = AllPathsLead t × PartPathsLead ps
+abbrev pub AllPathsLead : Type_tree → Type 0
+AllPathsLead t = EachNode HeadLed t
 
 -- names differ in each list, and what is owned is led to
 abbrev pub Orderly : Type_tree → Type 0
@@ -45,14 +51,13 @@ EachOrderly es = (n : Text) (x : Type_tree) → Contains es (n, x) → Orderly x
 
 -- ## Core modules
 
--- P holds of what each node inside the tree imports and exports as a core module
-abbrev mutual
-  pub EachModule : (Module_items EntityType → Type 0) → Type_tree → Type 0
-  EachModule P (node h ps) = P (record { imports = core_imports_in ps; exports = core_exports_in ps }) × EachModuleIn P ps
+-- what a node with these parts imports and exports as a core module
+abbrev pub items_in : Parts Name Name → Module_items EntityType
+items_in ps = record { imports = core_imports_in ps; exports = core_exports_in ps }
 
-  pub EachModuleIn : (Module_items EntityType → Type 0) → Parts Name Name → Type 0
-  EachModuleIn P none = Unit {0}
-  EachModuleIn P (part r t ps) = EachModule P t × EachModuleIn P ps
+-- P holds of what each node inside the tree imports and exports so
+abbrev pub EachModule : (Module_items EntityType → Type 0) → Type_tree → Type 0
+EachModule P t = EachNode (λ h ps. P (items_in ps)) t
 
 -- ## Heights
 

@@ -3,17 +3,20 @@ ghost use Rattle.std.specs.Prelude.{◌≡◌, ℕ, List, ◌++◌, true};
 ghost use Rattle.std.specs.Bool.{Decides};
 ghost use Rattle.wcv_core.specs.CoreForm.{Group};
 ghost use Rattle.wcv_core.specs.Names.{Name, member};
+ghost use Rattle.wcv_types.specs.Arena.{Arena};
 ghost use Rattle.wcv_types.specs.Paths.{PathLeadsTo};
 ghost use Rattle.wcv_types.specs.Rename.{rename};
 ghost use Rattle.wcv_types.specs.Resources.{Admits, Free, substitute};
+ghost use Rattle.wcv_types.specs.Standing.{AllFit, Stands};
 ghost use Rattle.wcv_types.specs.Tree.{Text, head, imported_at, imports};
-ghost use Rattle.wcv_types.specs.Unfold.{Type_tree};
+ghost use Rattle.wcv_types.specs.Unfold.{Type_tree, tree_at};
+ghost use Rattle.wcv_types.specs.declared.ids.Part.{Part};
 ghost use Rattle.wcv_closed.specs.ClosedMatching.{SupersKeepForm};
 ghost use Rattle.wcv_closed.specs.ClosedTable.{IsTable};
 ghost use Rattle.wcv_matching.specs.Matching.{Matches, OpensImports};
 ghost use Rattle.wcv_matching.specs.ModuleItems.{ItemsMatch};
 ghost use Rattle.wcv_matching.specs.OnePass.{AreRight, Tests, argument_for, opens_pass, passes_match, passes_same};
-ghost use Rattle.wcv_matching.specs.Orderly.{AllNamesDiffer, EachOrderly, Orderly};
+ghost use Rattle.wcv_matching.specs.Orderly.{AllNamesDiffer, AllPathsLead, EachOrderly, Orderly};
 ghost use Rattle.wcv_matching.specs.TableMatching.{ByIds, CoreWithin, EachCoreWithin, MatchesByOnce, ModulesMatchThemselves, Opens, SameTypes, TypeMatches};
 
 /// Each type whose names differ matches itself.
@@ -60,6 +63,11 @@ pub fn matching_is_told_by_ids()
     ensures from { (gs : List Group) (a b : Type_tree) → IsTable gs → CoreWithin gs a → CoreWithin gs b → Matches (ByIds gs) a b → TypeMatches gs a b }
     ensures opens { (gs : List Group) (s : Name → Name) (args : List (Text × Type_tree)) (c : Type_tree) → IsTable gs → EachCoreWithin gs args → CoreWithin gs c → Opens gs s args c → OpensImports (ByIds gs) s args c }
     ensures opened { (gs : List Group) (s : Name → Name) (args : List (Text × Type_tree)) (c : Type_tree) → IsTable gs → EachCoreWithin gs args → CoreWithin gs c → OpensImports (ByIds gs) s args c → Opens gs s args c }
+{}
+
+/// Inside each type of an arena the owned resources are led to.
+pub fn types_of_an_arena_are_led()
+    ensures { (a : Arena) (q : Part) → AllFit a → Stands a q → AllPathsLead (tree_at a q) }
 {}
 
 /// Types that are the same match each other, and orderly types that match each other are the same.
