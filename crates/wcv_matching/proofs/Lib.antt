@@ -20,3 +20,4 @@ pub mod PassBound
 pub mod PassArguments
 pub mod ItemsInside
 pub mod ArenaTypes
+pub mod CoreInside

@@ -20,19 +20,19 @@ use Rattle.wcv_closed.specs.CoreModules.{Module_items}
 use Rattle.wcv_matching.specs.ModuleItems.{core_imports_in, core_exports_in, module_items, items_of, instance_exports_in, instance_exports}
 
 module _ (ts : List Type_tree) where
-  exports_alone : (es : List (Text × EntityType)) → core_exports_in (slot_parts ts (core_export_slots es)) ≡ es
+  pub exports_alone : (es : List (Text × EntityType)) → core_exports_in (slot_parts ts (core_export_slots es)) ≡ es
   exports_alone [] = refl
   exports_alone (e ∷ es) = ap (λ (fs : List (Text × EntityType)). e ∷ fs) (exports_alone es)
 
-  no_imports : (es : List (Text × EntityType)) → core_imports_in (slot_parts ts (core_export_slots es)) ≡ []
+  pub no_imports : (es : List (Text × EntityType)) → core_imports_in (slot_parts ts (core_export_slots es)) ≡ []
   no_imports [] = refl
   no_imports (e ∷ es) = no_imports es
 
-  imports_seen : (is : List ((Text × Text) × EntityType)) (es : List (Text × EntityType)) → core_imports_in (slot_parts ts (core_import_slots is ++ core_export_slots es)) ≡ is
+  pub imports_seen : (is : List ((Text × Text) × EntityType)) (es : List (Text × EntityType)) → core_imports_in (slot_parts ts (core_import_slots is ++ core_export_slots es)) ≡ is
   imports_seen [] es = no_imports es
   imports_seen (i ∷ is) es = ap (λ (js : List ((Text × Text) × EntityType)). i ∷ js) (imports_seen is es)
 
-  exports_seen : (is : List ((Text × Text) × EntityType)) (es : List (Text × EntityType)) → core_exports_in (slot_parts ts (core_import_slots is ++ core_export_slots es)) ≡ es
+  pub exports_seen : (is : List ((Text × Text) × EntityType)) (es : List (Text × EntityType)) → core_exports_in (slot_parts ts (core_import_slots is ++ core_export_slots es)) ≡ es
   exports_seen [] es = exports_alone es
   exports_seen (i ∷ is) es = exports_seen is es
 

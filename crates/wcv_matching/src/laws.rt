@@ -65,9 +65,10 @@ pub fn matching_is_told_by_ids()
     ensures opened { (gs : List Group) (s : Name → Name) (args : List (Text × Type_tree)) (c : Type_tree) → IsTable gs → EachCoreWithin gs args → CoreWithin gs c → OpensImports (ByIds gs) s args c → Opens gs s args c }
 {}
 
-/// Inside each type of an arena the owned resources are led to.
-pub fn types_of_an_arena_are_led()
-    ensures { (a : Arena) (q : Part) → AllFit a → Stands a q → AllPathsLead (tree_at a q) }
+/// Inside each type of an arena the owned resources are led to, and the core types that are named are of its table.
+pub fn what_the_types_of_an_arena_keep()
+    ensures led { (a : Arena) (q : Part) → AllFit a → Stands a q → AllPathsLead (tree_at a q) }
+    ensures within { (a : Arena) (q : Part) → AllFit a → Stands a q → CoreWithin a.core (tree_at a q) }
 {}
 
 /// Types that are the same match each other, and orderly types that match each other are the same.
