@@ -21,3 +21,4 @@ pub mod PassArguments
 pub mod ItemsInside
 pub mod ArenaTypes
 pub mod CoreInside
+pub mod PassByIds

@@ -11,3 +11,4 @@ pub mod TableMatching
 pub mod NamedPaths
 pub mod SameTypes
 pub mod OnePass
+pub mod IdTests

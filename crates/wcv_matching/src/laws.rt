@@ -1,5 +1,5 @@
 // Laws of matching, over trees whose core types are of one table.
-ghost use Rattle.std.specs.Prelude.{◌≡◌, ℕ, List, ◌++◌, true};
+ghost use Rattle.std.specs.Prelude.{◌≡◌, ℕ, List, ◌++◌, Bool, true};
 ghost use Rattle.std.specs.Bool.{Decides};
 ghost use Rattle.wcv_core.specs.CoreForm.{Group};
 ghost use Rattle.wcv_core.specs.Names.{Name, member};
@@ -13,9 +13,10 @@ ghost use Rattle.wcv_types.specs.Unfold.{Type_tree, tree_at};
 ghost use Rattle.wcv_types.specs.declared.ids.Part.{Part};
 ghost use Rattle.wcv_closed.specs.ClosedMatching.{SupersKeepForm};
 ghost use Rattle.wcv_closed.specs.ClosedTable.{IsTable};
+ghost use Rattle.wcv_matching.specs.IdTests.{tests_by_ids};
 ghost use Rattle.wcv_matching.specs.Matching.{Matches, OpensImports};
 ghost use Rattle.wcv_matching.specs.ModuleItems.{ItemsMatch};
-ghost use Rattle.wcv_matching.specs.OnePass.{AreRight, Tests, argument_for, opens_pass, passes_match, passes_same};
+ghost use Rattle.wcv_matching.specs.OnePass.{AreRight, Seen_tree, Tests, argument_for, opens_pass, passes_match, passes_same};
 ghost use Rattle.wcv_matching.specs.Orderly.{AllNamesDiffer, AllPathsLead, EachOrderly, Orderly};
 ghost use Rattle.wcv_matching.specs.TableMatching.{ByIds, CoreWithin, EachCoreWithin, MatchesByOnce, ModulesMatchThemselves, Opens, SameTypes, TypeMatches};
 
@@ -94,4 +95,12 @@ pub fn one_pass_decides_matching()
 pub fn one_pass_decides_openings()
     ensures opens { (gs : List Group) (test : Tests) (args : List (Text × Type_tree)) (c : Type_tree) → AreRight (ItemsMatch gs) test → EachOrderly args → Orderly c → Decides (opens_pass test args c) ((s : Name → Name) × Opens gs s args c) }
     ensures found { (gs : List Group) (s : Name → Name) (args : List (Text × Type_tree)) (c : Type_tree) (r : Name) → Orderly c → Opens gs s args c → member r (imported_at (head c)) ≡ true → argument_for args c r ≡ s r }
+{}
+
+/// Over a table whose core types both name, the pass may tell core modules by ids: of its tests the one of values alone has to be given.
+pub fn one_pass_goes_by_ids()
+    ensures matches { (gs : List Group) (same_seen : Seen_tree → Seen_tree → Bool) (a b : Type_tree) → ((s t : Seen_tree) → Decides (same_seen s t) (s ≡ t)) → IsTable gs → Orderly a → Orderly b → CoreWithin gs a → CoreWithin gs b
+        → Decides (passes_match (tests_by_ids gs same_seen) a b) (TypeMatches gs a b) }
+    ensures opens { (gs : List Group) (same_seen : Seen_tree → Seen_tree → Bool) (args : List (Text × Type_tree)) (c : Type_tree) → ((s t : Seen_tree) → Decides (same_seen s t) (s ≡ t)) → IsTable gs
+        → EachOrderly args → Orderly c → EachCoreWithin gs args → CoreWithin gs c → Decides (opens_pass (tests_by_ids gs same_seen) args c) ((s : Name → Name) × Opens gs s args c) }
 {}
