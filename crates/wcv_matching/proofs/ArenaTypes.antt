@@ -1,5 +1,5 @@
 -- What holds at each node of an arena holds at each node inside its types.
-use Rattle.std.proofs.Common.{◌≡◌, ℕ, zero, suc, ◌<◌, List, [], ◌∷◌, Some, None, Option, sym, subst, arith}
+use Rattle.std.proofs.Common.{◌≡◌, ℕ, zero, suc, ◌<◌, [], ◌∷◌, Some, None, Option, sym, subst, arith}
 use Rattle.std.specs.Prelude.{slice_get, All}
 use Rattle.std.proofs.lemmas.List.Elements.{All-head, All-tail}
 use Rattle.wcv_core.specs.Names.{Name}
@@ -8,7 +8,7 @@ use Rattle.wcv_core.specs.declared.primitive.PrimitiveValType.{PrimitiveValType}
 use Rattle.wcv_types.specs.Arena.{Arena}
 use Rattle.wcv_types.specs.Led.{HeadLed}
 use Rattle.wcv_types.specs.Standing.{Stands, StandsBefore, AllFit}
-use Rattle.wcv_types.specs.Tree.{Head, node, nothing, primitive, type_entity, core_type, core_item, here, resource, Parts, none, part}
+use Rattle.wcv_types.specs.Tree.{Head, nothing, primitive, type_entity, core_type, core_item, here, resource, Parts, none, part}
 use Rattle.wcv_types.specs.Unfold.{Slot, leaf, at, both, core, Slots, rank, head_of, leaf_tree, slot_refs, slot_tree, slots_of, slot_parts, parts_in, trees, tree_at, unfolded, Type_tree}
 use Rattle.wcv_types.specs.declared.arena.Node.{Node}
 use Rattle.wcv_types.specs.declared.arena.Node.TheVariants as n

@@ -1,6 +1,6 @@
 -- The core types that the types of an arena name are of its table.
-use Rattle.std.proofs.Common.{◌≡◌, ℕ, List, [], ◌∷◌, ◌++◌, map, Some, Option, refl, sym, subst, ◌∙◌}
-use Rattle.std.specs.Prelude.{slice_get, All}
+use Rattle.std.proofs.Common.{◌≡◌, List, [], ◌∷◌, ◌++◌, map, Some, Option, refl, sym, subst, ◌∙◌}
+use Rattle.std.specs.Prelude.{All}
 use Rattle.std.proofs.lemmas.List.Elements.{All-nil}
 use Rattle.wcv_core.specs.CoreGroups.{total}
 use Rattle.wcv_core.specs.CoreSizes.{IsEntityWithin}
@@ -8,8 +8,8 @@ use Rattle.wcv_core.specs.Names.{Name}
 use Rattle.wcv_core.specs.declared.core_types.EntityType.{EntityType}
 use Rattle.wcv_types.specs.Arena.{Arena}
 use Rattle.wcv_types.specs.Standing.{Stands, AllFit, core_items, kind_items}
-use Rattle.wcv_types.specs.Tree.{Text, Extern_name, Head, Role, here, label, import, export, core_import, core_export, Parts, none, part}
-use Rattle.wcv_types.specs.Unfold.{Type_tree, Slots, value_slots, field_slots, defined_slots, option_slot, entry_slots, head_of, kind_slots, slots_of, slot_parts, trees, tree_at}
+use Rattle.wcv_types.specs.Tree.{Text, Role, here, label, import, export, core_import, core_export, Parts, part}
+use Rattle.wcv_types.specs.Unfold.{Type_tree, Slots, value_slots, field_slots, defined_slots, option_slot, entry_slots, kind_slots, slots_of, slot_parts, trees, tree_at}
 use Rattle.wcv_types.specs.declared.arena.Node.{Node}
 use Rattle.wcv_types.specs.declared.arena.Node.TheVariants as n
 use Rattle.wcv_types.specs.declared.core_shapes.CoreInstanceTypeKind.{CoreInstanceTypeKind}

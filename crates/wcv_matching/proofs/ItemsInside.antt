@@ -1,5 +1,5 @@
 -- Of the rule of core items matching asks nothing but what it says of the items inside the two types.
-use Rattle.std.proofs.Common.{◌≡◌, ℕ, zero, suc, List, [], Bool, true, subst, sym, ⊎_elim, bytes_eq, ◌++◌}
+use Rattle.std.proofs.Common.{◌≡◌, ℕ, zero, suc, List, Bool, true, subst, sym, ⊎_elim, bytes_eq, ◌++◌}
 use Rattle.std.specs.Prelude.{Contains, All}
 use Rattle.std.proofs.lemmas.List.Elements.{All-contains, All-nil}
 use Rattle.std.proofs.lemmas.Map.Views.{Contains-from_lookup}
@@ -9,7 +9,6 @@ use Rattle.wcv_core.specs.CoreSizes.{IsEntityWithin}
 use Rattle.wcv_core.specs.Names.{Name}
 use Rattle.wcv_core.specs.declared.core_types.EntityType.{EntityType}
 use Rattle.wcv_types.specs.Tree.{Text, node, nothing, first_part, rest_parts, parts, Parts, none, part, Sort, is_instance, is_component, is_type, is_module, sort, referenced}
-use Rattle.wcv_types.specs.Seen.{Within}
 use Rattle.wcv_types.specs.Unfold.{Type_tree}
 use Rattle.wcv_closed.specs.ClosedItems.{ItemMatches}
 use Rattle.wcv_closed.specs.ClosedValue.{closed_item}
@@ -17,7 +16,7 @@ use Rattle.wcv_closed.specs.CoreModules.{Module_items, ModuleMatches, EachItem, 
 use Rattle.wcv_closed.specs.Found.{EachFound}
 use Rattle.wcv_closed.proofs.ModuleMatching.{same_text, same_names}
 use Rattle.wcv_closed.proofs.Telling.{item_stays}
-use Rattle.wcv_matching.specs.Matching.{Item_rule, Reading, in_instance, Fresh, made, left, right, MatchAs, MatchBelow, Matches, OpensImports, opened_by, named_exports, named_imports}
+use Rattle.wcv_matching.specs.Matching.{Item_rule, Reading, MatchAs, MatchBelow, Matches, OpensImports, opened_by, named_exports, named_imports}
 use Rattle.wcv_matching.specs.ModuleItems.{ItemsMatch, module_items}
 use Rattle.wcv_matching.specs.Orderly.{EachModule, EachNodeIn, items_in}
 use Rattle.wcv_matching.proofs.Found.{both_carried}
@@ -72,7 +71,6 @@ module _ (Q : EntityType → Type 0) where
   import-inside t i n x c = at_import Inside (parts t) (parts-inside t i) n x c
 
   module _ (C D : Item_rule) (k : (x y : EntityType) → Q x → Q y → C x y → D x y) where
-
     as-carried : (d : ℕ) → ((A : Type 0) (f g : Reading A) (a b : Type_tree) → Inside a → Inside b → MatchBelow C d A f g a b → MatchBelow D d A f g a b) → (s : Sort) (A : Type 0) (f g : Reading A) (a b : Type_tree) →
         Inside a → Inside b → MatchAs C (MatchBelow C d) s A f g a b → MatchAs D (MatchBelow D d) s A f g a b
     as-carried d ih is_instance A f g a b i j m =
