@@ -5,8 +5,8 @@
 
 The listings that are changed are those in examples/, one for each example of a form in the schema, one for
 each canonical function, and the .json files below each FOLDER; each second change is one of a listing whose
-forms are all built. In four of examples/ (functions, defined, resources and modules) each place is also
-changed in each way. The same seed makes the same listings. What disagrees is printed, and the last line has
+forms are all built. In five of examples/ (functions, defined, resources, modules and component-type) each
+place is also changed in each way. The same seed makes the same listings. What disagrees is printed, and the last line has
 counts. Needs Python 3.10 and its package `jsonschema`, 4.0, or later versions of both.
 
 What must hold of each text:
@@ -42,7 +42,7 @@ FORMS = [key for key in PARTS["item"]["properties"] if key != "at"]
 WHOLE = Draft202012Validator(SCHEMA)
 LONGEST = 8_000  # bytes of a listing of a folder that is changed
 DEEPEST = 127  # levels of nesting that are JSON
-WHOLLY_CHANGED = ("functions.json", "defined.json", "resources.json", "modules.json")
+WHOLLY_CHANGED = ("functions.json", "defined.json", "resources.json", "modules.json", "component-type.json")
 
 
 class NotJson(Exception):
@@ -134,17 +134,37 @@ def is_number(value):
     return isinstance(value, int) and not isinstance(value, bool)
 
 
+def is_built_type(body):
+    """So of the body of a type."""
+    match body:
+        case {"component": declarations} | {"instance": declarations}:
+            return all(map(is_built_declaration, declarations))
+        case {"resource": resource}:
+            return "dtor" not in resource
+    return True
+
+
+def is_built_declaration(declaration):
+    """So of a declaration in a type."""
+    match declaration:
+        case {"alias": _}:
+            return False
+        case {"type": body}:
+            return is_built_type(body)
+        case {"import": {"type": {"value": _}}} | {"export": {"type": {"value": _}}}:
+            return False
+    return True
+
+
 def is_built(item):
     """Whether an item that has a form is of one that is read and built today."""
     match item:
-        case {"type": {"func": _} | {"defined": _}}:
-            return True
-        case {"type": {"resource": resource}}:
-            return "dtor" not in resource
+        case {"type": body}:
+            return is_built_type(body)
         case {"core-type": _} | {"core-module": _}:
             return True
-        case {"import": {"type": "sub-resource" | {"module": _} | {"func": _} | {"eq": _}}}:
-            return True
+        case {"import": {"type": ty}}:
+            return "value" not in ty
         case {"export": {"sort": "module" | "func" | "type", **others}}:
             return "type" not in others
     return False

@@ -342,3 +342,71 @@ def imported_again(limit):
     type: the report has each of them with all of its name."""
     name = "a" * min(limit // 2, 100_000)
     yield from bounded(limit, lambda k: {"import": {"name": f"t{k}", "type": {"eq": 0}}} if k else defined({"record": [[name, "u8"]]}))
+
+
+def instance(*decls):
+    return {"instance": list(decls)}
+
+
+def export_decl(name, ty):
+    return {"export": {"name": name, "type": ty}}
+
+
+def different_instances(limit):
+    """Instance types with 20 exports, all different, and then imports of the first 400. The largest listing keeps
+    below the limits on types and on a component's size."""
+
+    def make(k):
+        decls = []
+        for n in range(10):
+            decls.append(func_type([[words_name("parameter", 10 * k + n), PRIMITIVES[(k + n) % 13]]], None))
+            decls.append(export_decl(words_name("first", n), {"func": n}))
+            decls.append(export_decl(words_name("second", n), {"func": n}))
+        return {"type": instance(*decls)}
+
+    count = 0
+    for count, item in enumerate(bounded(limit, make), 1):
+        yield item
+    for k in range(min(count, 400)):
+        yield {"import": {"name": words_name("instance", k), "type": {"instance": k}}}
+
+
+def nested_instances(limit, depth=30):
+    """Instance types that each declare and export another, so many one in the other."""
+    inner = instance(func_type([["x", "u32"]], "bool"), export_decl("f", {"func": 0}))
+    for _ in range(depth):
+        inner = instance({"type": inner}, export_decl("inner", {"instance": 0}))
+    yield from bounded(limit, lambda k: {"type": inner})
+
+
+def doubling_instances(limit, depth=15):
+    """The same, where each exports the one inside it twice: as a tree, the outermost has some 100,000 parts."""
+    inner = instance(func_type([["x", "u32"]], "bool"), export_decl("f", {"func": 0}))
+    for _ in range(depth):
+        inner = instance({"type": inner}, export_decl("a", {"instance": 0}), export_decl("b", {"instance": 0}))
+    yield from bounded(limit, lambda k: {"type": inner})
+
+
+def component_types(limit):
+    """Component types with 1,000 imports."""
+
+    def make(k):
+        imports = [import_of(words_name("imported", n), n % 13) for n in range(1_000)]
+        return {"type": {"component": [*(func_type([["x", it]], None) for it in PRIMITIVES), *imports]}}
+
+    yield from bounded(limit, make)
+
+
+def one_interface(count, resources):
+    """An instance type with so many resources, a method on each and a function over a record, imported so many
+    times."""
+    decls = [{"type": {"defined": {"record": [["x", "u32"], ["y", "string"]]}}}, export_decl("pair", {"eq": 0})]
+    for n in range(resources):
+        first = 2 + 3 * n
+        decls.append(export_decl(f"r{n}", "sub-resource"))
+        decls.append(defined({"borrow": first}))
+        decls.append(func_type([["self", first + 1], ["pair", 1]], None))
+        decls.append(export_decl(f"[method]r{n}.get", {"func": first + 2}))
+    yield {"type": instance(*decls)}
+    for k in range(count):
+        yield {"import": {"name": words_name("instance", k), "type": {"instance": 0}}}

@@ -4,7 +4,7 @@
     bench/measure.py [RUNS] [TABLE ..]
 
 The tables are `overview`, `small`, `front`, `long`, `nested`, `types`, `resources`, `names`, `core`, `ends`,
-`setters` and `reports`, all of them if none is named. Times are the smallest of RUNS runs, 5 if not given, in
+`setters`, `reports` and `declared`, all of them if none is named. Times are the smallest of RUNS runs, 5 if not given, in
 which the programs that are compared take turns: what else the machine does can only add to them. Peak memory is
 the largest resident size of one more run, in which the bytes that it writes are counted too. Where valgrind is
 there, the instructions of one run are counted: they do not depend on what else the machine does. Memory and
@@ -190,6 +190,19 @@ def reports(runs):
     print_table("Listing of a long type that is imported again", ALL, sizes, runs)
 
 
+def declared(runs):
+    makers = (
+        ("instance types with 20 exports", make_listings.different_instances),
+        ("instance types 31 deep", make_listings.nested_instances),
+        ("instance types that export the one inside twice", make_listings.doubling_instances),
+        ("component types with 1,000 imports", make_listings.component_types),
+    )
+    rows = [(f"{name}, {size}", items, is_counted) for name, make in makers for size, items, is_counted in by_size(make, (1,))]
+    print_table("Listing of declared types", ALL, rows, runs)
+    rows = [(f"{n} imports", make_listings.one_interface(n, 100), True) for n in (250, 500, 1_000)]
+    print_table("Listing of an instance type with 100 resources, imported again", ALL, rows, runs)
+
+
 KINDS = (
     ("functions", make_listings.ordinary),
     ("tuples that name the type before twice", make_listings.twice),
@@ -236,6 +249,7 @@ TABLES = {
     "ends": ends,
     "setters": setters,
     "reports": reports,
+    "declared": declared,
 }
 
 

@@ -1,27 +1,61 @@
--- A state with nothing in it, and modules that join one.
-use Rattle.std.proofs.Common.{◌≡◌, sym, subst, false}
-use Rattle.std.specs.Prelude.{List}
-use Rattle.std.proofs.lemmas.List.Elements.{All-nil}
+-- A state with nothing in it, and types that join the innermost of states.
+use Rattle.std.proofs.Common.{◌≡◌, List, [], ◌∷◌, map, refl, sym, ◌∙◌, ap, subst, arith, true}
+use Rattle.std.proofs.lemmas.List.Elements.{All-nil, All-push}
 use Rattle.wcv_core.specs.declared.features.WasmFeatures.{WasmFeatures}
+use Rattle.wcv_syntax.specs.Model.{Type_form}
 use Rattle.wcv_types.specs.Arena.{Arena}
-use Rattle.wcv_types.specs.Tree.{Text}
-use Rattle.wcv_types.specs.declared.ids.AliasableResourceId.{AliasableResourceId}
-use Rattle.wcv_types.specs.declared.ids.ComponentCoreModuleTypeId.{ComponentCoreModuleTypeId}
-use Rattle.wcv_types.specs.declared.item_map.ComponentItem.{ComponentItem}
-use Rattle.wcv_types.specs.declared.shapes.ComponentEntityType.TheVariants as entity
-use Rattle.wcv_state.specs.Contents.{Contents, empty_state, StateStands}
-use Rattle.wcv_state.specs.Looking.{IsUnnamedIn, has_name, named_ids}
-use Rattle.wcv_state.specs.Promises.{IntroducesNew}
+use Rattle.wcv_types.specs.Entities.{entry_trees}
+use Rattle.wcv_types.specs.Sets.{identities}
+use Rattle.wcv_types.specs.Unfold.{trees}
+use Rattle.wcv_lower.specs.Context.{empty}
+use Rattle.wcv_lower.specs.Owned.{IsCalm}
+use Rattle.wcv_lower.specs.Trees.{Tree_context, Tree_stack, tree_reader}
+use Rattle.wcv_lower.proofs.Calm.{calm_start}
+use Rattle.wcv_state.specs.Contents.{Contents, empty_state, kind_of, ids, core_ids, id_tree, core_tree, sides, names, stack_of}
+use Rattle.wcv_state.specs.Promises.{numbers_of, Keeps}
 use Rattle.wcv_state.specs.declared.kind.ComponentKind.{ComponentKind}
 use Rattle.wcv_state.proofs.Keeping.{empty_stands}
+use Rattle.wcv_state.proofs.Sides.{each_side, each_space, each_core}
+use Rattle.wcv_decls.specs.Declaring.{innermost, AreReady}
+use Rattle.wcv_decls.specs.Stack.{IsOpen, AreCalm, DeclaresOn, KeepsOn}
+use Rattle.wcv_decls.proofs.InnermostStates.{innermost_at, stays}
+use Rattle.wcv_decls.proofs.ReadingOn.{innermost_kept}
 
-pub empty_one_stands : (a : Arena) (k : ComponentKind) (f : WasmFeatures) (s : Contents) → s ≡ empty_state k f → StateStands a s
-empty_one_stands a k f s e = subst (StateStands a) (sym e) (empty_stands a k f)
+-- ## A state with nothing in it
 
--- ## Modules bring no resource
+module _ (a : Arena) (k : ComponentKind) (f : WasmFeatures) where
+  abbrev start : Tree_stack
+  start = record { top = empty tree_reader (kind_of k); outer = []; groups = a.core }
 
-pub module_new : (s : Contents) (id : ComponentCoreModuleTypeId) → IntroducesNew s (entity.Module id)
-module_new s id = record { imported = λ r e. absurd (cc (e)); defined = λ r e. absurd (cc (e)) }
+  empty_stack : stack_of a (empty_state k f) [] ≡ start
+  empty_stack = λ j. record start {
+    top = record start.top {
+      core = λ i. each_core (λ x. map (core_tree (trees a.nodes) x) (core_ids x (empty_state k f).spaces) ≡ []) refl refl refl refl refl refl refl refl i j;
+      space = λ i. each_space (λ x. map (id_tree (trees a.nodes) x) (ids x (empty_state k f).spaces) ≡ []) refl refl refl refl refl i j;
+      side = λ d. each_side (λ e. entry_trees (trees a.nodes) (sides (empty_state k f) e) ≡ []) refl refl d j;
+      named = λ d. each_side (λ e. identities (names (empty_state k f) e) ≡ []) refl refl d j;
+    };
+  }
 
-pub module_unnamed : (es : List (Text × ComponentItem)) (id : ComponentCoreModuleTypeId) → IsUnnamedIn es (entity.Module id)
-module_unnamed es id = All-nil (λ (q : AliasableResourceId). has_name q (named_ids es) ≡ false)
+  empty_ready : AreReady a (empty_state k f ∷ [])
+  empty_ready = record {
+    some = omega arith;
+    each = All-push (IsOpen a) [] (empty_state k f) (All-nil (IsOpen a)) (record { live = refl; stands = empty_stands a k f });
+    calm = subst (IsCalm (numbers_of a)) (sym empty_stack) (calm_start (numbers_of a) (kind_of k) a.core);
+  }
+
+  pub alone_ready : (ss : List Contents) → ss ≡ empty_state k f ∷ [] → AreReady a ss
+  alone_ready ss e = subst (AreReady a) (sym e) empty_ready
+
+-- ## A type that joined
+
+module _ (a b : Arena) (ss ss' : List Contents) (t : Type_form) (h : AreReady a ss) (d : DeclaresOn true a b [] ss ss' t) (keeps : KeepsOn a b ss ss') (calm : AreCalm b ss') where
+  last_kept : Keeps a b d.last.old d.last.new
+  last_kept =
+      subst (λ (s : Contents). Keeps a b s d.last.new) (ap innermost d.last.was ∙ innermost_at d.last.outer d.last.old)
+      (subst (Keeps a b (innermost ss)) (ap innermost d.last.becomes ∙ innermost_at d.last.outer d.last.new) (innermost_kept a b ss ss' h.some keeps))
+
+  pub joined : AreReady b ss'
+  joined =
+      (stays a b ss ss' d.last h.each last_kept d.declared.live
+      (subst (λ (cs : List Tree_context). IsCalm (numbers_of b) (stack_of b d.last.new cs)) d.around (calm d.last.outer d.last.new d.last.becomes))).ready

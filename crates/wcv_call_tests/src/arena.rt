@@ -2,8 +2,8 @@
 use crate::core_types::equal_closed_forms_are_one;
 use crate::externs::names_are_for_their_sorts;
 use crate::sort_calls::{
-    a_path_leads_through, a_reference_has_no_parts, nodes_are_read, resources_are_free,
-    types_get_new_identities, types_have_their_text, value_types_are_equal,
+    a_reference_has_no_parts, nodes_are_read, resources_are_free, types_get_new_identities,
+    types_have_their_text, value_types_are_equal,
 };
 use crate::sorts::add_all;
 use bitflags::Flags;
@@ -18,7 +18,6 @@ pub enum Asked {
     Nodes,
     Names,
     Free,
-    Path,
     Text,
     Identities,
     Reference,
@@ -36,7 +35,6 @@ fn holds(alloc: Global, asked: Asked, types: &mut TypeAlloc) -> bool {
         Asked::Nodes => nodes_are_read(types, ids),
         Asked::Names => names_are_for_their_sorts(types, ids),
         Asked::Free => resources_are_free(types, ids),
-        Asked::Path => a_path_leads_through(types, ids),
         Asked::Text => types_have_their_text(types, ids),
         Asked::Identities => types_get_new_identities(types, ids),
         Asked::Reference => a_reference_has_no_parts(types),

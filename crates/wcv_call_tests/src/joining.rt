@@ -1,5 +1,6 @@
-// Types that join a state, and what is read from it then.
+// Types that join the innermost of states, and what is read from it then.
 ghost use Rattle.std.specs.Prelude.{OnOk};
+ghost use Rattle.wcv_decls.specs.Declaring.{AreReady};
 ghost use Rattle.wcv_decls.specs.Stack.{IsOpen};
 ghost use Rattle.wcv_types.specs.Entities.{EntityStands, SlotStands};
 ghost use Rattle.wcv_types.specs.Unfold.{value_slot};
@@ -7,58 +8,42 @@ ghost use Rattle.wcv_types.specs.Unfold.{value_slot};
 use crate::written::written;
 use std::alloc::{AllocError, Global};
 use wcv_core::{Error, ValType};
-use wcv_decls::add_type_to;
+use wcv_decls::Declare;
 use wcv_state::{ComponentState, Space};
-use wcv_syntax::{ComponentDefinedType, ComponentFuncType, ComponentType, ComponentTypeRef};
+use wcv_syntax::{ComponentDefinedType, ComponentType};
 use wcv_types::{AbiInfo, ComponentEntityType, ComponentValType, ResourceSet, TypeAlloc};
 
 /// A type joins.
-fn add(ty: ComponentType, state: &mut ComponentState, types: &mut TypeAlloc) -> Result<(), Error>
-    requires { IsOpen types.old state.old }
-    ensures { OnOk result (IsOpen types.new state.new) }
+fn add(
+    ty: ComponentType,
+    states: &mut Vec<ComponentState>,
+    types: &mut TypeAlloc,
+) -> Result<(), Error>
+    requires { AreReady types.old states.old.items }
+    ensures { OnOk result (AreReady types.new states.new.items) }
 {
-    match add_type_to(ty, state, types, 0, true) {
+    match ComponentState::add_type(states, ty, types, 0, true) {
         Ok(()) => Ok(()),
         Err(error) => Err(error),
     }
 }
 
 /// So a resource, which `i64` represents.
-fn add_resource(state: &mut ComponentState, types: &mut TypeAlloc) -> Result<(), Error>
-    requires { IsOpen types.old state.old }
-    ensures { OnOk result (IsOpen types.new state.new) }
+fn add_resource(states: &mut Vec<ComponentState>, types: &mut TypeAlloc) -> Result<(), Error>
+    requires { AreReady types.old states.old.items }
+    ensures { OnOk result (AreReady types.new states.new.items) }
 {
     let rep = ValType::I64;
-    add(ComponentType::Resource { rep, dtor: None }, state, types)
+    add(ComponentType::Resource { rep, dtor: None }, states, types)
 }
 
 /// A resource that joins is known with what represents it.
-pub fn a_resource_is_represented(state: &mut ComponentState, types: &mut TypeAlloc) -> bool
-    requires { IsOpen types.old state.old }
+pub fn a_resource_is_represented(states: &mut Vec<ComponentState>, types: &mut TypeAlloc) -> bool
+    requires { AreReady types.old states.old.items }
 {
-    let is_in = add_resource(state, types).is_ok();
-    match state.local_rep(0, 4) {
-        Ok((id, ValType::I64)) => is_in && id.index == 0,
-        _ => false,
-    }
-}
-
-/// A function type gives its entity.
-pub fn a_function_type_is_looked_at(
-    alloc: Global,
-    state: &mut ComponentState,
-    types: &mut TypeAlloc,
-) -> bool
-    requires { IsOpen types.old state.old }
-{
-    let ty = ComponentType::Func(ComponentFuncType {
-        async_: false,
-        params: Vec::new(alloc),
-        result: None,
-    });
-    match add(ty, state, types) {
-        Ok(()) => match state.check_type_ref(&ComponentTypeRef::Func(0), types, 5) {
-            Ok(ComponentEntityType::Func(_)) => true,
+    match add_resource(states, types) {
+        Ok(()) => match states[0].local_rep(0, 4) {
+            Ok((id, ValType::I64)) => id.index == 0,
             _ => false,
         },
         Err(_) => false,
@@ -69,26 +54,26 @@ pub fn a_function_type_is_looked_at(
 fn add_all(
     alloc: Global,
     row: &str,
-    state: &mut ComponentState,
+    states: &mut Vec<ComponentState>,
     types: &mut TypeAlloc,
 ) -> Result<(), Error>
-    requires { IsOpen types.old state.old }
-    ensures { OnOk result (IsOpen types.new state.new) }
+    requires { AreReady types.old states.old.items }
+    ensures { OnOk result (AreReady types.new states.new.items) }
 {
-    add_resource(state, types)?;
+    add_resource(states, types)?;
     add(
         ComponentType::Defined(ComponentDefinedType::Own(0)),
-        state,
+        states,
         types,
     )?;
     add(
         ComponentType::Defined(ComponentDefinedType::Borrow(0)),
-        state,
+        states,
         types,
     )?;
     for text in row.split(" ; ") {
         let ty = written(alloc, text)?;
-        add(ComponentType::Defined(ty), state, types)?;
+        add(ComponentType::Defined(ty), states, types)?;
     }
     Ok(())
 }
@@ -139,14 +124,14 @@ fn is_laid_out(alloc: Global, due: &str, state: &ComponentState, types: &TypeAll
 pub fn types_are_laid_out(
     alloc: Global,
     line: &str,
-    state: &mut ComponentState,
+    states: &mut Vec<ComponentState>,
     types: &mut TypeAlloc,
 ) -> bool
-    requires { IsOpen types.old state.old }
+    requires { AreReady types.old states.old.items }
 {
     let (row, due) = line.split_once(" => ").unwrap_or((line, ""));
-    match add_all(alloc, row, state, types) {
-        Ok(()) => is_laid_out(alloc, due, state, types),
+    match add_all(alloc, row, states, types) {
+        Ok(()) => is_laid_out(alloc, due, &states[0], types),
         Err(_) => false,
     }
 }

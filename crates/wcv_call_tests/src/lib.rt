@@ -28,8 +28,6 @@ mod sort_calls;
 #[cfg(test)]
 mod sorts;
 #[cfg(test)]
-mod stacks;
-#[cfg(test)]
 mod state;
 #[cfg(test)]
 mod states;

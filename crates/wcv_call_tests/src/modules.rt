@@ -3,9 +3,6 @@ ghost use Rattle.std.specs.Prelude.{◌≡◌, IfOk, OnOk};
 ghost use Rattle.wcv_decls.specs.Stack.{IsOpen};
 ghost use Rattle.wcv_module.specs.Kept.{IsCounted};
 ghost use Rattle.wcv_syntax.specs.declared.core_section.TypeRef.TheVariants as reference;
-ghost use Rattle.wcv_types.specs.Entities.{EntityStands};
-ghost use Rattle.wcv_types.specs.Standing.{Stands};
-ghost use Rattle.wcv_types.specs.declared.ids.Part.TheVariants as part;
 
 use crate::lists::MEMORY;
 use bitflags::Flags;
@@ -15,7 +12,7 @@ use wcv_decls::Declare;
 use wcv_module::{Module, NoOuter};
 use wcv_state::ComponentState;
 use wcv_syntax::{ComponentExport, ComponentExternName, ComponentExternalKind, Import, TypeRef};
-use wcv_types::{ComponentCoreModuleTypeId, ComponentEntityType, TypeAlloc};
+use wcv_types::{ComponentEntityType, TypeAlloc};
 
 /// A memory under two names.
 fn memory(alloc: Global) -> Result<Import, OutOfMemory>
@@ -94,8 +91,7 @@ fn exported(
     types: &mut TypeAlloc,
 ) -> Result<ComponentEntityType, Error>
     requires { IsOpen types.old state.old }
-    ensures open { OnOk result (IsOpen types.new state.new) }
-    ensures stands { IfOk result (EntityStands types.new) }
+    ensures { OnOk result (IsOpen types.new state.new) }
 {
     match state.export_to_entity_type(export, types, 0) {
         Ok(ty) => Ok(ty),
@@ -103,37 +99,55 @@ fn exported(
     }
 }
 
-/// A module is exported under a name.
+/// The export joins.
 fn add_entry(
-    name: ComponentExternName,
-    id: ComponentCoreModuleTypeId,
+    export: ComponentExport,
     state: &mut ComponentState,
     types: &mut TypeAlloc,
-) -> bool
-    requires open { IsOpen types.old state.old }
-    requires stands { Stands types.old (part.Module id) }
-{
-    state
-        .add_export(name, ComponentEntityType::Module(id), types, 0, true)
-        .is_ok()
-}
-
-/// So by an export: its entity, and then the entry.
-fn add_export(export: ComponentExport, state: &mut ComponentState, types: &mut TypeAlloc) -> bool
+) -> Result<(), Error>
     requires { IsOpen types.old state.old }
+    ensures { OnOk result (IsOpen types.new state.new) }
 {
-    match exported(&export, state, types) {
-        Ok(ComponentEntityType::Module(id)) => add_entry(export.name, id, state, types),
-        _ => false,
+    match state.add_export_item(export, types, 0) {
+        Ok(()) => Ok(()),
+        Err(error) => Err(error),
     }
 }
 
-/// The first module is exported.
+/// The type of what was read has the export, and so has the state, which is spent.
+fn is_finished(state: &mut ComponentState, types: &TypeAlloc) -> bool
+    requires { IsOpen types.now state.old }
+{
+    match state.finish(types, 7) {
+        Ok(ty) => [ty.exports.len(), state.exports().len()] == [1, 1] && state.is_spent(),
+        Err(_) => false,
+    }
+}
+
+/// So by an export: its entity, and then the entry.
+fn add_export(
+    export: ComponentExport,
+    state: &mut ComponentState,
+    types: &mut TypeAlloc,
+) -> Result<(), Error>
+    requires { IsOpen types.old state.old }
+    ensures { OnOk result (IsOpen types.new state.new) }
+{
+    match exported(&export, state, types) {
+        Ok(_) => add_entry(export, state, types),
+        Err(error) => Err(error),
+    }
+}
+
+/// The first module is exported, and then the end is read.
 fn is_exported(alloc: Global, state: &mut ComponentState, types: &mut TypeAlloc) -> bool
     requires { IsOpen types.old state.old }
 {
     match first(alloc) {
-        Ok(export) => add_export(export, state, types) && state.exports().len() == 1,
+        Ok(export) => match add_export(export, state, types) {
+            Ok(()) => is_finished(state, types),
+            Err(_) => false,
+        },
         Err(_) => false,
     }
 }

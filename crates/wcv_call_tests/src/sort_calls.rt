@@ -1,5 +1,5 @@
 // Calls of the arena over an instance, a component and a core instance.
-ghost use Rattle.std.specs.Prelude.{◌≡◌, ◌<◌, All, OnOk};
+ghost use Rattle.std.specs.Prelude.{All, OnOk};
 ghost use Rattle.wcv_call_tests.specs.Sorts.{AreOf};
 ghost use Rattle.wcv_types.specs.Entities.{any_part, EntryStands};
 ghost use Rattle.wcv_types.specs.Standing.{KeepsTrees, Stands};
@@ -8,14 +8,12 @@ ghost use Rattle.wcv_types.specs.declared.ids.Part.TheVariants as part;
 use crate::ids::Sorts;
 use crate::sorts::{U32, one_entry};
 use bitflags::Flags;
-use std::marker::Brand;
-use std::sync::ledger::{Blank, Ledger};
 use wcv_core::{OutOfMemory, PrimitiveValType, WasmFeatures};
 use wcv_text::push_type;
 use wcv_types::{
-    ComponentAnyTypeId, ComponentEntityType, ComponentInstanceTypeId, ComponentType,
-    ComponentValType, CoreInstanceTypeKind, ItemMap, NodeSort, NodeStore, Part, Paths, ResourceId,
-    ResourceSet, Steps, TypeAlloc, TypeInfo, TypeSet, TypeSort,
+    ComponentAnyTypeId, ComponentCoreInstanceTypeId, ComponentEntityType, ComponentType,
+    ComponentValType, CoreInstanceTypeKind, ItemMap, NodeSort, NodeStore, Part, Paths, ResourceSet,
+    TypeAlloc, TypeInfo, TypeSet, TypeSort,
 };
 
 /// The size and the depth of a node, how many parts it has, and of the first one which place it has.
@@ -36,36 +34,17 @@ fn node<S: NodeSort>(types: &TypeAlloc, id: S) -> [u64; 4]
     [info.size as u64, info.depth as u64, count as u64, place]
 }
 
-/// How many exports an instance has, by a view that is counted.
-fn viewed<L: Ledger>(types: &TypeAlloc, id: ComponentInstanceTypeId, blank: Blank) -> usize
-    requires stands { Stands types.now (part.Instance id) }
-    requires name { blank.name ≡ L.name }
-    requires parts { blank.parts ≡ L.parts }
-    requires some { 0 < blank.parts }
+/// How many exports a core instance has.
+fn exported(types: &TypeAlloc, id: ComponentCoreInstanceTypeId) -> usize
+    requires { Stands types.now (part.CoreInstance id) }
 {
-    let mut steps: Steps<L> = Steps::new(blank);
-    types.view(id, &mut steps).exports.len()
-}
-
-/// How many exports the types have, and how many imports the component.
-fn shapes(types: &TypeAlloc, ids: Sorts) -> [usize; 4]
-    requires { AreOf types.now ids }
-{
-    let made = match &types.get(ids.made).kind {
+    match &types.get(id).kind {
         CoreInstanceTypeKind::Instantiated(_) => 9,
         CoreInstanceTypeKind::Exports(exports) => exports.len(),
-    };
-    let component = types.get(ids.component);
-    let instance = viewed::<Brand>(types, ids.instance, Blank::new(1));
-    [
-        instance,
-        component.imports.len(),
-        component.exports.len(),
-        made,
-    ]
+    }
 }
 
-/// Each of the types has the size, the depth and the parts that are due, and as many entries.
+/// Each of the types has the size, the depth and the parts that are due, and the core instance no export.
 pub fn nodes_are_read(types: &TypeAlloc, ids: Sorts) -> bool
     requires { AreOf types.now ids }
 {
@@ -74,7 +53,7 @@ pub fn nodes_are_read(types: &TypeAlloc, ids: Sorts) -> bool
         node(types, ids.component),
         node(types, ids.made),
     ];
-    nodes == [[2, 2, 2, 0], [4, 3, 1, 0], [1, 1, 0, 9]] && shapes(types, ids) == [1, 1, 1, 0]
+    nodes == [[2, 2, 2, 0], [4, 3, 1, 0], [1, 1, 0, 9]] && exported(types, ids.made) == 0
 }
 
 /// How many resources are free in a type.
@@ -107,37 +86,6 @@ pub fn resources_are_free(types: &TypeAlloc, ids: Sorts) -> bool
     let component = ComponentAnyTypeId::Component(ids.component);
     [free(types, instance), free(types, component)] == [1, 1]
         && [is_named(types, instance), is_named(types, component)] == [true, true]
-}
-
-/// Whether the path to the first resource is that through the first entry.
-fn is_first(paths: &Paths) -> bool {
-    match paths.get(&ResourceId { index: 0 }) {
-        Some(place) => place.positions() == [0, 0].as_slice(),
-        None => false,
-    }
-}
-
-/// Whether the path to the first resource among the items is.
-fn leads(types: &TypeAlloc, items: &ItemMap) -> bool
-    requires { All (EntryStands types.now) items.now }
-{
-    let mut set = ResourceSet::new(types.allocator());
-    let _ = set.push(ResourceId { index: 0 });
-    match types.explicit_resource_paths(items, &set) {
-        Ok(paths) => is_first(&paths),
-        Err(_) => false,
-    }
-}
-
-/// A path leads through the instance.
-pub fn a_path_leads_through(types: &mut TypeAlloc, ids: Sorts) -> bool
-    requires { AreOf types.old ids }
-{
-    let ty = ComponentEntityType::Instance(ids.instance);
-    match one_entry("i", ty, &WasmFeatures::all(), types) {
-        Ok(items) => leads(types, &items),
-        Err(_) => false,
-    }
 }
 
 const TEXT: &str = r#"0: resource r0

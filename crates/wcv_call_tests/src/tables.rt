@@ -12,7 +12,7 @@ use crate::states::{Question, holds, other_layout};
 use std::alloc::Global;
 
 // Whether each case is answered as is due.
-fn cases(alloc: Global) -> [bool; 27] {
+fn cases(alloc: Global) -> [bool; 21] {
     [
         a_label_is_kept(alloc),
         a_group_is_printed(alloc),
@@ -28,7 +28,6 @@ fn cases(alloc: Global) -> [bool; 27] {
         holds_of_arena(alloc, Asked::Nodes),
         holds_of_arena(alloc, Asked::Names),
         holds_of_arena(alloc, Asked::Free),
-        holds_of_arena(alloc, Asked::Path),
         holds_of_arena(alloc, Asked::Text),
         holds_of_arena(alloc, Asked::Identities),
         holds_of_arena(alloc, Asked::Reference),
@@ -36,16 +35,11 @@ fn cases(alloc: Global) -> [bool; 27] {
         holds(alloc, Question::Pushed, ""),
         holds(alloc, Question::Module, ""),
         holds(alloc, Question::Resource, ""),
-        holds(alloc, Question::Func, ""),
-        holds(alloc, Question::ByType(false), ""),
-        holds(alloc, Question::ByType(true), ""),
-        holds(alloc, Question::ByCoreType(false), ""),
-        holds(alloc, Question::ByCoreType(true), ""),
     ]
 }
 
 #[test]
 fn all_is_answered_as_is_due(rt: HostRuntime) {
-    assert_eq!(rt; cases(rt.alloc()), [true; 27]);
+    assert_eq!(rt; cases(rt.alloc()), [true; 21]);
     assert_eq!(rt; other_layout(rt.alloc(), LAYOUTS), "");
 }

@@ -18,3 +18,6 @@ pub mod SameSizes
 pub mod KeptForms
 pub mod SameChecks
 pub mod ClosedTrees
+pub mod ItemMatching
+pub mod ItemIds
+pub mod ModuleMatching

@@ -5,3 +5,6 @@ pub mod ClosedValue
 pub mod ClosedMatching
 pub mod ClosedForm
 pub mod ClosedTree
+pub mod Found
+pub mod ClosedItems
+pub mod CoreModules

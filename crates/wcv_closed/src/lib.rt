@@ -3,6 +3,7 @@
 
 mod closed_laws;
 mod form_laws;
+mod item_laws;
 mod match_laws;
 mod table_laws;
 mod tree_laws;
@@ -16,6 +17,10 @@ pub use form_laws::{
     forms_match_as_their_closed_forms, joining_groups_keep_the_same_rules,
     rules_are_those_of_closed_forms, sizes_are_those_of_closed_items,
     written_groups_have_the_same_causes,
+};
+pub use item_laws::{
+    arguments_serve_each_module_that_matches, items_match_on, items_of_a_table_keep_their_form,
+    modules_match_on,
 };
 pub use match_laws::{
     a_form_that_changes_breaks_matching, closed_forms_match_on, closed_forms_match_themselves,

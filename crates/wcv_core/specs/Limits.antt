@@ -12,6 +12,10 @@ max_entries = 1000000
 abbrev pub max_instances : ℕ
 max_instances = 1000
 
+-- the most components and declared types that are open at once, the root's component among them
+abbrev pub max_open : ℕ
+max_open = 100
+
 -- the size that a type, or the whole of a component's entries, may have
 abbrev pub max_size : ℕ
 max_size = 1000000

@@ -9,6 +9,9 @@ pub const MAX_ENTRIES: usize = 1_000_000;
 /// The most core modules, components, values, and instances together with core instances.
 pub const MAX_INSTANCES: usize = 1_000;
 
+/// The most components and declared types that are open at once, the root's component among them.
+pub const MAX_OPEN: usize = 100;
+
 /// The size that a type, or the whole of a component's entries, may have.
 pub const MAX_SIZE: u64 = 1_000_000;
 

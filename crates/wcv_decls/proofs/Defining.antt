@@ -40,6 +40,7 @@ keeps_defined a r v s h k = record {
     defined = All-push (λ (p : ResourceId × Option ValType). ResourceStands a p.0) s.defined_resources (r, v) h.defined k;
     named = h.named;
     lead = h.lead;
+    sized = record { size = h.sized.size; depth = h.sized.depth };
   };
   entries = entries_refl s.spaces;
   sides = λ d. no_more (sides s d);

@@ -9,7 +9,9 @@ pub mod Naming
 pub mod Positions
 pub mod Repeats
 pub mod Texts
+pub mod DeclaredLeft
 pub mod Stacks
+pub mod Outcomes
 pub mod Ascending
 pub mod Handles
 pub mod Defining
@@ -18,3 +20,16 @@ pub mod Eight
 pub mod CoreEntries
 pub mod CoreGroups
 pub mod CoreModules
+pub mod InnermostStates
+pub mod ReadingOn
+pub mod Plain
+pub mod SimpleDecls
+pub mod InstanceEnds
+pub mod Closing
+pub mod PathKeys
+pub mod TypesOn
+pub mod OverInnermost
+pub mod Opening
+pub mod Whole
+pub mod InstanceNodes
+pub mod FormSizes

@@ -1,23 +1,22 @@
 -- The innermost of the states that are open.
 use Rattle.std.proofs.Common.{◌≡◌, ℕ, zero, suc, ◌<◌, ◌-◌, List, [], ◌∷◌, ◌++◌, length, map, take, refl, ap, subst, sym, ◌∙◌, arith, slice_set, slice_index_or, All, true}
-use Rattle.std.specs.Prelude.{Bool, reverse}
+use Rattle.std.specs.Prelude.{reverse}
 use Rattle.std.proofs.lemmas.List.{map-append, length-map, take_at}
 use Rattle.std.proofs.lemmas.List.Elements.{All-head, All-tail, AllZip-push}
 use Rattle.wcv_core.specs.Names.{Place}
 use Rattle.wcv_core.specs.declared.error.Error.{Error}
-use Rattle.wcv_syntax.specs.Model.{Form, Type_form}
+use Rattle.wcv_syntax.specs.Model.{Form}
 use Rattle.wcv_types.proofs.Lists.{map-id}
 use Rattle.wcv_types.specs.Arena.{Arena}
 use Rattle.wcv_types.specs.Standing.{Extends}
 use Rattle.wcv_lower.specs.Given.{names_of, none_given}
 use Rattle.wcv_lower.specs.Growth.{call_checks}
-use Rattle.wcv_lower.specs.Trees.{Tree_context, tree_maker}
+use Rattle.wcv_lower.specs.Trees.{tree_maker}
 use Rattle.wcv_state.specs.Contents.{Contents, spent, context_of}
 use Rattle.wcv_state.specs.Promises.{MemoryOrCausedBy, Keeps, Grew}
 use Rattle.wcv_state.proofs.Keeping.{same_mapped, same_context, keeps_grown, keeps_marked, keeps_trans}
 use Rattle.wcv_decls.specs.CoreItems.{CausedIn}
-use Rattle.wcv_decls.specs.Items.{Declared, TypeCaused}
-use Rattle.wcv_decls.specs.Stack.{IsOpen, all_spent, DeclaresOn, RefusesOn, GrewOn, RefusedOn, KeepsOn, contexts_around, stack_on}
+use Rattle.wcv_decls.specs.Stack.{IsOpen, all_spent, GrewOn, RefusedOn, KeepsOn, contexts_around, stack_on}
 use Rattle.wcv_decls.proofs.CoreEntries.{open_split}
 use Rattle.wcv_decls.proofs.Naming.{none_made}
 
@@ -65,13 +64,6 @@ module _ (ss : List Contents) (k : ℕ) (s s' : Contents) (e : k ≡ length ss -
     grew = g r.front r.was;
   }
 
-  pub declares_on : (limited : Bool) (a a' : Arena) (p : Place) (t : Type_form) → All (IsOpen a) ss → Extends a a' → ((outer : List Tree_context) (q : Place) → Declared limited a a' outer q s s' t) → DeclaresOn limited a a' p ss (slice_set ss k s') t
-  declares_on limited a a' p t o x f = let r = last_set ss k s s' e h i in record {
-    last = record { outer = r.front; old = s; new = s'; was = r.was; becomes = r.becomes };
-    around = around_same a a' x r.front (open_split a r.front s (subst (All (IsOpen a)) r.was o)).0;
-    declared = f (contexts_around a r.front) p;
-  }
-
   pub kept_on : (a a' : Arena) → All (IsOpen a) ss → Keeps a a' s s' → KeepsOn a a' ss (slice_set ss k s')
   kept_on a a' o w =
       let r = last_set ss k s s' e h i in
@@ -92,13 +84,6 @@ module _ (ss : List Contents) (k : ℕ) (s s' : Contents) (e : k ≡ length ss -
   refused_on a a' p f offset x g = let r = last_set ss k s s' e h i in record {
     last = record { outer = r.front; old = s; new = spent s'; was = r.was; becomes = marked s' r.front (slice_set ss k s') r.becomes };
     refused = (refl, record { names = none_given; given = none_made a a' p; caused = g r.front r.was });
-  }
-
-  pub refuses_on : {M : Type 0} (limited : Bool) (a a' : Arena) (p : Place) (t : Type_form) (offset : ℕ) (x : Error M) → TypeCaused limited a a' p s t offset x → RefusesOn limited a a' p ss (all_spent (slice_set ss k s')) t offset x
-  refuses_on limited a a' p t offset x f = let r = last_set ss k s s' e h i in record {
-    last = record { outer = r.front; old = s; new = spent s'; was = r.was; becomes = marked s' r.front (slice_set ss k s') r.becomes };
-    spent = refl;
-    caused = f;
   }
 
 -- where no state became another before
@@ -132,3 +117,13 @@ both_mapped P ss ss' h = subst (P (map (λ x. x) ss)) (sym (map-id ss')) (subst 
 -- and what a trait says of the states holds of them
 pub unmapped : (P : List Contents → List Contents → Type 0) (ss ss' : List Contents) → P (map (λ x. x) ss) (map (λ x. x) ss') → P ss ss'
 unmapped P ss ss' h = subst (P ss) (map-id ss') (subst (λ (xs : List Contents). P xs (map (λ x. x) ss')) (map-id ss) h)
+
+-- what a vector holds once a call changed its states in place
+pub kept_back : (a b : Arena) (ss ys zs : List Contents) (n : ℕ) → n ≡ length ss → KeepsOn a b ss ys → take n (ys ++ zs) ≡ ys
+kept_back a b ss ys zs n l k = take_at ys zs n (as_long ss ys k ∙ sym l)
+  where
+    as_long : (ss ys : List Contents) → KeepsOn a b ss ys → length ys ≡ length ss
+    as_long [] [] h = refl
+    as_long [] (t ∷ ts) h = elim h [ ]
+    as_long (s ∷ ss) [] h = elim h [ ]
+    as_long (s ∷ ss) (t ∷ ts) h = ap suc (as_long ss ts h.1)

@@ -1,5 +1,5 @@
 -- Texts of a list, one after another.
-use Rattle.std.proofs.Common.{◌≡◌, ℕ, suc, ◌+◌, List, [], ◌∷◌, ◌++◌, take, drop, Some, sym, subst, inr}
+use Rattle.std.proofs.Common.{◌≡◌, ℕ, suc, ◌+◌, List, [], ◌∷◌, ◌++◌, take, drop, Some, sym, subst, inl, inr}
 use Rattle.std.specs.Prelude.{slice_get}
 use Rattle.wcv_core.specs.Refusal.{error_kind}
 use Rattle.wcv_core.specs.declared.error.Error.{Error}
@@ -28,3 +28,24 @@ module _ (ts : List Text) (i : ℕ) (t : Text) (at : slice_get ts i ≡ Some t) 
   texts_caused offset e c =
       caused_more (too_long t) (each_too_long ts) offset e
       (λ d. subst (λ (xs : List Text). Cause (each_too_long xs) (error_kind e)) (split-at ts i t at) (one_fails (take i ts) (drop (suc i) ts) t (error_kind e) d)) c
+
+-- ## Texts of one list and of another
+
+pub texts_both : (xs ys : List Text) → IsFree (each_too_long xs) → IsFree (each_too_long ys) → IsFree (each_too_long (xs ++ ys))
+texts_both [] ys f g = g
+texts_both (x ∷ xs) ys f g = (f.0, texts_both xs ys f.1 g)
+
+first_texts : (xs ys : List Text) (k : ErrorKind) → Cause (each_too_long xs) k → Cause (each_too_long (xs ++ ys)) k
+first_texts [] ys k c = absurd c
+first_texts (x ∷ xs) ys k (inl c) = inl c
+first_texts (x ∷ xs) ys k (inr c) = inr (first_texts xs ys k c)
+
+later_texts : (xs ys : List Text) (k : ErrorKind) → Cause (each_too_long ys) k → Cause (each_too_long (xs ++ ys)) k
+later_texts [] ys k c = c
+later_texts (x ∷ xs) ys k c = inr (later_texts xs ys k c)
+
+pub caused_first : {M : Type 0} (xs ys : List Text) (offset : ℕ) (e : Error M) → MemoryOrCausedBy (each_too_long xs) offset e → MemoryOrCausedBy (each_too_long (xs ++ ys)) offset e
+caused_first xs ys offset e t = caused_more (each_too_long xs) (each_too_long (xs ++ ys)) offset e (first_texts xs ys (error_kind e)) t
+
+pub caused_later : {M : Type 0} (xs ys : List Text) (offset : ℕ) (e : Error M) → MemoryOrCausedBy (each_too_long ys) offset e → MemoryOrCausedBy (each_too_long (xs ++ ys)) offset e
+caused_later xs ys offset e t = caused_more (each_too_long ys) (each_too_long (xs ++ ys)) offset e (later_texts xs ys (error_kind e)) t

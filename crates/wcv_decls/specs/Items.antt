@@ -3,13 +3,14 @@ use Rattle.std.specs.Prelude.{ℕ, suc, List, Bool, false, Some, length, ◌≡�
 use Rattle.wcv_core.specs.Names.{Place, number}
 use Rattle.wcv_core.specs.declared.error.Error.{Error}
 use Rattle.wcv_core.specs.declared.features.WasmFeatures.{WasmFeatures}
-use Rattle.wcv_syntax.specs.Built.{is_built_type}
+use Rattle.wcv_syntax.specs.Built.{is_plain_type, is_built_type}
 use Rattle.wcv_syntax.specs.Model.{Type_form, type_item}
 use Rattle.wcv_types.specs.Arena.{Arena}
 use Rattle.wcv_types.specs.Unfold.{tree_of, trees}
 use Rattle.wcv_types.specs.declared.arena.Node.{Node}
 use Rattle.wcv_lower.specs.Checks.{Checks, IsFree}
-use Rattle.wcv_lower.specs.Context.{Context, in_types, push}
+use Rattle.wcv_lower.specs.Context.{Context, Stack, in_types, push}
+use Rattle.wcv_lower.specs.Declared.{Makers, read_type, declared_checks}
 use Rattle.wcv_lower.specs.Given.{GivenNames, names_of, GivesAt}
 use Rattle.wcv_lower.specs.Growth.{grow}
 use Rattle.wcv_lower.specs.Names.{Under}
@@ -20,8 +21,12 @@ use Rattle.wcv_state.specs.Contents.{Contents, context_of, stack_of}
 use Rattle.wcv_state.specs.Promises.{MemoryOrCausedBy, numbers_of, Keeps, if_built}
 
 -- the causes of a type item, where the number of types is looked at if `limited` says so
-abbrev pub declare_checks : {X : Reader} → Bool → WasmFeatures → Maker X → Context X → Type_form → Checks
-declare_checks limited fs mk c t = if_built (is_built_type t) (type_checks limited fs mk c t)
+abbrev pub declare_checks : {X : Reader} → Bool → WasmFeatures → Makers X → Place → Stack X → Type_form → Checks
+declare_checks limited fs mk p s t = if_built (is_built_type t) (declared_checks limited fs mk p s t)
+
+-- so of one that is made in one step
+abbrev pub plain_checks : {X : Reader} → Bool → WasmFeatures → Maker X → Context X → Type_form → Checks
+plain_checks limited fs mk c t = if_built (is_plain_type t) (type_checks limited fs mk c t)
 
 -- the node is the arena's next one, and joined the types
 pub record Stored (a b : Arena) (s s' : Contents) (x : Node) : Type 0 where
@@ -49,16 +54,16 @@ pub record Declares (a b : Arena) (s s' : Contents) (t : Type_form) : Type 0 whe
   pub live : s'.spent ≡ false
   pub keeps : Keeps a b s s'
 
--- so at that place, by names that the arena gave, and it has no cause that is looked at
+-- the type item was read at that place, by names that the arena gave, in the contexts further out, and has no cause that is looked at
 pub record Declared (limited : Bool) (a a' : Arena) (outer : List Tree_context) (p : Place) (s s' : Contents) (t : Type_form) : Type 0 where
   pub names : GivenNames
   pub given : GivesAt (Under p) (numbers_of a) (numbers_of a') names
-  pub grown : grow s.features (tree_maker (names_of names) p) (stack_of a s outer) (type_item t) ≡ Some (stack_of a' s' outer)
-  pub free : IsFree (declare_checks limited s.features (tree_maker (names_of names) p) (context_of a s) t)
+  pub read : read_type s.features (tree_maker (names_of names)) p (stack_of a s outer) t ≡ Some (stack_of a' s' outer)
+  pub free : IsFree (declare_checks limited s.features (tree_maker (names_of names)) p (stack_of a s outer) t)
   pub live : s'.spent ≡ false
 
 -- the error is out of memory, or a cause of the type item at that place by names that the arena gave
-pub record TypeCaused {M : Type 0} (limited : Bool) (a a' : Arena) (p : Place) (s : Contents) (t : Type_form) (offset : ℕ) (e : Error M) : Type 0 where
+pub record TypeCaused {M : Type 0} (limited : Bool) (a a' : Arena) (outer : List Tree_context) (p : Place) (s : Contents) (t : Type_form) (offset : ℕ) (e : Error M) : Type 0 where
   pub names : GivenNames
   pub given : GivesAt (Under p) (numbers_of a) (numbers_of a') names
-  pub caused : MemoryOrCausedBy (declare_checks limited s.features (tree_maker (names_of names) p) (context_of a s) t) offset e
+  pub caused : MemoryOrCausedBy (declare_checks limited s.features (tree_maker (names_of names)) p (stack_of a s outer) t) offset e

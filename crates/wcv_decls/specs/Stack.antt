@@ -5,9 +5,10 @@ use Rattle.wcv_core.specs.Names.{Place}
 use Rattle.wcv_core.specs.declared.error.Error.{Error}
 use Rattle.wcv_syntax.specs.Model.{Form, Type_form}
 use Rattle.wcv_types.specs.Arena.{Arena}
+use Rattle.wcv_lower.specs.Owned.{IsCalm}
 use Rattle.wcv_lower.specs.Trees.{Tree_context, Tree_stack}
 use Rattle.wcv_state.specs.Contents.{Contents, spent, context_of, stack_of, StateStands}
-use Rattle.wcv_state.specs.Promises.{Keeps, Grew, Refuses}
+use Rattle.wcv_state.specs.Promises.{numbers_of, Keeps, Grew, Refuses}
 use Rattle.wcv_decls.specs.Items.{Declared, TypeCaused}
 
 -- the state may be used, and its ids stand in the arena
@@ -49,7 +50,11 @@ pub record RefusedOn {M : Type 0} (a a' : Arena) (p : Place) (ss ss' : List Cont
   pub last : ChangesLast all_spent ss ss'
   pub refused : Refuses a a' (contexts_around a last.outer) p last.old last.new f offset e
 
--- the innermost grew by the type item at that place, and the others stay, with their contexts
+-- what stands in the states owns apart, and none that is open has a resource of another
+abbrev pub AreCalm : Arena → List Contents → Type 0
+AreCalm a ss = (outer : List Contents) (s : Contents) → ss ≡ outer ++ s ∷ [] → IsCalm (numbers_of a) (stack_on a outer s)
+
+-- the type item was read in the innermost at that place, and the others stay, with their contexts
 pub record DeclaresOn (limited : Bool) (a a' : Arena) (p : Place) (ss ss' : List Contents) (t : Type_form) : Type 0 where
   pub last : ChangesLast stay ss ss'
   pub around : contexts_around a' last.outer ≡ contexts_around a last.outer
@@ -59,7 +64,7 @@ pub record DeclaresOn (limited : Bool) (a a' : Arena) (p : Place) (ss ss' : List
 pub record RefusesOn {M : Type 0} (limited : Bool) (a a' : Arena) (p : Place) (ss ss' : List Contents) (t : Type_form) (offset : ℕ) (e : Error M) : Type 0 where
   pub last : ChangesLast all_spent ss ss'
   pub spent : last.new.spent ≡ true
-  pub caused : TypeCaused limited a a' p last.old t offset e
+  pub caused : TypeCaused limited a a' (contexts_around a last.outer) p last.old t offset e
 
 -- whatever is answered, each state keeps what stood
 abbrev pub KeepsOn : Arena → Arena → List Contents → List Contents → Type 0

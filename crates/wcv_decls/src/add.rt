@@ -1,7 +1,7 @@
 // Type items of each form.
 ghost use Rattle.std.specs.Prelude.{◌≡◌, [], true, false, cond, OnOk, OnErr, IfErr};
 ghost use Rattle.wcv_core.specs.Names.{Place};
-ghost use Rattle.wcv_syntax.specs.Built as built;
+ghost use Rattle.wcv_syntax.specs.Built.{is_plain_type};
 ghost use Rattle.wcv_syntax.specs.Model.{defined_type, func_type};
 ghost use Rattle.wcv_syntax.specs.View.{defined_view, func_view, type_view};
 ghost use Rattle.wcv_lower.specs.Checks.{IsFree};
@@ -114,8 +114,8 @@ fn add_func(
     Ok(())
 }
 
-/// A type of a form that is built.
-pub fn add_built(
+/// A type that is made in one step.
+pub fn add_plain(
     ty: ComponentType,
     state: &mut ComponentState,
     types: &mut TypeAlloc,
@@ -123,7 +123,7 @@ pub fn add_built(
 ) -> Result<(), Error>
     requires live { state.old.spent ≡ false }
     requires stands { StateStands types.old state.old }
-    requires built { built.is_built_type (type_view ty) ≡ true }
+    requires plain { is_plain_type (type_view ty) ≡ true }
     ensures ok { OnOk result (Declares types.old types.new state.old state.new (type_view ty)) }
     ensures free { OnOk result ((n : Names) (p : Place) → IsFree (tree_checks state.old.features (tree_maker n p) (context_of types.old state.old) (type_view ty))) }
     ensures err { IfErr result (λ e. (n : Names) (p : Place) → MemoryOrCausedBy (tree_checks state.old.features (tree_maker n p) (context_of types.old state.old) (type_view ty)) offset e) }

@@ -46,7 +46,7 @@ fn add_group(
 }
 
 /// The innermost of the states.
-fn innermost(components: &[ComponentState]) -> &ComponentState
+pub fn innermost(components: &[ComponentState]) -> &ComponentState
     requires { 0 < length components.now }
     ensures { (outer : List Contents) (s : Contents) → components.now ≡ outer ++ s ∷ [] → result.now ≡ s }
 {

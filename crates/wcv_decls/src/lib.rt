@@ -3,11 +3,15 @@
 
 mod add;
 mod alike;
+mod close;
 mod content;
 mod core_limits;
 mod core_module;
 mod core_type;
+mod declarations;
 mod declare;
+mod declared;
+mod declared_limits;
 mod defined;
 mod features;
 mod func;
@@ -15,8 +19,10 @@ mod limits;
 mod lists;
 mod lower;
 mod marks;
+mod name_texts;
 mod names;
 mod number;
+mod open;
 mod resource;
 mod room;
 mod shape;
@@ -27,6 +33,7 @@ mod values;
 
 pub use core_limits::{check_core_limits, check_core_module_limits};
 pub use core_module::add_core_module_to;
-pub use declare::add_type_to;
+pub use declared_limits::check_declared_limits;
 pub use limits::check_limits;
+pub use name_texts::check_name;
 pub use stack::Declare;

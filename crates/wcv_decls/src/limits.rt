@@ -62,7 +62,7 @@ fn check_texts<'a>(list: NameList<'a>, offset: u64) -> Result<(), Refusal<'a>>
 }
 
 /// Whether a type has no more entries than a limit. What it is, and what an entry of it is, are for the message.
-fn check_count(
+pub fn check_count(
     count: usize,
     limit: usize,
     ty: &'static str,

@@ -4,6 +4,7 @@ ghost use Rattle.wcv_core.specs.CoreGroups.{total};
 ghost use Rattle.wcv_core.specs.CoreSizes.{IsEntityWithin};
 ghost use Rattle.wcv_core.specs.Names.{Place};
 ghost use Rattle.wcv_module.specs.Kept.{module_items};
+ghost use Rattle.wcv_syntax.specs.Built as built;
 ghost use Rattle.wcv_syntax.specs.Model.{core_type_item};
 ghost use Rattle.wcv_syntax.specs.ModuleTypes.{whole_checks};
 ghost use Rattle.wcv_syntax.specs.View.{type_view, core_type_view};
@@ -12,16 +13,17 @@ ghost use Rattle.wcv_lower.specs.Checks.{IsFree};
 ghost use Rattle.wcv_lower.specs.Context.{core_modules};
 ghost use Rattle.wcv_state.specs.Promises.{MemoryOrCausedBy, Keeps};
 ghost use Rattle.wcv_decls.specs.CoreItems.{JoinedModule};
-ghost use Rattle.wcv_decls.specs.Stack.{IsOpen, DeclaresOn, RefusesOn, GrewOn, RefusedOn, KeepsOn};
+ghost use Rattle.wcv_decls.specs.Declaring.{AreReady, StayReady, MemoryOr, SameAround, ReadsType, RefusesItem};
+ghost use Rattle.wcv_decls.specs.Stack.{IsOpen, AreCalm, DeclaresOn, RefusesOn, GrewOn, RefusedOn, KeepsOn};
 
 use crate::core_module::{ModuleSpace, join_module};
 use crate::core_type::add_core_type_on;
-use crate::declare::add_type_to;
+use crate::declared::declare_type;
 use crate::marks::mark_all_spent;
 use wcv_core::Error;
 use wcv_module::Module;
-use wcv_state::ComponentState;
-use wcv_syntax::{ComponentType, CoreType};
+use wcv_state::{ComponentState, check_form};
+use wcv_syntax::{ComponentType, CoreType, TypeForm, is_built_type};
 use wcv_types::TypeAlloc;
 
 /// A state to which items that declare something are added. Those that are open around it stand before it.
@@ -31,7 +33,8 @@ pub trait Declare: Sized {
     /// What the state holds.
     ghost contents: { Self → Contents };
 
-    /// A type item joins the types of the innermost state. After an error the states are spent.
+    /// A type item joins the types of the innermost state: a declared type is read declaration by declaration, in a
+    /// state of its own on top of the others. After an error the states are spent, and as many as before.
     fn add_type(
         components: &mut Vec<Self>,
         ty: ComponentType,
@@ -41,7 +44,9 @@ pub trait Declare: Sized {
     ) -> Result<(), Error>
         requires some { 0 < length components.old.items }
         requires open { All (IsOpen types.old) (map contents components.old.items) }
+        requires calm { AreCalm types.old (map contents components.old.items) }
         ensures ok { OnOk result ((p : Place) → DeclaresOn check_limit types.old types.new p (map contents components.old.items) (map contents components.new.items) (type_view ty)) }
+        ensures calm { OnOk result (AreCalm types.new (map contents components.new.items)) }
         ensures err { IfErr result (λ e. (p : Place) → RefusesOn check_limit types.old types.new p (map contents components.old.items) (map contents components.new.items) (type_view ty) offset e) }
         ensures keeps { KeepsOn types.old types.new (map contents components.old.items) (map contents components.new.items) };
 
@@ -76,6 +81,26 @@ pub trait Declare: Sized {
         ensures keeps { Keeps types.old types.new (contents self.old) (contents self.new) };
 }
 
+/// A type item joins the types of the innermost state, where its form is built.
+fn declare_item(
+    ty: ComponentType,
+    components: &mut Vec<ComponentState>,
+    types: &mut TypeAlloc,
+    offset: u64,
+    check_limit: bool,
+) -> Result<(), Error>
+    requires { AreReady types.old components.old.items }
+    ensures built { OnOk result (built.is_built_type (type_view ty) ≡ true) }
+    ensures ok { OnOk result (ReadsType check_limit types.old types.new components.old.items components.new.items (type_view ty)) }
+    ensures ready { OnOk result (StayReady types.new components.old.items components.new.items) }
+    ensures err { IfErr result (MemoryOr (RefusesItem check_limit types.old types.new components.old.items (type_view ty)) offset) }
+    ensures around { OnErr result (SameAround components.old.items components.new.items) }
+    ensures keeps { KeepsOn types.old types.new components.old.items components.new.items }
+{
+    check_form(is_built_type(&ty), TypeForm(&ty), offset)?;
+    declare_type(ty, components, types, offset, check_limit)
+}
+
 impl Declare for ComponentState {
     ghost use Rattle.wcv_state.specs.Contents.{Contents};
 
@@ -88,8 +113,7 @@ impl Declare for ComponentState {
         offset: u64,
         check_limit: bool,
     ) -> Result<(), Error> {
-        let last = components.len() - 1;
-        match add_type_to(ty, &mut components[last], types, offset, check_limit) {
+        match declare_item(ty, components, types, offset, check_limit) {
             Ok(()) => Ok(()),
             Err(error) => {
                 mark_all_spent(components.as_mut_slice());

@@ -6,13 +6,13 @@ use Rattle.wcv_core.specs.declared.error.ErrorKind.{ErrorKind}
 use Rattle.wcv_core.specs.declared.features.WasmFeatures.{WasmFeatures}
 use Rattle.wcv_syntax.specs.Model.{Form, Items, no_items, next_item}
 use Rattle.wcv_lower.specs.Checks.{IsFree}
-use Rattle.wcv_lower.specs.Growth.{grow, checks}
+use Rattle.wcv_lower.specs.Items.{read_item, item_causes}
 use Rattle.wcv_lower.specs.Mapped.{map_stack}
 use Rattle.wcv_lower.specs.Names.{Names, Under, AreRenamed}
 use Rattle.wcv_lower.specs.Renamed.{Renaming, renaming}
 use Rattle.wcv_lower.specs.Trees.{Tree_stack, tree_maker}
-use Rattle.wcv_lower.proofs.Agreeing.{SameNames, grow-agrees, checks-agree}
-use Rattle.wcv_lower.proofs.Growing.{grow-renamed, checks-renamed}
+use Rattle.wcv_lower.proofs.Agreeing.{SameNames}
+use Rattle.wcv_lower.proofs.ItemLaws.{read_item-agrees, item_causes-agree, read_item-renamed, item_causes-renamed}
 use Rattle.wcv_link.specs.Progress.{ValidAsFar}
 use Rattle.wcv_link.specs.Valid.{ValidFrom, RefusedFrom}
 
@@ -24,18 +24,18 @@ module _ (fs : WasmFeatures) (names : Names) (w : Place) where
 
   -- one more item
   pub one_further : (k : ℕ) (c : Tree_stack) (is : Items) (n : ℕ) (d e : Tree_stack) (at : ℕ) (f : Form) (rest : Items) → ValidAsFar fs names w k c is n d (next_item at f rest) →
-      IsFree (checks fs (tree_maker names (deeper w n)) d f) → grow fs (tree_maker names (deeper w n)) d f ≡ Some e → ValidAsFar fs names w k c is (suc n) e rest
+      IsFree (item_causes fs (tree_maker names) (deeper w n) d f) → read_item fs (tree_maker names) (deeper w n) d f ≡ Some e → ValidAsFar fs names w k c is (suc n) e rest
   one_further k c no_items n d e at f rest (p, q, r) free grown = cc
   one_further k c (next_item at' f' is) n d e at f rest (inl x) free grown =
       let t : next_item at f rest ≡ next_item at' f' is = x.2 in
       let ef : f ≡ f' = cc in
       let er : rest ≡ is = cc in
-      let free' : IsFree (checks fs (tree_maker names (deeper w k)) c f') =
-      subst (λ (z : ℕ). IsFree (checks fs (tree_maker names (deeper w z)) c f')) x.0
-      (subst (λ (z : Tree_stack). IsFree (checks fs (tree_maker names (deeper w n)) z f')) x.1 (subst (λ (z : Form). IsFree (checks fs (tree_maker names (deeper w n)) d z)) ef free)) in
-      let grown' : grow fs (tree_maker names (deeper w k)) c f' ≡ Some e =
-      subst (λ (z : ℕ). grow fs (tree_maker names (deeper w z)) c f' ≡ Some e) x.0
-      (subst (λ (z : Tree_stack). grow fs (tree_maker names (deeper w n)) z f' ≡ Some e) x.1 (subst (λ (z : Form). grow fs (tree_maker names (deeper w n)) d z ≡ Some e) ef grown)) in
+      let free' : IsFree (item_causes fs (tree_maker names) (deeper w k) c f') =
+      subst (λ (z : ℕ). IsFree (item_causes fs (tree_maker names) (deeper w z) c f')) x.0
+      (subst (λ (z : Tree_stack). IsFree (item_causes fs (tree_maker names) (deeper w n) z f')) x.1 (subst (λ (z : Form). IsFree (item_causes fs (tree_maker names) (deeper w n) d z)) ef free)) in
+      let grown' : read_item fs (tree_maker names) (deeper w k) c f' ≡ Some e =
+      subst (λ (z : ℕ). read_item fs (tree_maker names) (deeper w z) c f' ≡ Some e) x.0
+      (subst (λ (z : Tree_stack). read_item fs (tree_maker names) (deeper w n) z f' ≡ Some e) x.1 (subst (λ (z : Form). read_item fs (tree_maker names) (deeper w n) d z ≡ Some e) ef grown)) in
       inr (
         free',
         (
@@ -83,10 +83,10 @@ as_far-agrees fs names other w k s (next_item at f is) n t left same (inr x) =
     let m : suc k ≤ n = not_back fs names w (suc k) x.1.0 is n t left x.1.2 in
     let here : SameNames (Under (deeper w k)) names other = same k (omega arith) (omega (arith, m)) in
     inr (
-      subst IsFree (sym (checks-agree names other (deeper w k) here fs s f)) x.0,
+      subst IsFree (sym (item_causes-agree names other (deeper w k) here fs s f)) x.0,
       (
         x.1.0,
-        grow-agrees names other (deeper w k) here fs s f ∙ x.1.1,
+        read_item-agrees names other (deeper w k) here fs s f ∙ x.1.1,
         as_far-agrees fs names other w (suc k) x.1.0 is n t left (λ j l h. same j (omega (arith, l)) h) x.1.2,
       ),
     )
@@ -98,10 +98,10 @@ as_far-renamed v fs names other w renamed k s no_items n t left r = (r.0, ap (ma
 as_far-renamed v fs names other w renamed k s (next_item at f is) n t left (inl x) = inl (x.0, ap (map_stack (renaming v)) x.1, x.2)
 as_far-renamed v fs names other w renamed k s (next_item at f is) n t left (inr x) =
     inr (
-      subst IsFree (sym (checks-renamed v names other (deeper w k) (renamed (deeper w k)) fs s f)) x.0,
+      subst IsFree (sym (item_causes-renamed v names other (deeper w k) (renamed (deeper w k)) fs s f)) x.0,
       (
         map_stack (renaming v) x.1.0,
-        grow-renamed v names other (deeper w k) (renamed (deeper w k)) fs s f ∙ ap (option_map (map_stack (renaming v))) x.1.1,
+        read_item-renamed v names other (deeper w k) (renamed (deeper w k)) fs s f ∙ ap (option_map (map_stack (renaming v))) x.1.1,
         as_far-renamed v fs names other w renamed (suc k) x.1.0 is n t left x.1.2,
       ),
     )

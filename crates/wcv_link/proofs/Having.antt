@@ -1,11 +1,12 @@
 -- Lists of names with something beside each: whether a name stands there.
-use Rattle.std.proofs.Common.{◌≡◌, ℕ, zero, suc, ◌<◌, List, [], ◌∷◌, ◌++◌, length, map, false, refl, sym, ◌∙◌, ap, subst, arith, ◌⊎◌, inl, inr}
+use Rattle.std.proofs.Common.{◌≡◌, ℕ, zero, suc, ◌<◌, List, [], ◌∷◌, ◌++◌, length, map, true, false, refl, sym, ◌∙◌, ap, arith, ◌⊎◌, inl, inr}
 use Rattle.std.specs.List.{IsDistinct, AllByRecursion}
 use Rattle.std.specs.Prelude.{Contains, slice_index_or}
-use Rattle.wcv_core.specs.Names.{Name, same}
-use Rattle.wcv_core.proofs.Names.{same-true}
+use Rattle.wcv_core.specs.Names.{Name, same, member}
+use Rattle.std.proofs.lemmas.Bool.{false≢true, or_cases}
+use Rattle.wcv_core.proofs.Names.{same-true, same-equal}
 use Rattle.wcv_types.specs.Tree.{firsts}
-use Rattle.wcv_lower.proofs.Given.{not_so}
+use Rattle.wcv_lower.proofs.Given.{or_left, or_right, not_so}
 
 module _ {X : Type 0} where
   -- the name stands in the list
@@ -30,14 +31,6 @@ module _ {X : Type 0} where
       further : Has xs r ⊎ Has ys r → ((r ≡ x.0) ⊎ Has xs r) ⊎ Has ys r
       further (inl k) = inl (inr k)
       further (inr k) = inr k
-
-  pub has-last : (xs : List (Name × X)) (x : Name × X) (r : Name) → Has (xs ++ x ∷ []) r → Has xs r ⊎ (r ≡ x.0)
-  has-last xs x r h = alone (has-both xs (x ∷ []) r h)
-    where
-      alone : Has xs r ⊎ Has (x ∷ []) r → Has xs r ⊎ (r ≡ x.0)
-      alone (inl k) = inl k
-      alone (inr (inl e)) = inr e
-      alone (inr (inr k)) = absurd k
 
   -- what stands beside it
   pub has-contains : (xs : List (Name × X)) (r : Name) → Has xs r → (x : X) × Contains xs (r, x)
@@ -70,13 +63,6 @@ module _ {X : Type 0} where
       apart (inl h) = o.0 h
       apart (inr g) = n x.0 (inl refl) g
 
-  pub once-last : (xs : List (Name × X)) (x : Name × X) → Once xs → (Has xs x.0 → ⊥) → Once (xs ++ x ∷ [])
-  once-last xs x o n = once-both xs (x ∷ []) o (λ h. h, tt) (λ r h g. other r h g)
-    where
-      other : (r : Name) → Has xs r → Has (x ∷ []) r → ⊥
-      other r h (inl e) = n (subst (Has xs) e h)
-      other r h (inr k) = k
-
   -- ## Renamed
 
   pub has-renamed : (f : Name → Name) (xs : List (Name × X)) (r : Name) → Has xs r → Has (map (λ d. (f d.0, d.1)) xs) (f r)
@@ -102,3 +88,42 @@ pub distinct : (ds : List (Name × List ℕ)) → Once ds → IsDistinct same (f
 unfolding IsDistinct
 distinct [] o = tt
 distinct (d ∷ ds) o = (others d.0 ds o.0, distinct ds o.1)
+
+-- ## Names alone
+
+module _ {X : Type 0} where
+  abbrev pub names_in : List (Name × X) → List Name
+  names_in xs = map (λ d. d.0) xs
+
+  pub member-has : (xs : List (Name × X)) (r : Name) → member r (names_in xs) ≡ true → Has xs r
+  member-has [] r e = absurd (false≢true e)
+  member-has (x ∷ xs) r e = go (or_cases (same r x.0) (member r (names_in xs)) e) (λ h. member-has xs r h)
+    where
+      go : (same r x.0 ≡ true) ⊎ (member r (names_in xs) ≡ true) → (member r (names_in xs) ≡ true → Has xs r) → (r ≡ x.0) ⊎ Has xs r
+      go (inl h) further = inl (same-true r x.0 h)
+      go (inr h) further = inr (further h)
+
+  pub has-member : (xs : List (Name × X)) (r : Name) → Has xs r → member r (names_in xs) ≡ true
+  has-member [] r h = absurd h
+  has-member (x ∷ xs) r (inl e) = or_left (same r x.0) (member r (names_in xs)) (same-equal r x.0 e)
+  has-member (x ∷ xs) r (inr h) = or_right (same r x.0) (member r (names_in xs)) (has-member xs r h)
+
+-- ## Something else beside each
+
+module _ {X Y : Type 0} (f : X → Y) where
+  abbrev pub beside : List (Name × X) → List (Name × Y)
+  beside xs = map (λ d. (d.0, f d.1)) xs
+
+  pub has-beside : (xs : List (Name × X)) (r : Name) → Has xs r → Has (beside xs) r
+  has-beside [] r h = absurd h
+  has-beside (x ∷ xs) r (inl e) = inl e
+  has-beside (x ∷ xs) r (inr h) = inr (has-beside xs r h)
+
+  pub has-beside_back : (xs : List (Name × X)) (r : Name) → Has (beside xs) r → Has xs r
+  has-beside_back [] r h = absurd h
+  has-beside_back (x ∷ xs) r (inl e) = inl e
+  has-beside_back (x ∷ xs) r (inr h) = inr (has-beside_back xs r h)
+
+  pub once-beside : (xs : List (Name × X)) → Once xs → Once (beside xs)
+  once-beside [] o = tt
+  once-beside (x ∷ xs) o = (λ h. o.0 (has-beside_back xs x.0 h), once-beside xs o.1)

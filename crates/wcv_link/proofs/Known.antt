@@ -1,19 +1,21 @@
--- What is free in the trees of a context has some property, and keeps it through a step.
-use Rattle.std.proofs.Common.{◌≡◌, ℕ, zero, suc, List, [], ◌∷◌, Bool, true, false, refl, subst, Some, None, inl, inr}
+-- What a step brings to a context: entries in which what is free is listed, and sound ones.
+use Rattle.std.proofs.Common.{◌≡◌, ℕ, zero, suc, List, [], ◌∷◌, length, Bool, true, false, refl, ◌∙◌, subst, Some, None, ◌⊎◌, inl, inr}
 use Rattle.std.specs.Prelude.{All, slice_get, Option}
 use Rattle.std.specs.Option.{option_map, option_and_then}
-use Rattle.std.proofs.lemmas.List.Elements.{All-push, All-weaker}
+use Rattle.std.proofs.lemmas.List.Elements.{All-push, All-weaker, All-nil, All-head, All-tail}
 use Rattle.std.proofs.lemmas.Option.{slice_get_within, get_or_from_slice_get}
-use Rattle.wcv_core.specs.Names.{Name, Place}
+use Rattle.wcv_core.specs.Names.{Name}
 use Rattle.wcv_types.specs.Resources.{Free, FreeIn}
 use Rattle.wcv_types.specs.Tree as tree
 use Rattle.wcv_types.specs.Tree.{Extern_name, nothing, type_entity, Sort, is_nothing, is_value, is_resource, is_func, is_instance, is_component, is_type, is_module, is_core_instance, is_core_type, is_core_item, sort, node, Parts, none, part, first_part, rest_parts, type_of}
 use Rattle.wcv_types.proofs.Lists.{some-inj}
-use Rattle.wcv_lower.specs.Context.{Space, Core_space, Side, importing, exporting, same_space, same_core_space, same_side, joined}
-use Rattle.wcv_lower.specs.Names.{Names, introduced}
-use Rattle.wcv_lower.specs.NewTypes.{renewed, new_reference}
+use Rattle.wcv_lower.specs.Context.{in_types, in_funcs, in_values, in_instances, in_components, core_modules, Side, importing, exporting, same_space, same_core_space, same_side, joined, placed, unknown}
+use Rattle.wcv_lower.specs.Owned.{AllEntries}
 use Rattle.wcv_lower.specs.Step.{Change, appends, lists, introduces, defines, creates, core_appends, interns, charges, Step, change, apply, joins, enters, Brought}
 use Rattle.wcv_lower.specs.Trees.{Type_tree, Tree_context, Tree_stack, tree_reader, created, referenced}
+use Rattle.wcv_lower.proofs.Bringing.{Brings, AllBring, brings_one, brings_more}
+use Rattle.wcv_link.proofs.Having.{Has, has-left}
+use Rattle.wcv_link.proofs.Sound.{IsSound, created-sound}
 
 -- ## Options
 
@@ -47,6 +49,10 @@ module _ (P : Name → Type 0) where
   abbrev pub WithinParts : Parts Name Name → Type 0
   WithinParts ps = (r : Name) → FreeIn r ps → P r
 
+  -- and the tree is a sound entry
+  abbrev pub Fine : Type_tree → Type 0
+  Fine t = Within t × IsSound t
+
   pub both-within : (t u : Type_tree) → Within t → Within u → Within (type_of t u)
   both-within t u v w r (inl x) = absurd x
   both-within t u v w r (inr (o, inl x)) = v r x
@@ -57,86 +63,122 @@ module _ (P : Name → Type 0) where
   first-within : (ps : Parts Name Name) → Within (node type_entity ps) → Within (tree.created (node type_entity ps))
   first-within ps w r x = w r (inr (refl, first-free r ps x))
 
-  pub created-within : (t : Type_tree) → Within t → Within (created t)
+  created-within : (t : Type_tree) → Within t → Within (created t)
   created-within (node type_entity ps) w =
       let u : Within (tree.created (node type_entity ps)) = first-within ps w in
       both-within (tree.created (node type_entity ps)) (tree.created (node type_entity ps)) u u
   created-within (node h ps) w = w
 
+  pub created-fine : (t : Type_tree) → Fine t → Fine (created t)
+  created-fine t w = (created-within t w.0, created-sound t w.1)
+
   pub referenced-within : (t : Type_tree) → Within t → Within (referenced t)
   referenced-within (node type_entity ps) w r x = w r (inr (refl, rest-free r ps (first-free r (rest_parts ps) x)))
   referenced-within (node h ps) w r x = w r x
 
-  pub renewed-within : (names : Names) (p : Place) (t : Type_tree) → Within t → Within (renewed names p t)
-  renewed-within names p (node nothing ps) w r x = w r x
-  renewed-within names p (node h ps) w r x = w r x
-
-  pub reference-within : (names : Names) (p : Place) → ((r : Name) → r ≡ names.resource (introduced p) → P r) → Within (new_reference names p)
-  reference-within names p w r (inl e) = w r e
-  reference-within names p w r (inr x) = absurd x.1
-
 -- ## Contexts
 
--- what is free in the trees of the context has the property
-pub record KnownBy (P : Name → Type 0) (c : Tree_context) : Type 0 where
-  pub space : (k : Space) → All (Within P) (c.space k)
-  pub core : (k : Core_space) → All (Within P) (c.core k)
-  pub side : (s : Side) → All (λ e. Within P e.1) (c.side s)
-
-pub known-weaker : (P Q : Name → Type 0) (c : Tree_context) → ((r : Name) → P r → Q r) → KnownBy P c → KnownBy Q c
-known-weaker P Q c f h = record {
-  space = λ k. All-weaker (Within P) (Within Q) (λ t w r x. f r (w r x)) (c.space k) (h.space k);
-  core = λ k. All-weaker (Within P) (Within Q) (λ t w r x. f r (w r x)) (c.core k) (h.core k);
-  side = λ s. All-weaker (λ e. Within P e.1) (λ e. Within Q e.1) (λ e w r x. f r (w r x)) (c.side s) (h.side s);
+entries-weaker : (P Q : Type_tree → Type 0) (c : Tree_context) → ((t : Type_tree) → P t → Q t) → AllEntries P c → AllEntries Q c
+entries-weaker P Q c f h = record {
+  core = λ k. All-weaker P Q f (c.core k) (h.core k);
+  space = λ k. All-weaker P Q f (c.space k) (h.space k);
+  side = λ d. All-weaker (λ e. P e.1) (λ e. Q e.1) (λ e w. f e.1 w) (c.side d) (h.side d);
 }
+
+-- the context lists the resource
+abbrev pub In : Tree_context → Name → Type 0
+In c r = Has c.imported r ⊎ Has c.defined r
+
+-- each entry is sound, and what is free in it is listed
+abbrev pub IsFine : Tree_context → Type 0
+IsFine c = AllEntries (Fine (In c)) c
 
 -- ## Steps
 
-pub all-joined : {X : Type 0} (Q : X → Type 0) (b : Bool) (xs : List X) (x : X) → All Q xs → Q x → All Q (joined b xs x)
+-- any resource
+abbrev pub Any : Name → Type 0
+Any r = Unit {0}
+
+all-joined : {X : Type 0} (Q : X → Type 0) (b : Bool) (xs : List X) (x : X) → All Q xs → Q x → All Q (joined b xs x)
 all-joined Q true xs x a q = All-push Q xs x a q
 all-joined Q false xs x a q = a
 
-module _ (P : Name → Type 0) where
-  -- what a change adds has the property
-  abbrev pub Fits : Change tree_reader → Type 0
-  Fits (appends k t) = Within P t
-  Fits (lists s n t) = Within P t
-  Fits (core_appends k t) = Within P t
-  Fits x = Unit {0}
+module _ (E : Type_tree → Type 0) where
+  change-has : (x : Change tree_reader) (s : Tree_stack) → Brings E Any x → AllEntries E s.top → AllEntries E (change x s).top
+  change-has (appends k t) s f h = record { space = λ j. all-joined E (same_space j k) (s.top.space j) t (h.space j) f; core = h.core; side = h.side }
+  change-has (lists d n t) s f h = record { space = h.space; core = h.core; side = λ j. all-joined (λ e. E e.1) (same_side j d) (s.top.side j) (n, t) (h.side j) f }
+  change-has (introduces importing rs) s f h = record { space = h.space; core = h.core; side = h.side }
+  change-has (introduces exporting rs) s f h = record { space = h.space; core = h.core; side = h.side }
+  change-has (defines r v) s f h = record { space = h.space; core = h.core; side = h.side }
+  change-has (creates d is) s f h = record { space = h.space; core = h.core; side = h.side }
+  change-has (core_appends k t) s f h = record { space = h.space; core = λ j. all-joined E (same_core_space j k) (s.top.core j) t (h.core j) f; side = h.side }
+  change-has (interns gs) s f h = h
+  change-has (charges zero n) s f h = record { space = h.space; core = h.core; side = h.side }
+  change-has (charges (suc k) n) s f h = h
 
-  abbrev pub AllFit : Step tree_reader → Type 0
-  AllFit [] = Unit {0}
-  AllFit (x ∷ xs) = Fits x × AllFit xs
+  -- the entries of the top behind a step
+  pub apply-has : (p : Step tree_reader) (s : Tree_stack) → AllBring E Any p → AllEntries E s.top → AllEntries E (apply p s).top
+  apply-has [] s f h = h
+  apply-has (x ∷ xs) s f h = apply-has xs (change x s) (All-tail (Brings E Any) x xs f) (change-has x s (All-head (Brings E Any) x xs f) h)
 
-  change-known : (x : Change tree_reader) (s : Tree_stack) → Fits x → KnownBy P s.top → KnownBy P (change x s).top
-  change-known (appends k t) s f h = record { space = λ j. all-joined (Within P) (same_space j k) (s.top.space j) t (h.space j) f; core = h.core; side = h.side }
-  change-known (lists d n t) s f h = record { space = h.space; core = h.core; side = λ j. all-joined (λ e. Within P e.1) (same_side j d) (s.top.side j) (n, t) (h.side j) f }
-  change-known (introduces importing rs) s f h = record { space = h.space; core = h.core; side = h.side }
-  change-known (introduces exporting rs) s f h = record { space = h.space; core = h.core; side = h.side }
-  change-known (defines r v) s f h = record { space = h.space; core = h.core; side = h.side }
-  change-known (creates d is) s f h = record { space = h.space; core = h.core; side = h.side }
-  change-known (core_appends k t) s f h = record { space = h.space; core = λ j. all-joined (Within P) (same_core_space j k) (s.top.core j) t (h.core j) f; side = h.side }
-  change-known (interns gs) s f h = h
-  change-known (charges zero n) s f h = record { space = h.space; core = h.core; side = h.side }
-  change-known (charges (suc k) n) s f h = h
+  module _ (creates_too : (t : Type_tree) → E t → E (created t)) where
+    joins-bring : (o : Sort) (t : Type_tree) → E t → AllBring E Any (joins tree_reader o t)
+    joins-bring is_func t w = brings_one E Any (appends in_funcs t) w
+    joins-bring is_value t w = brings_one E Any (appends in_values t) w
+    joins-bring is_instance t w = brings_one E Any (appends in_instances t) w
+    joins-bring is_component t w = brings_one E Any (appends in_components t) w
+    joins-bring is_type t w = brings_one E Any (appends in_types (created t)) (creates_too t w)
+    joins-bring is_module t w = brings_one E Any (core_appends core_modules t) w
+    joins-bring is_resource t w = All-nil (Brings E Any)
+    joins-bring is_nothing t w = All-nil (Brings E Any)
+    joins-bring is_core_instance t w = All-nil (Brings E Any)
+    joins-bring is_core_type t w = All-nil (Brings E Any)
+    joins-bring is_core_item t w = All-nil (Brings E Any)
 
-  pub apply-known : (p : Step tree_reader) (s : Tree_stack) → AllFit p → KnownBy P s.top → KnownBy P (apply p s).top
-  apply-known [] s f h = h
-  apply-known (x ∷ xs) s f h = apply-known xs (change x s) f.1 (change-known x s f.0 h)
+    -- an entry of a side, with what it brings
+    pub enters-bring : (d : Side) (n : Extern_name) (b : Brought tree_reader) → E b.entity → AllBring E Any (enters d n b)
+    enters-bring d n b w =
+        let last : Step tree_reader = joins tree_reader (sort b.entity) b.entity in
+        let named : Step tree_reader = creates d (tree_reader.creates b.entity) ∷ last in
+        brings_more E Any (introduces d b.resources) (lists d n b.entity ∷ named) (λ k x l. tt)
+        (brings_more E Any (lists d n b.entity) named w (brings_more E Any (creates d (tree_reader.creates b.entity)) last tt (joins-bring (sort b.entity) b.entity w)))
 
-  joins-fit : (o : Sort) (t : Type_tree) → Within P t → AllFit (joins tree_reader o t)
-  joins-fit is_func t w = (w, tt)
-  joins-fit is_value t w = (w, tt)
-  joins-fit is_instance t w = (w, tt)
-  joins-fit is_component t w = (w, tt)
-  joins-fit is_type t w = (created-within P t w, tt)
-  joins-fit is_resource t w = tt
-  joins-fit is_nothing t w = tt
-  joins-fit is_module t w = (w, tt)
-  joins-fit is_core_instance t w = tt
-  joins-fit is_core_type t w = tt
-  joins-fit is_core_item t w = tt
+-- ## What was listed stays so
 
-  -- an entry of a side, with what it brings
-  pub enters-fit : (d : Side) (n : Extern_name) (b : Brought tree_reader) → Within P b.entity → AllFit (enters d n b)
-  enters-fit d n b w = (tt, (w, (tt, joins-fit (sort b.entity) b.entity w)))
+in-change : (x : Change tree_reader) (s : Tree_stack) (r : Name) → In s.top r → In (change x s).top r
+in-change (appends k t) s r h = h
+in-change (lists d n t) s r h = h
+in-change (introduces importing rs) s r (inl h) = inl (has-left s.top.imported (placed (length (s.top.side importing)) rs) r h)
+in-change (introduces importing rs) s r (inr h) = inr h
+in-change (introduces exporting rs) s r (inl h) = inl h
+in-change (introduces exporting rs) s r (inr h) = inr (has-left s.top.defined (unknown rs) r h)
+in-change (defines q v) s r (inl h) = inl h
+in-change (defines q v) s r (inr h) = inr (has-left s.top.defined ((q, v) ∷ []) r h)
+in-change (creates d is) s r h = h
+in-change (core_appends k t) s r h = h
+in-change (interns gs) s r h = h
+in-change (charges zero n) s r h = h
+in-change (charges (suc k) n) s r h = h
+
+pub in-apply : (p : Step tree_reader) (s : Tree_stack) (r : Name) → In s.top r → In (apply p s).top r
+in-apply [] s r h = h
+in-apply (x ∷ xs) s r h = in-apply xs (change x s) r (in-change x s r h)
+
+-- what is listed after a step
+abbrev pub After : Step tree_reader → Tree_stack → Name → Type 0
+After p s = In (apply p s).top
+
+pub grown-fine : (p : Step tree_reader) (s : Tree_stack) → AllBring (Fine (After p s)) Any p → IsFine s.top → IsFine (apply p s).top
+grown-fine p s f h = apply-has (Fine (After p s)) p s f (entries-weaker (Fine (In s.top)) (Fine (After p s)) s.top (λ t w. ((λ r x. in-apply p s r (w.0 r x)), w.1)) h)
+
+-- its kind stays
+change-kind : (x : Change tree_reader) (s : Tree_stack) → (change x s).top.kind ≡ s.top.kind
+change-kind (introduces importing rs) s = refl
+change-kind (introduces exporting rs) s = refl
+change-kind (charges zero n) s = refl
+change-kind (charges (suc k) n) s = refl
+change-kind x s = refl
+
+pub apply-kind : (p : Step tree_reader) (s : Tree_stack) → (apply p s).top.kind ≡ s.top.kind
+apply-kind [] s = refl
+apply-kind (x ∷ xs) s = apply-kind xs (change x s) ∙ change-kind x s

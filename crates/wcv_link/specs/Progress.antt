@@ -1,52 +1,83 @@
 -- How much of a list was accepted.
-use Rattle.std.specs.Prelude.{ℕ, suc, [], false, Some, ◌<◌, ◌≡◌, ◌⊎◌}
+use Rattle.std.specs.Prelude.{ℕ, suc, List, [], ◌∷◌, ◌++◌, length, All, Bool, true, false, Some, ◌<◌, ◌≡◌, ◌⊎◌}
 use Rattle.wcv_core.specs.Names.{Place, deeper}
 use Rattle.wcv_core.specs.Refusal.{error_kind, error_offset}
 use Rattle.wcv_core.specs.declared.error.Error.{Error}
 use Rattle.wcv_core.specs.declared.error.ErrorKind.TheVariants as kind
 use Rattle.wcv_core.specs.declared.features.WasmFeatures.{WasmFeatures}
-use Rattle.wcv_syntax.specs.Model.{Form, Items, no_items, next_item}
+use Rattle.wcv_syntax.specs.Model.{Form, type_item, core_type_item, Items, no_items, next_item}
+use Rattle.wcv_syntax.specs.declared.component_type.ComponentTypeRef.{ComponentTypeRef}
 use Rattle.wcv_types.specs.Arena.{Arena}
 use Rattle.wcv_types.specs.Standing.{Extends}
 use Rattle.wcv_lower.specs.Checks.{IsFree}
 use Rattle.wcv_lower.specs.Given.{GivenNames, names_of, no_numbers, GivesAt}
-use Rattle.wcv_lower.specs.Growth.{grow, checks}
+use Rattle.wcv_lower.specs.Items.{read_item, item_causes}
 use Rattle.wcv_lower.specs.Names.{Names, Under}
-use Rattle.wcv_lower.specs.Trees.{Tree_stack, tree_maker}
-use Rattle.wcv_state.specs.Contents.{Contents, stack_of, StateStands}
-use Rattle.wcv_state.specs.Promises.{numbers_of, MemoryOrCausedBy}
+use Rattle.wcv_lower.specs.Trees.{Tree_context, Tree_stack, tree_maker}
+use Rattle.wcv_state.specs.Contents.{Contents, stack_of}
+use Rattle.wcv_state.specs.Instances.{MayOpen}
+use Rattle.wcv_state.specs.Promises.{numbers_of, MemoryOrCausedBy, Keeps}
+use Rattle.wcv_decls.specs.Stack.{IsOpen, AreCalm, ChangesLast, stay, contexts_around}
 use Rattle.wcv_link.specs.Valid.{start, Refused}
 
--- the state may be used, and its ids stand in the arena
-pub record IsReady (a : Arena) (s : Contents) : Type 0 where
-  pub live : s.spent ≡ false
-  pub stands : StateStands a s
+-- the states that are open may be used, the innermost last, their ids stand in the arena, and what stands in them owns apart
+pub record IsReady (a : Arena) (ss : List Contents) : Type 0 where
+  pub some : 0 < length ss
+  pub usable : All (IsOpen a) ss
+  pub calm : AreCalm a ss
 
 -- ## One item
 
--- the state grew by the item at that place, by names that the arena gave, and the item has no cause
-pub record GrewAt (a b : Arena) (s s' : Contents) (f : Form) (p : Place) : Type 0 where
+-- the item is a type or a core type, which looks at the states around it too
+abbrev pub declares_type : Form → Bool
+declares_type (type_item t) = true
+declares_type (core_type_item t) = true
+declares_type f = false
+
+-- the state grew by the item at that place, by names that the arena gave, in the contexts further out, and the item has no cause
+pub record GrewAt (a b : Arena) (outer : List Tree_context) (s s' : Contents) (f : Form) (p : Place) : Type 0 where
   pub names : GivenNames
   pub given : GivesAt (Under p) (numbers_of a) (numbers_of b) names
-  pub grown : grow s.features (tree_maker (names_of names) p) (stack_of a s []) f ≡ Some (stack_of b s' [])
-  pub free : IsFree (checks s.features (tree_maker (names_of names) p) (stack_of a s []) f)
-
--- an item was accepted, at whatever place
-pub record AcceptsItem (a b : Arena) (s s' : Contents) (f : Form) : Type 0 where
-  pub grew : (p : Place) → GrewAt a b s s' f p
-  pub ready : IsReady b s'
-  pub arena : Extends a b
-  pub features : s'.features ≡ s.features
+  pub grown : read_item s.features (tree_maker (names_of names)) p (stack_of a s outer) f ≡ Some (stack_of b s' outer)
+  pub free : IsFree (item_causes s.features (tree_maker (names_of names)) p (stack_of a s outer) f)
 
 -- the error is out of memory, or a cause of the item at that place by names that the arena gave
-pub record RefusedAt {M : Type 0} (a b : Arena) (s : Contents) (f : Form) (p : Place) (offset : ℕ) (e : Error M) : Type 0 where
+pub record RefusedAt {M : Type 0} (a b : Arena) (outer : List Tree_context) (s : Contents) (f : Form) (p : Place) (offset : ℕ) (e : Error M) : Type 0 where
   pub names : GivenNames
   pub given : GivesAt (Under p) (numbers_of a) (numbers_of b) names
-  pub caused : MemoryOrCausedBy (checks s.features (tree_maker (names_of names) p) (stack_of a s []) f) offset e
+  pub caused : MemoryOrCausedBy (item_causes s.features (tree_maker (names_of names)) p (stack_of a s outer) f) offset e
 
--- an item was refused so, at whatever place
-pub record RefusesItem {M : Type 0} (a b : Arena) (s : Contents) (f : Form) (offset : ℕ) (e : Error M) : Type 0 where
-  pub refused : (p : Place) → RefusedAt a b s f p offset e
+-- an instance may be made of each instance type that stands in the state
+abbrev pub AllMayOpen : Arena → Contents → Type 0
+AllMayOpen a s = (r : ComponentTypeRef) → MayOpen a s.spaces.types r
+
+-- a state took the item, at whatever place and in whatever contexts
+pub record TakesItem (a b : Arena) (s s' : Contents) (f : Form) : Type 0 where
+  pub grew : (outer : List Tree_context) (p : Place) → GrewAt a b outer s s' f p
+  pub live : s'.spent ≡ false
+  pub keeps : Keeps a b s s'
+
+-- it did not
+pub record LeavesItem {M : Type 0} (a b : Arena) (s : Contents) (f : Form) (offset : ℕ) (e : Error M) : Type 0 where
+  pub refused : (outer : List Tree_context) (p : Place) → RefusedAt a b outer s f p offset e
+  pub arena : Extends a b
+
+-- the innermost of the states took it at that place, and the others stay, with their contexts
+pub record TakenOn (a b : Arena) (p : Place) (ss ss' : List Contents) (f : Form) : Type 0 where
+  pub last : ChangesLast stay ss ss'
+  pub around : contexts_around b last.outer ≡ contexts_around a last.outer
+  pub grew : GrewAt a b (contexts_around a last.outer) last.old last.new f p
+  pub features : last.new.features ≡ last.old.features
+
+-- so at whatever place, and they may be used further
+pub record AcceptsItem (a b : Arena) (ss ss' : List Contents) (f : Form) : Type 0 where
+  pub taken : (p : Place) → TakenOn a b p ss ss' f
+  pub ready : IsReady b ss'
+  pub arena : Extends a b
+
+-- the item was refused so, at whatever place
+pub record RefusesItem {M : Type 0} (a b : Arena) (ss : List Contents) (f : Form) (offset : ℕ) (e : Error M) : Type 0 where
+  pub refused : (outer : List Contents) (s : Contents) → ss ≡ outer ++ s ∷ [] → (p : Place) → RefusedAt a b (contexts_around a outer) s f p offset e
   pub arena : Extends a b
 
 -- ## The items so far
@@ -56,19 +87,25 @@ abbrev pub ValidAsFar : WasmFeatures → Names → Place → ℕ → Tree_stack 
 ValidAsFar fs names w k s no_items n t left = (n ≡ k) × (t ≡ s) × (left ≡ no_items)
 ValidAsFar fs names w k s (next_item at f is) n t left =
     ((n ≡ k) × (t ≡ s) × (left ≡ next_item at f is)) ⊎
-    (IsFree (checks fs (tree_maker names (deeper w k)) s f) × ((u : Tree_stack) × (grow fs (tree_maker names (deeper w k)) s f ≡ Some u) × ValidAsFar fs names w (suc k) u is n t left))
+    (IsFree (item_causes fs (tree_maker names) (deeper w k) s f) × ((u : Tree_stack) × (read_item fs (tree_maker names) (deeper w k) s f ≡ Some u) × ValidAsFar fs names w (suc k) u is n t left))
 
 -- in an item of the list that stands before position k
 abbrev pub Before : Place → ℕ → Place → Type 0
 Before w k p = (j : ℕ) × (j < k) × Under (deeper w j) p
 
--- k items of the root were read that have no cause, by names that the arena gave, and the others are left
-pub record ValidSoFar (a : Arena) (s : Contents) (k : ℕ) (features : WasmFeatures) (is left : Items) : Type 0 where
-  pub ready : IsReady a s
+-- k items of the root were read into that state that have no cause, by names that the arena gave, and the others are left
+pub record ValidIn (a : Arena) (s : Contents) (k : ℕ) (features : WasmFeatures) (is left : Items) : Type 0 where
   pub features_are : s.features ≡ features
   pub names : GivenNames
   pub given : GivesAt (Before [] k) no_numbers (numbers_of a) names
   pub reads : ValidAsFar features (names_of names) [] 0 start is k (stack_of a s []) left
+
+-- the root's state alone is open
+pub record ValidSoFar (a : Arena) (ss : List Contents) (k : ℕ) (features : WasmFeatures) (is left : Items) : Type 0 where
+  pub ready : IsReady a ss
+  pub state : Contents
+  pub alone : ss ≡ state ∷ []
+  pub valid : ValidIn a state k features is left
 
 -- the root was refused by a cause where it is refused, or out of memory
 abbrev pub MemoryOrRefused : {M : Type 0} → WasmFeatures → Items → ℕ → Error M → Type 0

@@ -2,28 +2,29 @@
 ghost use Rattle.std.specs.Prelude.{map, OnOk, IfErr};
 ghost use Rattle.wcv_syntax.specs.Model.{core_type_item, core_module_item};
 ghost use Rattle.wcv_syntax.specs.View.{core_type_view, code_decl_view};
-ghost use Rattle.wcv_link.specs.Progress.{IsReady, AcceptsItem, RefusesItem};
+ghost use Rattle.wcv_state.specs.Promises.{Keeps};
+ghost use Rattle.wcv_decls.specs.Stack.{IsOpen};
+ghost use Rattle.wcv_link.specs.Progress.{IsReady, TakesItem, LeavesItem, AcceptsItem, RefusesItem};
 
-use std::slice::from_mut;
 use wcv_core::Error;
 use wcv_decls::{Declare, add_core_module_to, check_core_limits, check_core_module_limits};
 use wcv_state::ComponentState;
 use wcv_syntax::{CoreType, ModuleDecl};
 use wcv_types::TypeAlloc;
 
-/// Reads a core type: a group of types, or the type of a module.
+/// Reads a core type into the innermost state: a group of types, or the type of a module.
 pub fn read_core_type(
     ty: CoreType,
-    state: &mut ComponentState,
+    components: &mut Vec<ComponentState>,
     types: &mut TypeAlloc,
     offset: u64,
 ) -> Result<(), Error>
-    requires { IsReady types.old state.old }
-    ensures ok { OnOk result (AcceptsItem types.old types.new state.old state.new (core_type_item (core_type_view ty))) }
-    ensures err { IfErr result (RefusesItem types.old types.new state.old (core_type_item (core_type_view ty)) offset) }
+    requires { IsReady types.old components.old.items }
+    ensures ok { OnOk result (AcceptsItem types.old types.new components.old.items components.new.items (core_type_item (core_type_view ty))) }
+    ensures err { IfErr result (RefusesItem types.old types.new components.old.items (core_type_item (core_type_view ty)) offset) }
 {
     check_core_limits(&ty, offset)?;
-    ComponentState::add_core_type(from_mut(state), ty, types, offset)
+    ComponentState::add_core_type(components.as_mut_slice(), ty, types, offset)
 }
 
 /// Reads a core module.
@@ -33,9 +34,10 @@ pub fn read_core_module(
     types: &mut TypeAlloc,
     offset: u64,
 ) -> Result<(), Error>
-    requires { IsReady types.old state.old }
-    ensures ok { OnOk result (AcceptsItem types.old types.new state.old state.new (core_module_item (map code_decl_view decls.items))) }
-    ensures err { IfErr result (RefusesItem types.old types.new state.old (core_module_item (map code_decl_view decls.items)) offset) }
+    requires { IsOpen types.old state.old }
+    ensures ok { OnOk result (TakesItem types.old types.new state.old state.new (core_module_item (map code_decl_view decls.items))) }
+    ensures err { IfErr result (LeavesItem types.old types.new state.old (core_module_item (map code_decl_view decls.items)) offset) }
+    ensures keeps { Keeps types.old types.new state.old state.new }
 {
     check_core_module_limits(&decls, state, types, offset)?;
     add_core_module_to(decls, state, types, offset)

@@ -1,15 +1,17 @@
 -- Growth and causes look at the names of an item's own places alone.
-use Rattle.std.proofs.Common.{◌≡◌, refl, ap}
-use Rattle.wcv_core.specs.Names.{Name, Place}
+use Rattle.std.proofs.Common.{◌≡◌, List, [], map, refl, sym, ap, subst, cond, true, Some, None}
+use Rattle.wcv_core.specs.Names.{Name, Place, member, under}
 use Rattle.wcv_core.specs.declared.features.WasmFeatures.{WasmFeatures}
 use Rattle.wcv_core.proofs.Places.{under-refl}
 use Rattle.wcv_syntax.specs.Model.{Form}
+use Rattle.wcv_types.specs.FirstPath.{first_path}
 use Rattle.wcv_types.specs.Rebuild.{anew}
-use Rattle.wcv_types.specs.Tree.{Head, nothing, primitive, resource, defined, func, instance, component, type_entity, core_module, core_instance, core_type, core_item, node, type_of, resource_type}
+use Rattle.wcv_types.specs.Replacing.{Replacement, replaced}
+use Rattle.wcv_types.specs.Tree.{Head, nothing, primitive, resource, defined, func, instance, component, type_entity, core_module, core_instance, core_type, core_item, node, type_of, resource_type, exports, owned}
 use Rattle.wcv_types.specs.Unfold.{Type_tree}
 use Rattle.wcv_lower.specs.Growth.{grow, checks}
-use Rattle.wcv_lower.specs.Names.{Origin, introduced, stamp_at, place_of, Names, Under}
-use Rattle.wcv_lower.specs.NewTypes.{renewed_head, renewed}
+use Rattle.wcv_lower.specs.Names.{Origin, introduced, again, stamp_at, place_of, Names, Under}
+use Rattle.wcv_lower.specs.NewTypes.{renewed_head, renewed, owned_anew, instance_tree, path_or_none}
 use Rattle.wcv_lower.specs.Trees.{Tree_stack, type_entry, node_tree, tree_maker}
 
 -- names that are the same there
@@ -17,12 +19,12 @@ pub record SameNames (In : Place → Type 0) (n m : Names) : Type 0 where
   pub resource : (o : Origin) → In (place_of o) → m.resource o ≡ n.resource o
   pub identity : (o : Origin) → In (place_of o) → m.identity o ≡ n.identity o
 
-module _ (n m : Names) (p : Place) (s : SameNames (Under p) n m) where
+module _ (n m : Names) (p : Place) (s : SameNames (λ q. q ≡ p) n m) where
   id_same : m.identity (introduced p) ≡ n.identity (introduced p)
-  id_same = s.identity (introduced p) (under-refl p)
+  id_same = s.identity (introduced p) refl
 
   head_same : (h : Head Name Name) → renewed_head m p h ≡ renewed_head n p h
-  head_same (resource r x) = ap (resource r) (s.identity (stamp_at p) (under-refl p))
+  head_same (resource r x) = ap (resource r) (s.identity (stamp_at p) refl)
   head_same nothing = refl
   head_same (primitive q) = refl
   head_same (defined k x) = ap (λ (i : Name). anew i (defined k x)) id_same
@@ -38,17 +40,49 @@ module _ (n m : Names) (p : Place) (s : SameNames (Under p) n m) where
   tree_same : (t : Type_tree) → renewed m p t ≡ renewed n p t
   tree_same (node h ps) = ap (λ (k : Head Name Name). node k ps) (head_same h)
 
-  maker_same : tree_maker m p ≡ tree_maker n p
+  anew_same : (own : List Name) → owned_anew m p own ≡ owned_anew n p own
+  anew_same own = λ j. record {
+    resources = λ r. cond (member r own) (Some (s.resource (again p r) refl j)) None;
+    nodes = λ i. None;
+    again = λ i. s.identity (again p i) refl j;
+  }
+
+  instance_same : (t : Type_tree) → instance_tree m p t ≡ instance_tree n p t
+  instance_same (node (instance i own) ps) = ap (λ (x : Replacement). replaced x (node (instance i []) ps)) (anew_same own)
+  instance_same (node nothing ps) = refl
+  instance_same (node (primitive q) ps) = refl
+  instance_same (node (resource q x) ps) = refl
+  instance_same (node (defined i k) ps) = refl
+  instance_same (node (func i b) ps) = refl
+  instance_same (node (component i ins outs) ps) = refl
+  instance_same (node type_entity ps) = refl
+  instance_same (node (core_module i k) ps) = refl
+  instance_same (node (core_instance i k) ps) = refl
+  instance_same (node (core_type i) ps) = refl
+  instance_same (node (core_item x) ps) = refl
+
+  pub maker_same : tree_maker m p ≡ tree_maker n p
   maker_same = λ j. record {
     again = λ t. type_of (tree_same t j) t;
-    resource = s.resource (introduced p) (under-refl p) j;
-    reference = type_entry (resource_type (s.resource (introduced p) (under-refl p) j) (s.identity (stamp_at p) (under-refl p) j));
+    resource = s.resource (introduced p) refl j;
+    reference = type_entry (resource_type (s.resource (introduced p) refl j) (s.identity (stamp_at p) refl j));
+    instance_of = λ t. record {
+      entity = instance_same t j;
+      resources = map (λ r. (s.resource (again p r) refl j, path_or_none (first_path r (exports t)))) (owned t);
+    };
     build = node_tree (id_same j);
     build_type = λ x. type_entry (node_tree (id_same j) x);
   }
 
+module _ (n m : Names) (p : Place) (s : SameNames (Under p) n m) where
+  at_place : SameNames (λ q. q ≡ p) n m
+  at_place = record {
+    resource = λ o e. s.resource o (subst (λ (q : Place). under p q ≡ true) (sym e) (under-refl p));
+    identity = λ o e. s.identity o (subst (λ (q : Place). under p q ≡ true) (sym e) (under-refl p));
+  }
+
   pub grow-agrees : (fs : WasmFeatures) (t : Tree_stack) (f : Form) → grow fs (tree_maker m p) t f ≡ grow fs (tree_maker n p) t f
-  grow-agrees fs t f = ap (λ k. grow fs k t f) maker_same
+  grow-agrees fs t f = ap (λ k. grow fs k t f) (maker_same n m p at_place)
 
   pub checks-agree : (fs : WasmFeatures) (t : Tree_stack) (f : Form) → checks fs (tree_maker m p) t f ≡ checks fs (tree_maker n p) t f
-  checks-agree fs t f = ap (λ k. checks fs k t f) maker_same
+  checks-agree fs t f = ap (λ k. checks fs k t f) (maker_same n m p at_place)

@@ -1,15 +1,15 @@
 -- The type at an end and its causes under a map of entries; where no cause stands there, there is one.
-use Rattle.std.proofs.Common.{◌≡◌, ℕ, List, [], ◌∷◌, refl, sym, ◌∙◌, ap, Bool, true, false, cond, ◌||◌, Some, None}
+use Rattle.std.proofs.Common.{◌≡◌, ℕ, List, [], ◌∷◌, map, refl, sym, ◌∙◌, ap, Bool, true, false, cond, ◌||◌, Some, None}
 use Rattle.std.specs.Prelude.{Option}
 use Rattle.std.specs.Option.{option_map, option_and_then}
 use Rattle.std.proofs.lemmas.Bool.{false≢true}
 use Rattle.wcv_core.specs.declared.core_types.ValType.{ValType}
 use Rattle.wcv_core.specs.declared.error.ErrorKind.TheVariants as kind
 use Rattle.wcv_lower.specs.Checks.{IsFree, is_none}
-use Rattle.wcv_lower.specs.Context.{Context, importing, exporting}
-use Rattle.wcv_lower.specs.Ending.{is_free_among, any_free, keep, kept, component_of, component_made, type_at_end, end_checks}
+use Rattle.wcv_lower.specs.Context.{Kind, concrete, declares_instance, declares_component, Context, importing, exporting}
+use Rattle.wcv_lower.specs.Ending.{is_free_among, any_free, keep, kept, component_of, component_made, type_at_end, end_checks, instance_made, declared_made, declared_end_checks}
 use Rattle.wcv_lower.specs.Mapped.{Map, Commutes, map_entries, map_paths, map_defined, map_context, map_node}
-use Rattle.wcv_lower.specs.Readers.{Reader, Named, New_node}
+use Rattle.wcv_lower.specs.Readers.{Reader, Named, New_node, instance_node}
 use Rattle.wcv_lower.proofs.Mapping.{mapped-square}
 
 pub none-mapped : {A B : Type 0} (f : A → B) (o : Option A) → is_none (option_map f o) ≡ is_none o
@@ -62,11 +62,38 @@ module _ {X Y : Reader} (m : Map X Y) {Known : X.Entry → Type 0} (law : Commut
       (kind.ResourceScope, any_free-mapped c.defined (c.side importing) j)
       ∷ (kind.ResourceScope, (ap is_none (kept-mapped c.defined (c.side exporting)) ∙ none-mapped (map_paths m.resource) (kept X c.defined (c.side exporting))) j) ∷ []
 
+  -- ## Declared types
+
+  own-mapped : (ds : List (X.Resource × Option ValType)) → map (λ d. d.0) (map_defined m ds) ≡ map m.resource (map (λ d. d.0) ds)
+  own-mapped [] = refl
+  own-mapped (d ∷ ds) = ap (λ rs. m.resource d.0 ∷ rs) (own-mapped ds)
+
+  pub declared_made-mapped : (k : Kind) (c : Context X) → declared_made k (map_context m c) ≡ option_map (map_node m) (declared_made k c)
+  declared_made-mapped declares_instance c = λ j. Some (instance_node (own-mapped c.defined j) (map_entries m.entry (c.side exporting)))
+  declared_made-mapped declares_component c = component_made-mapped c
+  declared_made-mapped concrete c = component_made-mapped c
+
+  pub declared_end_checks-mapped : (k : Kind) (c : Context X) → declared_end_checks k (map_context m c) ≡ declared_end_checks k c
+  declared_end_checks-mapped declares_instance c = refl
+  declared_end_checks-mapped declares_component c = end_checks-mapped c
+  declared_end_checks-mapped concrete c = end_checks-mapped c
+
 -- ## Without a cause
 
-pub has_type : {X : Reader} (build : New_node X → X.Entry) (c : Context X) → IsFree (end_checks c) → (x : X.Entry) × (type_at_end build c ≡ Some x)
-has_type {X} build c h = go (kept X c.defined (c.side exporting)) refl h.1.0
+pub component_there : {X : Reader} (c : Context X) → IsFree (end_checks c) → (n : New_node X) × (component_made c ≡ Some n)
+component_there {X} c h = go (kept X c.defined (c.side exporting)) refl h.1.0
   where
-    go : (o : Option (List (X.Resource × List ℕ))) → kept X c.defined (c.side exporting) ≡ o → is_none o ≡ false → (x : X.Entry) × (type_at_end build c ≡ Some x)
+    go : (o : Option (List (X.Resource × List ℕ))) → kept X c.defined (c.side exporting) ≡ o → is_none o ≡ false → (n : New_node X) × (component_made c ≡ Some n)
     go None e n = absurd (false≢true (sym n))
-    go (Some ds) e n = (build (component_of c ds), (λ j. option_map build (cond (h.0 j) None (option_map (component_of c) (e j)))))
+    go (Some ds) e n = (component_of c ds, (λ j. cond (h.0 j) None (option_map (component_of c) (e j))))
+
+pub has_type : {X : Reader} (build : New_node X → X.Entry) (c : Context X) → IsFree (end_checks c) → (x : X.Entry) × (type_at_end build c ≡ Some x)
+has_type build c h =
+    let n = component_there c h in
+    (build n.0, ap (option_map build) n.1)
+
+-- there is a node of what is declared
+pub has_node : {X : Reader} (k : Kind) (c : Context X) → IsFree (declared_end_checks k c) → (n : New_node X) × (declared_made k c ≡ Some n)
+has_node declares_instance c h = (instance_made c, refl)
+has_node declares_component c h = component_there c h
+has_node concrete c h = component_there c h

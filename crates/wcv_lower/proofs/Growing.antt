@@ -14,10 +14,11 @@ use Rattle.wcv_lower.specs.Trees.{Tree_context, Tree_stack, tree_maker, node_tre
 use Rattle.wcv_lower.specs.Uses.{uses}
 use Rattle.wcv_lower.proofs.EndingLaws.{type_at_end-mapped, end_checks-mapped}
 use Rattle.wcv_lower.proofs.GrowthLaws.{grow-mapped, checks-mapped}
-use Rattle.wcv_lower.proofs.Renamed.{renaming_commutes, node_tree-renamed, makes_renamed}
+use Rattle.wcv_lower.proofs.MadeRenamed.{node_tree-renamed, makes_renamed}
+use Rattle.wcv_lower.proofs.Renamed.{renaming_commutes}
 
 -- under a renaming all is known
-known : (c : Tree_context) → IsKnown (λ t. Unit {0}) c
+pub known : (c : Tree_context) → IsKnown (λ t. Unit {0}) c
 known c = record { space = λ k i x e. tt; core = λ k i x e. tt }
 
 -- the renamed names grow the renamed stack to the renamed one

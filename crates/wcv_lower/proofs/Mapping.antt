@@ -17,7 +17,7 @@ use Rattle.wcv_types.specs.Positions.{is_there}
 use Rattle.wcv_lower.specs.Mapped.{Map, Commutes, IsKnown, map_entries, map_paths, map_defined, map_context, map_stack, map_change, map_step, map_brought}
 use Rattle.wcv_lower.specs.Entries.{entity_checks}
 use Rattle.wcv_lower.specs.Readers.{Reader, sort_of, if_sort, weight}
-use Rattle.wcv_lower.specs.Step.{Change, appends, lists, introduces, defines, creates, core_appends, interns, charges, Step, on_top, change_at, on_outer, change, apply, Brought, brought_by, joins, enters, joins_types}
+use Rattle.wcv_lower.specs.Step.{Change, appends, lists, introduces, defines, creates, core_appends, interns, charges, Step, on_top, change_at, on_outer, change, apply, Brought, joins, enters}
 
 -- two ways around a square, over what there is
 pub mapped-square : {A B C D : Type 0} (p : A → B) (v : B → D) (u : A → C) (q : C → D) → ((x : A) → v (p x) ≡ q (u x)) → (o : Option A) → option_map v (option_map p o) ≡ option_map q (option_map u o)

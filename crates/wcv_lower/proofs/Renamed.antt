@@ -3,8 +3,7 @@ use Rattle.std.proofs.Common.{◌≡◌, ℕ, List, [], ◌∷◌, ◌++◌, map
 use Rattle.std.specs.Prelude.{Option, option_to_list}
 use Rattle.std.specs.Option.{option_map}
 use Rattle.std.proofs.lemmas.List.{map-append}
-use Rattle.wcv_core.specs.Names.{Name, Place, member}
-use Rattle.wcv_core.proofs.Places.{under-refl}
+use Rattle.wcv_core.specs.Names.{Name, member}
 use Rattle.wcv_types.specs.Identity.{Identity, of_node, of_reference, identity_at, same_identity, rename_identity}
 use Rattle.wcv_types.specs.Named.{passes}
 use Rattle.wcv_types.specs.Positions.{is_there}
@@ -18,19 +17,14 @@ use Rattle.wcv_types.proofs.Named.{is_in-same, is_named-same, passes-same}
 use Rattle.wcv_types.proofs.Renaming.{each-always}
 use Rattle.wcv_types.specs.FirstPath.{first_path}
 use Rattle.wcv_types.specs.Resources.{is_free}
-use Rattle.wcv_types.specs.Unfold.{Type_tree, capped}
+use Rattle.wcv_types.specs.Unfold.{Type_tree}
 use Rattle.wcv_types.proofs.AbiRenamed.{abi_size-rename, contains-rename}
 use Rattle.wcv_types.proofs.FirstPath.{path_from-renamed}
 use Rattle.wcv_types.proofs.IsFree.{is_free-renamed}
-use Rattle.wcv_core.specs.declared.core_types.EntityType.{EntityType}
 use Rattle.wcv_lower.specs.Context.{Side, importing, exporting, joined, names_for, with_named}
-use Rattle.wcv_lower.specs.Mapped.{Commutes, MakesSame, map_entries, map_paths, map_parts, map_node}
-use Rattle.wcv_lower.specs.Names.{Names, introduced, stamp_at, Under, AreRenamed}
-use Rattle.wcv_lower.specs.NewTypes.{renewed_head, renewed}
-use Rattle.wcv_lower.specs.Readers.{New_node, func_node, defined_node, module_node, component_node}
+use Rattle.wcv_lower.specs.Mapped.{Commutes, map_entries, map_paths}
 use Rattle.wcv_lower.specs.Renamed.{Renaming, renaming}
-use Rattle.wcv_lower.specs.Trees.{Entries, created, referenced, introduced_by, own_resources, creates, all_created, named_after, is_known, is_export_alone, entry_passes, exports_pass, refers_outside, has_free, any_free, core_entry, head_entry, primitive_of, type_entry, tree_reader, tree_parts, node_tree, tree_maker}
-use Rattle.wcv_lower.specs.Uses.{Uses}
+use Rattle.wcv_lower.specs.Trees.{Entries, created, referenced, introduced_by, own_resources, creates, all_created, named_after, is_known, is_export_alone, entry_passes, exports_pass, refers_outside, has_free, any_free, core_entry, head_entry, primitive_of, type_entry}
 use Rattle.wcv_lower.proofs.EntryNameLaws.{name_checks-renamed}
 use Rattle.wcv_lower.proofs.Joined.{map-joined}
 use Rattle.wcv_lower.proofs.TreeLaws.{sort-renamed, created-renamed, referenced-renamed, kept, all_kept}
@@ -77,13 +71,13 @@ module _ (w : Renaming) where
   exports-renamed (part (core_import m n) t ps) = exports-renamed ps
   exports-renamed (part (core_export n) t ps) = exports-renamed ps
 
-  tree_exports-renamed : (t : Type_tree) → tree.exports (to t) ≡ map_entries to (tree.exports t)
+  pub tree_exports-renamed : (t : Type_tree) → tree.exports (to t) ≡ map_entries to (tree.exports t)
   tree_exports-renamed (node h ps) = exports-renamed ps
 
-  same-renamed : (i j : Identity) → same_identity (known i) (known j) ≡ same_identity i j
+  pub same-renamed : (i j : Identity) → same_identity (known i) (known j) ≡ same_identity i j
   same-renamed i j = same_kept f w.resources.back g w.identities.back i j (kept w i) (kept w j)
 
-  head-renamed : (t : Type_tree) → identity_at (head (to t)) ≡ option_map known (identity_at (head t))
+  pub head-renamed : (t : Type_tree) → identity_at (head (to t)) ≡ option_map known (identity_at (head t))
   head-renamed (node h ps) = identity-same f g h
 
   introduced-renamed : (a b : Option Identity) → introduced_by (option_map known a) (option_map known b) ≡ map_paths f (introduced_by a b)
@@ -186,7 +180,7 @@ module _ (w : Renaming) where
 
   -- ## Free resources
 
-  member-renamed : (r : Name) (rs : List Name) → member (f r) (map f rs) ≡ member r rs
+  pub member-renamed : (r : Name) (rs : List Name) → member (f r) (map f rs) ≡ member r rs
   member-renamed r [] = refl
   member-renamed r (q ∷ rs) = λ j. same_under f w.resources.back r q (w.resources.is_back r) (w.resources.is_back q) j || member-renamed r rs j
 
@@ -213,8 +207,6 @@ module _ (w : Renaming) where
     any_free-renamed own none = refl
     any_free-renamed own (part k t ps) = λ j. free-renamed own t j || any_free-renamed own ps j
 
-  -- ## The map
-
   -- ## Value types and core types
 
   primitive_of-renamed : (t : Type_tree) → primitive_of (to t) ≡ primitive_of t
@@ -237,7 +229,7 @@ module _ (w : Renaming) where
   is_free-kept : (r : Name) (t : Type_tree) → is_free (f r) (to t) ≡ is_free r t
   is_free-kept r t = is_free-renamed f w.resources.back g (λ i. Unit {0}) r t (w.resources.is_back r) (resources_back t)
 
-  first_path-renamed : (r : Name) (es : Entries) → first_path (f r) (map_entries to es) ≡ first_path r es
+  pub first_path-renamed : (r : Name) (es : Entries) → first_path (f r) (map_entries to es) ≡ first_path r es
   first_path-renamed r es = path_from-renamed f w.resources.back g (λ i. Unit {0}) r 0 es (w.resources.is_back r) (λ e. resources_back e.1)
 
   -- ## The map
@@ -268,63 +260,3 @@ module _ (w : Renaming) where
     contains = λ k t. contains-rename f g k t;
     abi_size = λ k t. abi_size-rename f g k t;
   }
-
-  -- ## What is made
-
-  parts-made : (ps : List (Role × Type_tree)) → tree_parts (map_parts to ps) ≡ rename_parts f g (tree_parts ps)
-  parts-made [] = refl
-  parts-made (p ∷ ps) = ap (part p.0 (to p.1)) (parts-made ps)
-
-  core_exports-renamed : (es : List (Text × EntityType)) (rest : Parts Name Name) → rename_parts f g (core_exports es rest) ≡ core_exports es (rename_parts f g rest)
-  core_exports-renamed [] rest = refl
-  core_exports-renamed (e ∷ es) rest = ap (λ (ps : Parts Name Name). part (core_export e.0) (node (core_item e.1) none) ps) (core_exports-renamed es rest)
-
-  core_imports-renamed : (is : List ((Text × Text) × EntityType)) (rest : Parts Name Name) → rename_parts f g (core_imports is rest) ≡ core_imports is (rename_parts f g rest)
-  core_imports-renamed [] rest = refl
-  core_imports-renamed (i ∷ is) rest = ap (λ (ps : Parts Name Name). part (core_import i.0.0 i.0.1) (node (core_item i.1) none) ps) (core_imports-renamed is rest)
-
-  entries-renamed : (role : Extern_name → Role) (es : Entries) (rest : Parts Name Name) → rename_parts f g (entries role es rest) ≡ entries role (map_entries to es) (rename_parts f g rest)
-  entries-renamed role [] rest = refl
-  entries-renamed role (x ∷ es) rest = ap (λ (ps : Parts Name Name). part (role x.0) (to x.1) ps) (entries-renamed role es rest)
-
-  -- a node under the renamed identity
-  pub node_tree-renamed : (i : Name) (n : New_node tree_reader) → node_tree (g i) (map_node (renaming w) n) ≡ to (node_tree i n)
-  node_tree-renamed i (func_node b ps) = ap (node (func (g i) b)) (parts-made ps)
-  node_tree-renamed i (defined_node k ps) = ap (node (defined (g i) k)) (parts-made ps)
-  node_tree-renamed i (module_node t) =
-      ap (node (core_module (g i) (capped t.size))) (sym (core_imports-renamed t.imports (core_exports t.exports none) ∙ ap (core_imports t.imports) (core_exports-renamed t.exports none)))
-  node_tree-renamed i (component_node ins outs es es') =
-      ap (node (component (g i) (rename_paths f ins) (rename_paths f outs)))
-      (sym (entries-renamed import es (entries export es' none) ∙ ap (entries import (map_entries to es)) (entries-renamed export es' none)))
-
-  -- with renamed names the renamed entries are made
-  module _ (n m : Names) (p : Place) (r : AreRenamed (Under p) w.resources.to w.identities.to n m) where
-    head-made : (h : Head Name Name) → renewed_head m p (rename_head f g h) ≡ rename_head f g (renewed_head n p h)
-    head-made (resource q s) = ap (resource (f q)) (r.identity (stamp_at p) (under-refl p))
-    head-made (defined k x) = ap (λ (y : Name). defined y x) (r.identity (introduced p) (under-refl p))
-    head-made (func k b) = ap (λ (y : Name). func y b) (r.identity (introduced p) (under-refl p))
-    head-made (instance k own) = ap (λ (y : Name). instance y (map f own)) (r.identity (introduced p) (under-refl p))
-    head-made (component k ins outs) = ap (λ (y : Name). component y (rename_paths f ins) (rename_paths f outs)) (r.identity (introduced p) (under-refl p))
-    head-made (core_module k x) = ap (λ (y : Name). core_module y x) (r.identity (introduced p) (under-refl p))
-    head-made (core_instance k x) = ap (λ (y : Name). core_instance y x) (r.identity (introduced p) (under-refl p))
-    head-made _ = refl
-
-    again-made : (t : Type_tree) → type_of (renewed m p (to t)) (to t) ≡ to (type_of (renewed n p t) t)
-    again-made (node h ps) = ap (λ (k : Head Name Name). type_of (node k (rename_parts f g ps)) (node (rename_head f g h) (rename_parts f g ps))) (head-made h)
-
-    built : (x : New_node tree_reader) → node_tree (m.identity (introduced p)) (map_node (renaming w) x) ≡ to (node_tree (n.identity (introduced p)) x)
-    built x = ap (λ (i : Name). node_tree i (map_node (renaming w) x)) (r.identity (introduced p) (under-refl p)) ∙ node_tree-renamed (n.identity (introduced p)) x
-
-    pub makes_renamed : (u : Uses tree_reader) → MakesSame (renaming w) (λ t. Unit {0}) (tree_maker n p) (tree_maker m p) u
-    makes_renamed u =
-        let q : m.resource (introduced p) ≡ f (n.resource (introduced p)) = r.resource (introduced p) (under-refl p) in
-        let s : m.identity (stamp_at p) ≡ g (n.identity (stamp_at p)) = r.identity (stamp_at p) (under-refl p) in
-        record {
-          again = λ t e. again-made t;
-          again_known = λ t e. tt;
-          resource = λ e. q;
-          reference = λ e. (λ j. type_entry (resource_type (q j) (s j)));
-          reference_known = λ e. tt;
-          build = λ x e. built x;
-          build_type = λ x e. ap type_entry (built x);
-        }

@@ -10,7 +10,7 @@ use Rattle.wcv_syntax.specs.declared.instance.ComponentExternalKind.TheVariants 
 use Rattle.wcv_syntax.specs.declared.instance.ComponentOuterAliasKind.{ComponentOuterAliasKind}
 use Rattle.wcv_syntax.specs.declared.instance.ComponentOuterAliasKind.TheVariants as outer
 use Rattle.wcv_types.specs.Tree.{Text, Sort, is_value, is_func, is_instance, is_component, is_type, is_module}
-use Rattle.wcv_lower.specs.Checks.{Checks, Counts, no_type_room, no_core_type_room, if_found, is_none, missing, is_other, no_room}
+use Rattle.wcv_lower.specs.Checks.{Checks, Counts, too_long, no_type_room, no_core_type_room, if_found, is_none, missing, is_other, no_room}
 use Rattle.wcv_lower.specs.Context.{Context, Stack, in_types, in_instances, in_components, core_types, core_modules, is_concrete, at_distance, counts}
 use Rattle.wcv_lower.specs.Readers.{Reader, sort_of, if_sort, first_named}
 use Rattle.wcv_lower.specs.Step.{Step, charges, appends, core_appends, joins}
@@ -135,6 +135,12 @@ abbrev pub alias_checks : {X : Reader} → Stack X → ComponentAlias → Checks
 alias_checks s (alias.InstanceExport w i n) = export_alias_checks s.top w i n
 alias_checks s (alias.CoreInstanceExport w i n) = []
 alias_checks s (alias.Outer w n i) = outer_alias_checks s w n i
+
+-- the limits that are left to the caller
+abbrev pub alias_left : ComponentAlias → Checks
+alias_left (alias.InstanceExport w i n) = too_long n
+alias_left (alias.CoreInstanceExport w i n) = too_long n
+alias_left (alias.Outer w n i) = []
 
 -- an alias of a core instance's export is not read yet
 abbrev pub is_read : ComponentAlias → Bool

@@ -1,11 +1,11 @@
--- The type of a component, from the context at its end, and why the end is refused.
-use Rattle.std.specs.Prelude.{ℕ, List, [], ◌∷◌, Bool, false, ◌||◌, cond, Option, Some, None}
+-- The type of a component or of a declared type, from the context at its end, and why the end is refused.
+use Rattle.std.specs.Prelude.{ℕ, List, [], ◌∷◌, map, Bool, false, ◌||◌, cond, Option, Some, None}
 use Rattle.std.specs.Option.{option_map, option_and_then}
 use Rattle.wcv_core.specs.declared.core_types.ValType.{ValType}
 use Rattle.wcv_core.specs.declared.error.ErrorKind.TheVariants as kind
 use Rattle.wcv_lower.specs.Checks.{Checks, is_none}
-use Rattle.wcv_lower.specs.Context.{Context, importing, exporting}
-use Rattle.wcv_lower.specs.Readers.{Reader, Named, New_node, component_node}
+use Rattle.wcv_lower.specs.Context.{Kind, concrete, declares_instance, declares_component, Context, importing, exporting}
+use Rattle.wcv_lower.specs.Readers.{Reader, Named, New_node, instance_node, component_node}
 
 module _ (X : Reader) where
   -- the resource is free in an entry
@@ -42,3 +42,21 @@ type_at_end build c = option_map build (component_made c)
 -- a defined resource is free in an import, or one that is free in an export has no path there
 abbrev pub end_checks : {X : Reader} → Context X → Checks
 end_checks {X} c = (kind.ResourceScope, any_free X c.defined (c.side importing)) ∷ (kind.ResourceScope, is_none (kept X c.defined (c.side exporting))) ∷ []
+
+-- ## Declared types
+
+-- an instance type owns the resources that its context defines
+abbrev pub instance_made : {X : Reader} → Context X → New_node X
+instance_made c = instance_node (map (λ d. d.0) c.defined) (c.side exporting)
+
+-- the node of what is declared
+abbrev pub declared_made : {X : Reader} → Kind → Context X → Option (New_node X)
+declared_made declares_instance c = Some (instance_made c)
+declared_made declares_component c = component_made c
+declared_made concrete c = component_made c
+
+-- the end of an instance type has no cause
+abbrev pub declared_end_checks : {X : Reader} → Kind → Context X → Checks
+declared_end_checks declares_instance c = []
+declared_end_checks declares_component c = end_checks c
+declared_end_checks concrete c = end_checks c

@@ -6,8 +6,8 @@ use Rattle.wcv_core.specs.declared.primitive.PrimitiveValType.{PrimitiveValType}
 use Rattle.wcv_types.specs.Abi.{Mark}
 use Rattle.wcv_types.specs.Tree.{Text, Extern_name, Role}
 use Rattle.wcv_lower.specs.Context.{Context, Stack, Side, Space, Core_space}
-use Rattle.wcv_lower.specs.Readers.{Reader, Maker, Named, New_node, func_node, defined_node, module_node, component_node, first_named}
-use Rattle.wcv_lower.specs.Step.{Change, appends, lists, introduces, defines, creates, core_appends, interns, charges, Step, Brought}
+use Rattle.wcv_lower.specs.Readers.{Reader, Maker, Named, New_node, func_node, defined_node, module_node, instance_node, component_node, Brought, first_named}
+use Rattle.wcv_lower.specs.Step.{Change, appends, lists, introduces, defines, creates, core_appends, interns, charges, Step}
 use Rattle.wcv_lower.specs.Uses.{Uses}
 
 abbrev pub map_entries : {E F : Type 0} → (E → F) → List (Extern_name × E) → List (Extern_name × F)
@@ -96,15 +96,18 @@ module _ {X Y : Reader} (m : Map X Y) where
   map_node (func_node b ps) = func_node b (map_parts m.entry ps)
   map_node (defined_node k ps) = defined_node k (map_parts m.entry ps)
   map_node (module_node t) = module_node t
+  map_node (instance_node own es) = instance_node (map m.resource own) (map_entries m.entry es)
   map_node (component_node ins outs es es') = component_node (map_paths m.resource ins) (map_paths m.resource outs) (map_entries m.entry es) (map_entries m.entry es')
 
 -- what one maker makes for an item is what the other makes of the read entries: of the type that is made again, if there is one, of
--- a resource, if there is a new one, and of the node that is made, if there is one
+-- a resource, if there is a new one, of the type of an instance that is introduced, and of the node that is made, if there is one
 pub record MakesSame {X Y : Reader} (m : Map X Y) (Known : X.Entry → Type 0) (k : Maker X) (l : Maker Y) (u : Uses X) : Type 0 where
   pub again : (x : X.Entry) → u.old ≡ Some x → l.again (m.entry x) ≡ m.entry (k.again x)
   pub again_known : (x : X.Entry) → u.old ≡ Some x → Known (k.again x)
   pub resource : u.new ≡ true → l.resource ≡ m.resource k.resource
   pub reference : u.new ≡ true → l.reference ≡ m.entry k.reference
   pub reference_known : u.new ≡ true → Known k.reference
+  pub instance_of : (x : X.Entry) → u.instance ≡ Some x → l.instance_of (m.entry x) ≡ map_brought m (k.instance_of x)
+  pub instance_known : (x : X.Entry) → u.instance ≡ Some x → Known (k.instance_of x).entity
   pub build : (n : New_node X) → u.node ≡ Some n → l.build (map_node m n) ≡ m.entry (k.build n)
   pub build_type : (n : New_node X) → u.node ≡ Some n → l.build_type (map_node m n) ≡ m.entry (k.build_type n)

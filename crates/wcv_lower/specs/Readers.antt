@@ -83,8 +83,15 @@ pub data New_node (X : Reader) : Type 0 where
   func_node : Bool → Made_parts X → New_node X
   defined_node : Former → Made_parts X → New_node X
   module_node : Module_type → New_node X
+  -- the resources that an instance type owns, and the exports
+  instance_node : List X.Resource → Named X → New_node X
   -- the resources that are imported and those that are defined, and the imports and the exports
   component_node : List (X.Resource × List ℕ) → List (X.Resource × List ℕ) → Named X → Named X → New_node X
+
+-- an entity, and the resources that it introduces, each with its path in it
+pub record Brought (X : Reader) : Type 0 where
+  pub entity : X.Entry
+  pub resources : List (X.Resource × List ℕ)
 
 -- What is made at the place of an item, under the names that are given there.
 pub record Maker (X : Reader) : Type 0 where
@@ -93,6 +100,8 @@ pub record Maker (X : Reader) : Type 0 where
   -- a resource that is new, and the entity of its type
   pub resource : X.Resource
   pub reference : X.Entry
+  -- an instance of an instance type: what the type owns is new there
+  pub instance_of : X.Entry → Brought X
   -- a node, and the entry of the types that has it
   pub build : New_node X → X.Entry
   pub build_type : New_node X → X.Entry

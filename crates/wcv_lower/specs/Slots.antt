@@ -1,15 +1,17 @@
 -- Entries that are ids of an arena: those of the code. A slot is what stands where an entry stands.
-use Rattle.std.specs.Prelude.{Some, None, List, [], ◌∷◌, length}
+use Rattle.std.specs.Prelude.{ℕ, suc, pred, Some, None, List, [], ◌∷◌, length}
 use Rattle.wcv_core.specs.Names.{Name, number}
 use Rattle.wcv_types.specs.Arena.{Arena}
 use Rattle.wcv_types.specs.Identity.{Identity}
-use Rattle.wcv_types.specs.Tree.{Extern_name, export, Sort, is_nothing, is_value, is_resource, is_func, is_instance, is_component, is_type, is_module, is_core_instance, is_core_type, is_core_item}
+use Rattle.wcv_types.specs.Tree.{Extern_name, export, owned, Sort, is_nothing, is_value, is_resource, is_func, is_instance, is_component, is_type, is_module, is_core_instance, is_core_type, is_core_item}
 use Rattle.wcv_types.specs.Unfold.{Slot, leaf, core, at, both, Slots, slots_at, slot_tree, trees}
 use Rattle.wcv_types.specs.declared.ids.Part.{Part}
 use Rattle.wcv_types.specs.declared.ids.Part.TheVariants as p
 use Rattle.wcv_lower.specs.Mapped.{Map, map_entries}
-use Rattle.wcv_lower.specs.Readers.{Reader, New_node, func_node, defined_node, module_node, component_node, Maker}
-use Rattle.wcv_lower.specs.Trees.{tree_reader}
+use Rattle.wcv_lower.specs.Readers.{Reader, New_node, func_node, defined_node, module_node, instance_node, component_node, Brought, Maker}
+use Rattle.wcv_lower.specs.NewTypes.{path_or_none}
+use Rattle.wcv_lower.specs.Step.{bare}
+use Rattle.wcv_lower.specs.Trees.{Entries, tree_reader}
 
 -- ## What is read
 
@@ -105,7 +107,25 @@ abbrev pub next_node : {X : Reader} → Arena → New_node X → Part
 next_node a (func_node b ps) = p.Func (record { index = length a.nodes })
 next_node a (defined_node k ps) = p.Defined (record { index = length a.nodes })
 next_node a (module_node m) = p.Module (record { index = length a.nodes })
+next_node a (instance_node own es) = p.Instance (record { index = length a.nodes })
 next_node a (component_node ins outs es es') = p.Component (record { index = length a.nodes })
+
+-- the next resources from a number on in place of these, each with the first path to it in the exports
+abbrev pub next_resources : ℕ → List Name → Entries → List (Name × List ℕ)
+next_resources k [] es = []
+next_resources k (r ∷ rs) es = (number k, path_or_none (tree_reader.first_path r es)) ∷ next_resources (suc k) rs es
+
+-- the last node that was made, as an instance
+abbrev pub last_instance : Arena → Part
+last_instance b = p.Instance (record { index = pred (length b.nodes) })
+
+-- an instance of a type that owns these resources: if there is one, that node
+abbrev pub instance_by : Arena → (b : Arena) → Slot → List Name → Entries → Brought (slot_reader b)
+instance_by a b x [] es = bare (slot_reader b) x
+instance_by a b x own es = record { entity = at (last_instance b); resources = next_resources a.resources own es }
+
+abbrev pub instance_slot : Arena → (b : Arena) → Slot → Brought (slot_reader b)
+instance_slot a b x = instance_by a b x (owned (slot_tree (trees b.nodes) x)) (tree_reader.exports (slot_tree (trees b.nodes) x))
 
 -- the new parts are of a later arena
 abbrev pub slot_maker : Arena → (b : Arena) → Maker (slot_reader b)
@@ -113,6 +133,7 @@ slot_maker a b = record {
   again = again a;
   resource = number a.resources;
   reference = both (next_reference a) (next_reference a);
+  instance_of = instance_slot a b;
   build = λ n. at (next_node a n);
   build_type = λ n. both (next_node a n) (next_node a n);
 }

@@ -13,15 +13,15 @@ use Rattle.wcv_types.specs.Measure.{size, depth}
 use Rattle.wcv_types.specs.Named.{is_in, is_named, passes}
 use Rattle.wcv_types.specs.Resources.{owned_by, is_free}
 use Rattle.wcv_types.specs.Tree as tree
-use Rattle.wcv_types.specs.Tree.{Role, Head, nothing, primitive, resource, defined, func, instance, core_type, type_entity, node, Parts, none, part, Sort, is_type, sort, head, exports, type_of, component_type, module_type, sub_type, primitive_type}
+use Rattle.wcv_types.specs.Tree.{Role, Head, nothing, primitive, resource, defined, func, instance, core_type, type_entity, node, Parts, none, part, Sort, is_type, sort, head, exports, type_of, instance_type, component_type, module_type, sub_type, primitive_type}
 pub use Rattle.wcv_types.specs.Unfold.{Type_tree}
 use Rattle.wcv_types.specs.Unfold.{capped}
 use Rattle.wcv_lower.specs.Context.{Context, Stack, Side, importing, exporting, names_for, with_named}
 use Rattle.wcv_lower.specs.EntryNames.{name_checks}
 use Rattle.wcv_lower.specs.Names.{Names, introduced}
 pub use Rattle.wcv_lower.specs.NewTypes.{type_entry}
-use Rattle.wcv_lower.specs.NewTypes.{renewed, new_reference}
-use Rattle.wcv_lower.specs.Readers.{Reader, New_node, func_node, defined_node, module_node, component_node, Maker}
+use Rattle.wcv_lower.specs.NewTypes.{renewed, new_reference, instance_tree, instance_resources}
+use Rattle.wcv_lower.specs.Readers.{Reader, New_node, func_node, defined_node, module_node, instance_node, component_node, Maker}
 
 -- ## Of a type entity
 
@@ -166,6 +166,7 @@ abbrev pub node_tree : Name → New_node tree_reader → Type_tree
 node_tree i (func_node b ps) = node (func i b) (tree_parts ps)
 node_tree i (defined_node k ps) = node (defined i k) (tree_parts ps)
 node_tree i (module_node m) = module_tree i m
+node_tree i (instance_node own es) = instance_type i own es
 node_tree i (component_node ins outs es es') = component_type i ins outs es es'
 
 -- under names that are given at a place
@@ -174,6 +175,7 @@ tree_maker names p = record {
   again = λ t. type_of (renewed names p t) t;
   resource = names.resource (introduced p);
   reference = type_entry (new_reference names p);
+  instance_of = λ t. record { entity = instance_tree names p t; resources = instance_resources names p t };
   build = node_tree (names.identity (introduced p));
   build_type = λ n. type_entry (node_tree (names.identity (introduced p)) n);
 }

@@ -8,7 +8,7 @@ use Rattle.wcv_syntax.specs.declared.component_type.ComponentTypeRef.{ComponentT
 use Rattle.wcv_syntax.specs.declared.name.ComponentExport.{ComponentExport}
 use Rattle.wcv_lower.specs.Context.{Context, Stack}
 use Rattle.wcv_lower.specs.CoreItems.{core_type_made, core_module_made}
-use Rattle.wcv_lower.specs.Entries.{made_from, makes_new, exported_from}
+use Rattle.wcv_lower.specs.Entries.{made_from, instance_from, makes_new, exported_from}
 use Rattle.wcv_lower.specs.Readers.{Reader, New_node, module_node}
 use Rattle.wcv_lower.specs.Types.{type_made}
 
@@ -17,34 +17,40 @@ pub record Uses (X : Reader) : Type 0 where
   pub old : Option X.Entry
   -- it makes a resource that is new
   pub new : Bool
+  -- the type of the instance that it introduces
+  pub instance : Option X.Entry
   -- the node that it makes
   pub node : Option (New_node X)
 
 abbrev pub uses_nothing : (X : Reader) → Uses X
-uses_nothing X = record { old = None; new = false; node = None }
+uses_nothing X = record { old = None; new = false; instance = None; node = None }
 
 -- that type alone, a resource alone, that node alone
 abbrev pub uses_again : (X : Reader) → X.Entry → Uses X
-uses_again X x = record { old = Some x; new = false; node = None }
+uses_again X x = record { old = Some x; new = false; instance = None; node = None }
 
 abbrev pub uses_new : (X : Reader) → Uses X
-uses_new X = record { old = None; new = true; node = None }
+uses_new X = record { old = None; new = true; instance = None; node = None }
+
+-- an instance of that type alone
+abbrev pub uses_instance : (X : Reader) → X.Entry → Uses X
+uses_instance X x = record { old = None; new = false; instance = Some x; node = None }
 
 abbrev pub uses_node : {X : Reader} → Option (New_node X) → Uses X
-uses_node o = record { old = None; new = false; node = o }
+uses_node o = record { old = None; new = false; instance = None; node = o }
 
 abbrev pub ref_uses : {X : Reader} → Context X → ComponentTypeRef → Uses X
-ref_uses c r = record { old = made_from c r; new = makes_new r; node = None }
+ref_uses c r = record { old = made_from c r; new = makes_new r; instance = instance_from c r; node = None }
 
 abbrev pub export_uses : {X : Reader} → Context X → ComponentExport → Uses X
-export_uses c e = record { old = exported_from c e.kind e.index; new = false; node = None }
+export_uses c e = record { old = exported_from c e.kind e.index; new = false; instance = None; node = None }
 
 abbrev pub is_resource_type : Type_form → Bool
 is_resource_type (resource_type rep dtor) = true
 is_resource_type t = false
 
 abbrev pub type_uses : {X : Reader} → Context X → Type_form → Uses X
-type_uses c t = record { old = None; new = is_resource_type t; node = type_made c t }
+type_uses c t = record { old = None; new = is_resource_type t; instance = None; node = type_made c t }
 
 abbrev pub made_node : {X : Reader} → Option Made → Option (New_node X)
 made_node o = option_map (λ s. module_node s.1) o

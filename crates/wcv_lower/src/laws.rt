@@ -1,23 +1,32 @@
 // Laws of the rules, over the definitions alone.
 ghost use Rattle.std.specs.Option.{option_map};
-ghost use Rattle.std.specs.Prelude.{◌≡◌, Some, true};
-ghost use Rattle.wcv_core.specs.Names.{Place};
+ghost use Rattle.std.specs.Prelude.{◌≡◌, ℕ, [], ◌∷◌, ◌++◌, Bool, Some, true};
+ghost use Rattle.wcv_core.specs.Names.{Name, Place, at, deeper, member};
 ghost use Rattle.wcv_core.specs.declared.features.WasmFeatures.{WasmFeatures};
-ghost use Rattle.wcv_syntax.specs.Model.{Form};
+ghost use Rattle.wcv_syntax.specs.Built.{is_built_type};
+ghost use Rattle.wcv_syntax.specs.Model.{Text, Form, Type_form, instance_type, Decls};
+ghost use Rattle.wcv_syntax.specs.declared.name.ComponentExternName.{ComponentExternName};
 ghost use Rattle.wcv_syntax.specs.declared.instance.ComponentAlias.{ComponentAlias};
 ghost use Rattle.wcv_types.specs.Arena.{Arena};
 ghost use Rattle.wcv_types.specs.Entities.{SlotStands};
 ghost use Rattle.wcv_types.specs.Standing.{AllFit};
+ghost use Rattle.wcv_types.specs.Tree.{owned};
+ghost use Rattle.wcv_types.specs.Unfold.{Type_tree};
 ghost use Rattle.wcv_lower.specs.Aliases.{alias_step, alias_checks, is_read};
 ghost use Rattle.wcv_lower.specs.Checks.{IsFree};
-ghost use Rattle.wcv_lower.specs.Context.{Stack};
+ghost use Rattle.wcv_lower.specs.Context.{Stack, in_types, importing};
+ghost use Rattle.wcv_lower.specs.Declared.{Makers, read_type, declared_checks};
+ghost use Rattle.wcv_lower.specs.DeclaredMaps.{TypeAlike};
+ghost use Rattle.wcv_lower.specs.Entries.{extern_name};
 ghost use Rattle.wcv_lower.specs.Growth.{grow, checks};
 ghost use Rattle.wcv_lower.specs.Mapped.{IsKnown, map_stack, map_step};
-ghost use Rattle.wcv_lower.specs.Names.{Names, Under, AreRenamed};
+ghost use Rattle.wcv_lower.specs.Names.{Names, names_by_place, Under, AreRenamed};
+ghost use Rattle.wcv_lower.specs.Owned.{Everywhere, IsOnce, OwnsOnce, IsMadeAt};
 ghost use Rattle.wcv_lower.specs.Renamed.{Renaming, renaming};
 ghost use Rattle.wcv_lower.specs.Slots.{slot_reader, to_trees};
 ghost use Rattle.wcv_lower.specs.Step.{Step};
-ghost use Rattle.wcv_lower.specs.Trees.{Tree_stack, tree_reader, tree_maker};
+ghost use Rattle.wcv_lower.specs.Trees.{Tree_stack, tree_reader, tree_maker, type_entry};
+ghost use Rattle.wcv_lower.specs.Worked.{imported_twice, own, made_type, made_instance};
 
 /// With renamed names, a renamed stack grows to the renamed one, and an item has the same causes. Where it
 /// has none, it does something.
@@ -35,4 +44,41 @@ pub fn aliases_of_ids_are_those_of_trees()
     ensures step { (a : Arena) (s : Stack (slot_reader a)) (x : ComponentAlias) → AllFit a → IsKnown (SlotStands a) s.top → alias_step (map_stack (to_trees a) s) x ≡ option_map (map_step (to_trees a)) (alias_step s x) }
     ensures causes { (a : Arena) (s : Stack (slot_reader a)) (x : ComponentAlias) → AllFit a → IsKnown (SlotStands a) s.top → alias_checks (map_stack (to_trees a) s) x ≡ alias_checks s x }
     ensures free { (s : Tree_stack) (x : ComponentAlias) → is_read x ≡ true → IsFree (alias_checks s x) → (p : Step tree_reader) × (alias_step s x ≡ Some p) }
+{}
+
+/// With renamed names, a declared type in a renamed stack is read to the renamed one, and has the same causes.
+/// Where it has none, it is read. No item is read as one yet.
+pub fn renaming_keeps_declared_types()
+    ensures growth { (w : Renaming) (n m : Names) (p : Place) → AreRenamed (Under p) w.resources.to w.identities.to n m → (fs : WasmFeatures) (s : Tree_stack) (t : Type_form) →
+        read_type fs (tree_maker m) p (map_stack (renaming w) s) t ≡ option_map (map_stack (renaming w)) (read_type fs (tree_maker n) p s t) }
+    ensures causes { (w : Renaming) (n m : Names) (p : Place) → AreRenamed (Under p) w.resources.to w.identities.to n m → (fs : WasmFeatures) (limited : Bool) (s : Tree_stack) (t : Type_form) →
+        declared_checks limited fs (tree_maker m) p (map_stack (renaming w) s) t ≡ declared_checks limited fs (tree_maker n) p s t }
+    ensures free { (n : Names) (p : Place) (fs : WasmFeatures) (limited : Bool) (s : Tree_stack) (t : Type_form) → is_built_type t ≡ true → IsFree (declared_checks limited fs (tree_maker n) p s t) → (u : Tree_stack) × (read_type fs (tree_maker n) p s t ≡ Some u) }
+{}
+
+/// A declared type over ids of an arena is read to what it is read to over the trees that they stand for, and
+/// has the same causes, where at each declaration the makers make the same of what it uses.
+pub fn declared_types_of_ids_are_those_of_trees()
+    ensures growth { (a : Arena) (fs : WasmFeatures) (k : Makers (slot_reader a)) (l : Makers tree_reader) (p : Place) (s : Stack (slot_reader a)) (t : Type_form) → AllFit a → TypeAlike (to_trees a) (SlotStands a) fs k l p s t →
+        read_type fs l p (map_stack (to_trees a) s) t ≡ option_map (map_stack (to_trees a)) (read_type fs k p s t) }
+    ensures causes { (a : Arena) (fs : WasmFeatures) (k : Makers (slot_reader a)) (l : Makers tree_reader) (p : Place) (limited : Bool) (s : Stack (slot_reader a)) (t : Type_form) → AllFit a → TypeAlike (to_trees a) (SlotStands a) fs k l p s t →
+        declared_checks limited fs l p (map_stack (to_trees a) s) t ≡ declared_checks limited fs k p s t }
+{}
+
+/// With names by place, what a declared instance type owns was introduced, or made again, at one of its
+/// declarations, and it owns no resource twice. That no type owns one twice stays so.
+pub fn a_declared_type_owns_what_its_declarations_made()
+    ensures owned { (fs : WasmFeatures) (p : Place) (s u : Tree_stack) (ds : Decls) → Everywhere OwnsOnce s → read_type fs (tree_maker names_by_place) p s (instance_type ds) ≡ Some u →
+        (t : Type_tree) × (u.top.space in_types ≡ s.top.space in_types ++ type_entry t ∷ []) × IsOnce (owned t) × ((r : Name) → member r (owned t) ≡ true → (j : ℕ) × IsMadeAt (deeper p j) r) }
+    ensures declared { (fs : WasmFeatures) (p : Place) (s u : Tree_stack) (t : Type_form) → Everywhere OwnsOnce s → read_type fs (tree_maker names_by_place) p s t ≡ Some u → Everywhere OwnsOnce u }
+    ensures grown { (fs : WasmFeatures) (n : Names) (p : Place) (s u : Tree_stack) (f : Form) → Everywhere OwnsOnce s → grow fs (tree_maker n p) s f ≡ Some u → Everywhere OwnsOnce u }
+{}
+
+/// A worked root: two imports of one instance type that owns a resource. Each brings a resource of its own, which
+/// stands at the first position inside it; what mentions the resource is made again, and the reference keeps its
+/// stamp.
+pub fn two_imports_of_a_type_have_two_resources()
+    ensures types { (fs : WasmFeatures) (r f a b : ComponentExternName) (x : Text) → option_map (λ (s : Tree_stack). s.top.space in_types) (imported_twice fs r f x a b) ≡ Some (type_entry (made_type r f x) ∷ []) }
+    ensures imports { (fs : WasmFeatures) (r f a b : ComponentExternName) (x : Text) → option_map (λ (s : Tree_stack). s.top.side importing) (imported_twice fs r f x a b) ≡ Some ((extern_name a, made_instance r f x 1) ∷ (extern_name b, made_instance r f x 2) ∷ []) }
+    ensures imported { (fs : WasmFeatures) (r f a b : ComponentExternName) (x : Text) → option_map (λ (s : Tree_stack). s.top.imported) (imported_twice fs r f x a b) ≡ Some ((at (1 ∷ []) own, 0 ∷ 0 ∷ []) ∷ (at (2 ∷ []) own, 1 ∷ 0 ∷ []) ∷ []) }
 {}

@@ -1,6 +1,6 @@
 -- Names of entries by ids, and by trees; what the names of a list are once an entry joined.
 use Rattle.wcv_core.specs.Limits.{max_entries}
-use Rattle.std.proofs.Common.{◌≡◌, ◌≤◌, ℕ, List, [], ◌∷◌, ◌++◌, map, length, Bool, true, false, ◌&&◌, ◌||◌, cond, eqb, Option, Some, None, refl, sym, ap, ◌∙◌, subst, arith, append_assoc, append-nil, inl, ⊎_elim}
+use Rattle.std.proofs.Common.{◌≡◌, ◌≤◌, ℕ, List, [], ◌∷◌, ◌++◌, map, length, Bool, true, false, ◌&&◌, ◌||◌, cond, eqb, Option, Some, None, refl, sym, ap, ◌∙◌, subst, arith, append_assoc, append-nil, ⊎_elim}
 use Rattle.std.specs.Prelude.{All, bytes_eq}
 use Rattle.std.specs.Map.{lookup}
 use Rattle.std.proofs.lemmas.Bool.{ne_eqb, false≢true}
@@ -24,7 +24,6 @@ use Rattle.wcv_types.specs.declared.shapes.ComponentValType.TheVariants as val
 use Rattle.wcv_types.proofs.Unfolding.{sort_stands, known_any}
 use Rattle.wcv_core.specs.Refusal.{error_kind}
 use Rattle.wcv_core.specs.declared.error.Error.{Error}
-use Rattle.wcv_core.specs.declared.error.ErrorKind.TheVariants as kind
 use Rattle.wcv_syntax.specs.declared.name.ComponentExternName.{ComponentExternName}
 use Rattle.wcv_names.specs.Externs as externs
 use Rattle.wcv_names.specs.Externs.{extern_checks}

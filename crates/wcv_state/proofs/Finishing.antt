@@ -1,23 +1,26 @@
 -- What is finished is the type at the end of the state's context.
-use Rattle.std.proofs.Common.{◌≡◌, List, map, sym, ◌∙◌, ap, subst, false, cond, Some, None}
+use Rattle.std.proofs.Common.{◌≡◌, suc, List, map, sym, ◌∙◌, ap, subst, cond, Some, None}
 use Rattle.std.specs.Prelude.{ℕ, All}
 use Rattle.std.specs.Option.{option_map}
+use Rattle.wcv_core.specs.Names.{Name}
 use Rattle.wcv_core.specs.Refusal.{error_kind}
 use Rattle.wcv_core.specs.declared.error.Error.{Error}
 use Rattle.wcv_types.specs.Arena.{Arena}
 use Rattle.wcv_types.specs.ComponentTrees.{resource_path, ResourceStands}
 use Rattle.wcv_types.specs.Entities.{entry_trees, EntryStands}
-use Rattle.wcv_types.specs.Tree.{component_type}
+use Rattle.wcv_types.specs.Measure.{sizes, depths}
+use Rattle.wcv_types.specs.Tree.{component_type, Parts, none, entries, import, export}
 use Rattle.wcv_types.specs.Unfold.{trees}
 use Rattle.wcv_types.specs.declared.component_type.ComponentType.{ComponentType}
 use Rattle.wcv_types.specs.declared.ids.ResourceId.{ResourceId}
+use Rattle.wcv_types.specs.declared.info.TypeInfo.{TypeInfo}
 use Rattle.wcv_lower.specs.Checks.{Checks, is_none}
 use Rattle.wcv_lower.specs.Context.{importing, exporting}
-use Rattle.wcv_lower.specs.Ending.{any_free, kept, component_of, end_checks}
+use Rattle.wcv_lower.specs.Ending.{kept, component_of, end_checks}
 use Rattle.wcv_lower.specs.Trees.{Entries, Tree_context, tree_reader, node_tree}
 use Rattle.wcv_lower.proofs.Causes.{cause_left, cause_right}
-use Rattle.wcv_state.specs.Contents.{Contents, Listed, context_of, defined_resource, LeadsToImport, StateStands}
-use Rattle.wcv_state.specs.Ending.{import_checks, kept_checks}
+use Rattle.wcv_state.specs.Contents.{Contents, Listed, context_of, defined_resource, LeadsToImport, side_parts, StateStands}
+use Rattle.wcv_state.specs.Ending.{import_checks, kept_checks, Ended, IsTypeOf}
 use Rattle.wcv_state.specs.Promises.{MemoryOrCausedBy, Finished}
 use Rattle.wcv_state.proofs.Calls.{caused_more}
 use Rattle.wcv_state.proofs.KeptPaths.{Defined, Kept, paths_lead}
@@ -29,40 +32,31 @@ module _ (a : Arena) (s : Contents) where
   abbrev side_trees : Listed → Entries
   side_trees es = entry_trees (trees a.nodes) es
 
-  -- what was found for the type
-  pub record IsFound (ds : Defined) (ins outs : Listed) (ps : Kept) : Type 0 where
-    pub defined : ds ≡ s.defined_resources
-    pub imports : ins ≡ s.imports
-    pub exports : outs ≡ s.exports
-    pub free : any_free tree_reader (map defined_resource ds) (side_trees ins) ≡ false
-    pub kept : kept tree_reader (map defined_resource ds) (side_trees outs) ≡ Some (map resource_path ps)
-    pub stand : All (λ (p : ResourceId × List ℕ). ResourceStands a p.0) ps
-
-  pub finish_is : (ty : ComponentType) (ds : Defined) (ins outs : Listed) → StateStands a s → ty.info ≡ s.info → ty.imports ≡ s.imports → ty.exports ≡ s.exports → ty.imported_resources ≡ s.imported_resources →
-      IsFound ds ins outs ty.defined_resources → Finished a s ty
-  finish_is ty ds ins outs h info imports exports imported w =
-      let none_free : any_free tree_reader (map defined_resource s.defined_resources) (side_trees s.imports) ≡ false =
-      (λ j. any_free tree_reader (map defined_resource (sym w.defined j)) (side_trees (sym w.imports j))) ∙ w.free in
-      let all_kept : kept tree_reader (map defined_resource s.defined_resources) (side_trees s.exports) ≡ Some (map resource_path ty.defined_resources) =
-      (λ j. kept tree_reader (map defined_resource (sym w.defined j)) (side_trees (sym w.exports j))) ∙ w.kept in
+  pub finish_is : (ty : ComponentType) (ps : Kept) → StateStands a s → Ended a s ps → IsTypeOf s ps ty → Finished a s ty
+  finish_is ty ps h e t =
+      let all_kept : kept tree_reader (map defined_resource s.defined_resources) (side_trees s.exports) ≡ Some (map resource_path ty.defined_resources) = e.kept ∙ ap (λ (qs : Kept). Some (map resource_path qs)) (sym t.defined) in
+      let parts : side_parts (trees a.nodes) s ≡ entries import (side_trees ty.imports) (entries export (side_trees ty.exports) none) =
+      λ j. entries import (side_trees (sym t.imports j)) (entries export (side_trees (sym t.exports j)) none) in
       record {
-        info = info;
-        imports = imports;
-        exports = exports;
+        info = t.info;
+        size = λ i. ap (λ (x : TypeInfo). x.size) t.info ∙ h.sized.size ∙ ap (λ (ps : Parts Name Name). suc (sizes ps)) parts;
+        depth = λ i. ap (λ (x : TypeInfo). x.depth) t.info ∙ h.sized.depth ∙ ap (λ (ps : Parts Name Name). suc (depths ps)) parts;
+        imports = t.imports;
+        exports = t.exports;
         tree = λ i.
-            (λ j. option_map (node_tree i) (cond (none_free j) None (option_map (component_of c) (all_kept j)))) ∙
-            (λ j. Some (component_type i (map resource_path (sym imported j)) (map resource_path ty.defined_resources) (side_trees (sym imports j)) (side_trees (sym exports j))));
-        free = (none_free, (ap is_none all_kept, tt));
+            (λ j. option_map (node_tree i) (cond (e.free j) None (option_map (component_of c) (all_kept j)))) ∙
+            (λ j. Some (component_type i (map resource_path (sym t.imported j)) (map resource_path ty.defined_resources) (side_trees (sym t.imports j)) (side_trees (sym t.exports j))));
+        free = (e.free, (ap is_none all_kept, tt));
         stands = record {
-          imports = subst (All (EntryStands a)) (sym imports) (h.side importing);
-          exports = subst (All (EntryStands a)) (sym exports) (h.side exporting);
-          imported = subst (All (λ (p : ResourceId × List ℕ). ResourceStands a p.0)) (sym imported) h.imported;
-          defined = w.stand;
+          imports = subst (All (EntryStands a)) (sym t.imports) (h.side importing);
+          exports = subst (All (EntryStands a)) (sym t.exports) (h.side exporting);
+          imported = subst (All (λ (p : ResourceId × List ℕ). ResourceStands a p.0)) (sym t.imported) h.imported;
+          defined = subst (All (λ (p : ResourceId × List ℕ). ResourceStands a p.0)) (sym t.defined) e.stand;
         };
         lead = record {
-          imported = subst (λ (es : Listed). All (LeadsToImport a es) ty.imported_resources) (sym imports) (subst (All (LeadsToImport a s.imports)) (sym imported) h.lead);
+          imported = subst (λ (es : Listed). All (LeadsToImport a es) ty.imported_resources) (sym t.imports) (subst (All (LeadsToImport a s.imports)) (sym t.imported) h.lead);
           defined = paths_lead (map defined_resource s.defined_resources) (side_trees ty.exports) ty.defined_resources
-              (ap (λ (es : Listed). kept tree_reader (map defined_resource s.defined_resources) (side_trees es)) exports ∙ all_kept);
+              (ap (λ (es : Listed). kept tree_reader (map defined_resource s.defined_resources) (side_trees es)) t.exports ∙ all_kept);
         };
       }
 

@@ -2,29 +2,28 @@
 use Rattle.std.proofs.Common.{◌≡◌, List, [], ◌∷◌, ◌++◌, refl, sym, ◌∙◌, ap, Bool, true, false, cond, eqb, Some, ◌||◌}
 use Rattle.std.specs.Prelude.{slice_get, not, ◌&&◌, ℕ, option_to_list}
 use Rattle.std.proofs.lemmas.Bool.{eqb-true}
-use Rattle.std.proofs.lemmas.List.Elements.{All-nil, All-head, All-tail, All-push}
+use Rattle.std.proofs.lemmas.List.Elements.{All-head, All-tail, All-push}
 use Rattle.wcv_types.specs.Arena.{Arena}
-use Rattle.wcv_types.specs.Entities.{any_part, entity_tree, EntityStands}
+use Rattle.wcv_types.specs.Entities.{any_part}
 use Rattle.wcv_types.specs.Identity.{same_identity}
 use Rattle.wcv_types.specs.Named.{is_in}
 use Rattle.wcv_types.specs.Sets.{same_type, has_type, with_type, AllStand, identities}
 use Rattle.wcv_types.specs.Standing.{Stands, identity_of}
-use Rattle.wcv_types.specs.Tree.{sort, is_func, is_type, is_instance, is_module, nothing, primitive, resource, defined, func, instance, component, type_entity, core_module, core_instance, core_type, core_item, node}
-use Rattle.wcv_types.specs.Unfold.{Type_tree, trees, part_tree}
+use Rattle.wcv_types.specs.Tree.{sort, type_of, is_type, is_instance, nothing, primitive, resource, defined, func, instance, component, type_entity, core_module, core_instance, core_type, core_item, node}
+use Rattle.wcv_types.specs.Unfold.{Type_tree, tree_at}
 use Rattle.wcv_types.specs.declared.arena.Node.{Node}
 use Rattle.wcv_types.specs.declared.arena.Node.TheVariants as n
 use Rattle.wcv_types.specs.declared.ids.ComponentAnyTypeId.{ComponentAnyTypeId}
 use Rattle.wcv_types.specs.declared.ids.ComponentAnyTypeId.TheVariants as any
-use Rattle.wcv_types.specs.declared.ids.Part.TheVariants as part
-use Rattle.wcv_types.specs.declared.shapes.ComponentEntityType.{ComponentEntityType}
-use Rattle.wcv_types.specs.declared.shapes.ComponentEntityType.TheVariants as entity
 use Rattle.wcv_types.proofs.Each.{map-push}
 use Rattle.wcv_types.proofs.Lists.{some-inj}
-use Rattle.wcv_types.proofs.Unfolding.{sort_stands, known_any}
-use Rattle.wcv_lower.specs.Context.{joined, with_named}
+use Rattle.wcv_types.proofs.Unfolding.{known_any}
+use Rattle.wcv_lower.specs.Context.{Side, joined, names_for, with_named}
 use Rattle.wcv_lower.specs.Trees.{creates}
-use Rattle.wcv_state.specs.Looking.{is_built_entity, created_ids, with_created}
-use Rattle.std.proofs.lemmas.Bool.{false≢true}
+use Rattle.wcv_state.specs.Naming.{known, Names}
+use Rattle.wcv_state.specs.Promises.{IsPrefix}
+use Rattle.wcv_state.specs.declared.naming.NamedTypes.{NamedTypes}
+use Rattle.wcv_state.proofs.Keeping.{no_more}
 
 -- ## Members
 
@@ -84,43 +83,37 @@ module _ (a : Arena) where
       go true = (refl, h)
       go false = (map-push (λ z. identity_of (any_part z)) ids x, All-push (λ z. Stands a (any_part z)) ids x h s)
 
-  pub created_named : (b : Bool) (ids is : List ComponentAnyTypeId) → AllStand a ids → AllStand a is → identities (with_created b ids is) ≡ with_named same_identity b (identities ids) (identities is)
-  created_named b ids [] h k = refl
-  created_named b ids (x ∷ is) h k =
-      let w = one_more b ids x (All-head (λ z. Stands a (any_part z)) x is k) h in
-      created_named b (cond b (with_type ids x) ids) is w.1 (All-tail (λ z. Stands a (any_part z)) x is k) ∙ ap (λ xs. with_named same_identity b xs (identities is)) w.0
+  -- the set with one more
+  pub pushed_grows : (b : Bool) (ids : List ComponentAnyTypeId) (x : ComponentAnyTypeId) → Stands a (any_part x) → AllStand a ids → IsPrefix ids (cond b (with_type ids x) ids) × AllStand a (cond b (with_type ids x) ids)
+  pushed_grows b ids x s h = go b (has_type ids x)
+    where
+      go : (c d : Bool) → IsPrefix ids (cond c (cond d ids (ids ++ x ∷ [])) ids) × AllStand a (cond c (cond d ids (ids ++ x ∷ [])) ids)
+      go false d = (no_more ids, h)
+      go true true = (no_more ids, h)
+      go true false = ((x ∷ [], refl), All-push (λ z. Stands a (any_part z)) ids x h s)
 
-  -- ## What an entity creates
+  -- what a type entity creates joins the set
+  pub pushed_named : (b : Bool) (ids : List ComponentAnyTypeId) (c : ComponentAnyTypeId) (r : Type_tree) → Stands a (any_part c) → AllStand a ids →
+      identities (cond b (with_type ids c) ids) ≡ with_named same_identity b (identities ids) (creates (type_of (tree_at a (any_part c)) r))
+  pushed_named b ids c r s h = (one_more b ids c s h).0 ∙ ap (λ o. with_named same_identity b (identities ids) (option_to_list o)) (sym (known_any a c s))
 
-  pub created_stand : (x : ComponentEntityType) → EntityStands a x → AllStand a (created_ids x)
-  created_stand (entity.Func i) h = All-nil _
-  created_stand (entity.Ty c r) h = All-push (λ z. Stands a (any_part z)) [] c (All-nil _) h.0
-  created_stand (entity.Module i) h = All-nil _
-  created_stand (entity.Value v) h = All-nil _
-  created_stand (entity.Instance i) h = All-nil _
-  created_stand (entity.Component i) h = All-nil _
+-- ## What creates none
 
-  -- what is no type and no instance creates none
-  plain_creates : (t : Type_tree) → (sort t ≡ is_type → ⊥) → (sort t ≡ is_instance → ⊥) → creates t ≡ []
-  plain_creates (node type_entity ps) e i = absurd (e refl)
-  plain_creates (node (instance k own) ps) e i = absurd (i refl)
-  plain_creates (node nothing ps) e i = refl
-  plain_creates (node (primitive q) ps) e i = refl
-  plain_creates (node (resource r s) ps) e i = refl
-  plain_creates (node (defined k x) ps) e i = refl
-  plain_creates (node (func k b) ps) e i = refl
-  plain_creates (node (component k ins outs) ps) e i = refl
-  plain_creates (node (core_module k n) ps) e i = refl
-  plain_creates (node (core_instance k n) ps) e i = refl
-  plain_creates (node (core_type k) ps) e i = refl
-  plain_creates (node (core_item x) ps) e i = refl
+-- what is no type and no instance creates none
+plain_creates : (t : Type_tree) → (sort t ≡ is_type → ⊥) → (sort t ≡ is_instance → ⊥) → creates t ≡ []
+plain_creates (node type_entity ps) e i = absurd (e refl)
+plain_creates (node (instance k own) ps) e i = absurd (i refl)
+plain_creates (node nothing ps) e i = refl
+plain_creates (node (primitive q) ps) e i = refl
+plain_creates (node (resource r s) ps) e i = refl
+plain_creates (node (defined k x) ps) e i = refl
+plain_creates (node (func k b) ps) e i = refl
+plain_creates (node (component k ins outs) ps) e i = refl
+plain_creates (node (core_module k n) ps) e i = refl
+plain_creates (node (core_instance k n) ps) e i = refl
+plain_creates (node (core_type k) ps) e i = refl
+plain_creates (node (core_item x) ps) e i = refl
 
-  pub created_same : (x : ComponentEntityType) → is_built_entity x ≡ true → EntityStands a x → creates (entity_tree (trees a.nodes) x) ≡ identities (created_ids x)
-  created_same (entity.Func i) b h =
-      plain_creates (part_tree (trees a.nodes) (part.Func i)) (λ e. let w : is_func ≡ is_type = sym (sort_stands a (part.Func i) h) ∙ e in cc) (λ e. let w : is_func ≡ is_instance = sym (sort_stands a (part.Func i) h) ∙ e in cc)
-  created_same (entity.Ty c r) b h = ap option_to_list (known_any a c h.0)
-  created_same (entity.Module i) b h =
-      plain_creates (part_tree (trees a.nodes) (part.Module i)) (λ e. let w : is_module ≡ is_type = sym (sort_stands a (part.Module i) h) ∙ e in cc) (λ e. let w : is_module ≡ is_instance = sym (sort_stands a (part.Module i) h) ∙ e in cc)
-  created_same (entity.Value v) b h = absurd (false≢true b)
-  created_same (entity.Instance i) b h = absurd (false≢true b)
-  created_same (entity.Component i) b h = absurd (false≢true b)
+-- so nothing new is named
+pub names_none : (s : Side) (n : NamedTypes) (t : Type_tree) → (sort t ≡ is_type → ⊥) → (sort t ≡ is_instance → ⊥) → Names s n n (creates t)
+names_none s n t e i = λ d. ap (λ is. with_named same_identity (names_for s d) (known n d) is) (sym (plain_creates t e i))

@@ -1,18 +1,23 @@
 -- The causes at the end of a component, over ids, and what is found for its type.
-use Rattle.std.specs.Prelude.{◌≡◌, ℕ, List, [], ◌∷◌, ◌++◌, map, Bool, true, cond, Option, Some}
+use Rattle.std.specs.Prelude.{◌≡◌, ℕ, List, [], ◌∷◌, ◌++◌, map, Bool, true, false, cond, All, Option, Some}
 use Rattle.std.specs.Map.{lookup}
 use Rattle.std.specs.Option.{option_map}
 use Rattle.wcv_core.specs.Names.{number}
 use Rattle.wcv_core.specs.declared.core_types.ValType.{ValType}
 use Rattle.wcv_core.specs.declared.error.ErrorKind.TheVariants as kind
+use Rattle.wcv_types.specs.Arena.{Arena}
+use Rattle.wcv_types.specs.ComponentTrees.{resource_path, ResourceStands}
+use Rattle.wcv_types.specs.Entities.{entry_trees}
 use Rattle.wcv_types.specs.FirstPath.{first_path}
 use Rattle.wcv_types.specs.Sets.{same_resource}
 use Rattle.wcv_types.specs.Sets as sets
+use Rattle.wcv_types.specs.Unfold.{trees}
+use Rattle.wcv_types.specs.declared.component_type.ComponentType.{ComponentType}
 use Rattle.wcv_types.specs.declared.ids.ResourceId.{ResourceId}
 use Rattle.wcv_lower.specs.Checks.{Checks, is_none}
 use Rattle.wcv_lower.specs.Ending.{is_free_among, any_free, kept}
 use Rattle.wcv_lower.specs.Trees.{Entries, tree_reader}
-use Rattle.wcv_state.specs.Contents.{defined_resource}
+use Rattle.wcv_state.specs.Contents.{Contents, defined_resource}
 
 -- ## One cause each
 
@@ -41,3 +46,19 @@ HasFree es rs = (r : ResourceId) → sets.has_resource rs r ≡ is_free_among tr
 -- each of them stands with its first path, where it has one
 abbrev pub HasFirst : Entries → List ResourceId → List (ResourceId × List ℕ) → Type 0
 HasFirst es rs ps = (r : ResourceId) → sets.has_resource rs r ≡ true → path_of r ps ≡ first_path (number r.index) es
+
+-- ## The type
+
+-- the end has no cause, and those are the defined resources that the type keeps
+pub record Ended (a : Arena) (s : Contents) (ps : List (ResourceId × List ℕ)) : Type 0 where
+  pub free : any_free tree_reader (map defined_resource s.defined_resources) (entry_trees (trees a.nodes) s.imports) ≡ false
+  pub kept : kept tree_reader (map defined_resource s.defined_resources) (entry_trees (trees a.nodes) s.exports) ≡ Some (map resource_path ps)
+  pub stand : All (λ p. ResourceStands a p.0) ps
+
+-- the type has what the state has for one, and those defined resources
+pub record IsTypeOf (s : Contents) (ps : List (ResourceId × List ℕ)) (ty : ComponentType) : Type 0 where
+  pub info : ty.info ≡ s.info
+  pub imports : ty.imports ≡ s.imports
+  pub exports : ty.exports ≡ s.exports
+  pub imported : ty.imported_resources ≡ s.imported_resources
+  pub defined : ty.defined_resources ≡ ps

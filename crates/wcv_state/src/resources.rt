@@ -1,12 +1,13 @@
 // The resources that a state imports and defines.
-ghost use Rattle.std.specs.Prelude.{◌≡◌, ◌++◌, Some, false, slice_get, OnOk, OnErr, IfOk, IfErr};
+ghost use Rattle.std.specs.Prelude.{◌≡◌, ℕ, [], ◌∷◌, ◌++◌, take, Some, false, slice_get, OnOk, OnErr, IfOk, IfErr};
 ghost use Rattle.std.specs.Option.{option_map};
 ghost use Rattle.wcv_types.specs.Tree.{is_resource};
 ghost use Rattle.wcv_types.specs.declared.ids.ComponentAnyTypeId.TheVariants as any;
-ghost use Rattle.wcv_types.specs.declared.ids.ResourceId.{ResourceId as AResource};
 ghost use Rattle.wcv_lower.specs.Checks.{missing_of};
+ghost use Rattle.wcv_lower.specs.Context.{placed, unknown};
+ghost use Rattle.wcv_state.specs.Bringing.{AreNewIn};
 ghost use Rattle.wcv_state.specs.Looking as looking;
-ghost use Rattle.wcv_state.specs.Looking.{any_sort, introduced_id, import_paths, export_reps, has_resource, local_rep_checks};
+ghost use Rattle.wcv_state.specs.Looking.{any_sort, introduced_id, has_resource, local_rep_checks};
 ghost use Rattle.wcv_state.specs.Promises.{CausedBy};
 
 use crate::indices::{element_at, wrong_sort};
@@ -35,7 +36,7 @@ fn introduced_by(
 }
 
 /// The resource that an entity introduces.
-fn introduced(ty: &ComponentEntityType) -> Option<ResourceId>
+pub fn introduced(ty: &ComponentEntityType) -> Option<ResourceId>
     ensures { result ≡ introduced_id ty.now }
 {
     match ty {
@@ -47,36 +48,65 @@ fn introduced(ty: &ComponentEntityType) -> Option<ResourceId>
     }
 }
 
-/// The resource that an import introduces is imported, at the import's position. Out of memory nothing changes.
-pub fn import_resource(
+/// A position, and then those of a path.
+fn path_behind(position: u64, path: &Place, alloc: Global) -> Result<Place, OutOfMemory>
+    ensures { IfOk result (λ p. p ≡ position ∷ path.now) }
+{
+    let mut positions = Vec::new(alloc);
+    positions.push(position)?;
+    positions.extend_from_slice(path.positions())?;
+    Place::new(alloc, &positions)
+}
+
+/// One of them, where none of the list is it.
+fn import_one(
     resources: &mut Paths,
-    ty: &ComponentEntityType,
+    resource: ResourceId,
+    path: &Place,
     position: u64,
     alloc: Global,
 ) -> Result<(), OutOfMemory>
-    requires { (r : AResource) → introduced_id ty.now ≡ Some r → has_resource r resources.old ≡ false }
-    ensures ok { OnOk result (resources.new ≡ resources.old ++ import_paths (introduced_id ty.now) position) }
+    requires { has_resource resource resources.old ≡ false }
+    ensures ok { OnOk result (resources.new ≡ resources.old ++ (resource, position ∷ path.now) ∷ []) }
     ensures err { OnErr result (resources.new ≡ resources.old) }
 {
-    match introduced(ty) {
-        Some(resource) => resources.insert(resource, Place::new(alloc, &[position])?),
-        None => Ok(()),
-    }
+    resources.insert(resource, path_behind(position, path, alloc)?)
 }
 
-/// The resource that an export introduces is defined, without a representation. Out of memory nothing changes.
-pub fn export_resource(
-    resources: &mut Representations,
-    ty: &ComponentEntityType,
+/// The resources that an import introduces are imported, each with the import's position before its path. Out of
+/// memory some of them may be.
+pub fn import_resources(
+    resources: &mut Paths,
+    new: &Paths,
+    position: u64,
+    alloc: Global,
 ) -> Result<(), OutOfMemory>
-    requires { (r : AResource) → introduced_id ty.now ≡ Some r → has_resource r resources.old ≡ false }
-    ensures ok { OnOk result (resources.new ≡ resources.old ++ export_reps (introduced_id ty.now)) }
-    ensures err { OnErr result (resources.new ≡ resources.old) }
+    requires { AreNewIn resources.old new.now }
+    ensures ok { OnOk result (resources.new ≡ resources.old ++ placed position new.now) }
+    ensures err { OnErr result ((k : ℕ) × (resources.new ≡ resources.old ++ placed position (take k new.now))) }
 {
-    match introduced(ty) {
-        Some(resource) => resources.insert(resource, None),
-        None => Ok(()),
+    for k in 0..new.len() {
+        match new.get_index(k) {
+            Some((resource, path)) => import_one(resources, *resource, path, position, alloc)?,
+            None => unreachable!(),
+        }
     }
+    Ok(())
+}
+
+/// The resources that an export introduces are defined, without representations. Out of memory some of them may be.
+pub fn export_resources(resources: &mut Representations, new: &Paths) -> Result<(), OutOfMemory>
+    requires { AreNewIn resources.old new.now }
+    ensures ok { OnOk result (resources.new ≡ resources.old ++ unknown new.now) }
+    ensures err { OnErr result ((k : ℕ) × (resources.new ≡ resources.old ++ unknown (take k new.now))) }
+{
+    for k in 0..new.len() {
+        match new.get_index(k) {
+            Some((resource, _)) => resources.insert(*resource, None)?,
+            None => unreachable!(),
+        }
+    }
+    Ok(())
 }
 
 /// The reference to a resource at that index of types.

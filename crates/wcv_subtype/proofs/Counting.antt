@@ -15,7 +15,7 @@ use Rattle.wcv_types.specs.Entities.{entity_slot}
 use Rattle.wcv_types.specs.Unfold.{slot_refs}
 use Rattle.wcv_types.specs.declared.ids.Part.{Part}
 use Rattle.wcv_types.specs.declared.shapes.ComponentEntityType.{ComponentEntityType}
-use Rattle.wcv_subtype.specs.Entities.{EntityRemapped}
+use Rattle.wcv_subtype.specs.Entities.{EntityRemapped, top_rank}
 use Rattle.wcv_subtype.specs.Map.{Sent, Map, same_part}
 use Rattle.wcv_subtype.specs.Remap.{ReachedFrom, Visits}
 use Rattle.wcv_subtype.proofs.Maps.{Entries}
@@ -65,6 +65,6 @@ visits_at_most o b map map' reached x d f =
 pub reads_reached : (a b : Arena) (map map' : Map) (s s' : ℕ) (x y : ComponentEntityType) (reached : List Part) → EntityRemapped a b map map' s s' x y → IsDistinct same_part (keys_of map'.types) →
     ((q : Part) → ReachedFrom b (slot_refs (entity_slot x)) q → Contains reached q) → (s' ≤ s + length reached) × (length b.nodes ≤ length a.nodes + length reached)
 reads_reached a b map map' s s' x y reached r d f =
-    let le : length r.visits.more ≤ length reached = visits_at_most (length a.nodes) (suc (length a.nodes)) map map' reached r.visits d f in
+    let le : length r.visits.more ≤ length reached = visits_at_most (length a.nodes) (suc (top_rank (slot_refs (entity_slot x)))) map map' reached r.visits d f in
     let l : length map'.types ≡ length map.types + length r.visits.more = ap (λ (es : Entries). length es) r.visits.types ∙ length-append map.types r.visits.more in
     (omega (arith, le, l, r.steps), omega (arith, le, l, r.nodes))

@@ -1,5 +1,5 @@
 -- The parts of a node, one after another, and the node behind them.
-use Rattle.std.proofs.Common.{◌≡◌, ℕ, suc, get_or, take, drop, take_all, ◌+◌, ◌<◌, ◌≤◌, List, [], ◌∷◌, ◌++◌, length, sym, ◌∙◌, ap, subst, arith, true, None, ⊎_elim, length-append}
+use Rattle.std.proofs.Common.{◌≡◌, ℕ, suc, get_or, take, drop, take_all, ◌+◌, ◌<◌, ◌≤◌, List, [], ◌∷◌, ◌++◌, length, refl, sym, ◌∙◌, ap, subst, arith, true, None, ⊎_elim, length-append}
 use Rattle.std.proofs.lemmas.List.{take-append-drop, take_more}
 use Rattle.std.proofs.lemmas.List.Elements.{Contains-append_left, Contains-append_cases, Contains-push_cases, Contains-push}
 use Rattle.std.proofs.lemmas.Option.{slice_get_cases, get_or_from_slice_get}
@@ -46,12 +46,13 @@ hygienic_part a map q r u h c m s =
 -- ## The loop
 
 pub no_parts_yet : (a : Arena) (map : Map) (s b : ℕ) → Sound a map → Rebuilding a a map map s s b [] []
-no_parts_yet a map s b snd = record { grown = extends_refl a; visits = visits_none (ReachedFrom a []) (length a.nodes) b map; sound = snd; each = tt; steps = omega arith; nodes = omega arith }
+no_parts_yet a map s b snd = record { grown = extends_refl a; core = refl; visits = visits_none (ReachedFrom a []) (length a.nodes) b map; sound = snd; each = tt; steps = omega arith; nodes = omega arith }
 
 next_part : (a0 a b : Arena) (map0 map map' : Map) (s0 s s' k : ℕ) (qs tos : List Part) (q to : Part) → Rebuilding a0 a map0 map s0 s k qs tos → Remapped a b map map' s s' q to →
     rank q < k → ((r : Part) → Contains qs r → Stands a r) → Rebuilding a0 b map0 map' s0 s' k (qs ++ q ∷ []) (tos ++ to ∷ [])
 next_part a0 a b map0 map map' s0 s s' k qs tos q to w r h st = record {
   grown = extends_trans a0 a b w.grown r.grown;
+  core = r.core ∙ w.core;
   visits = visits_both k map0 map map'
       (visits_more (length a0.nodes) (length a0.nodes) k k map0 map (omega arith) (omega arith) (λ j z. (z.0, Contains-append_left qs (q ∷ []) z.0 z.1, reached_later a b z.0 j r.grown z.2)) w.visits)
       (visits_more (length a.nodes) (length a0.nodes) (suc (rank q)) k map map' (longer a0 a w.grown) (omega (arith, h)) (λ j z. (q, Contains-push qs q, z)) r.visits);
@@ -133,6 +134,7 @@ all_settled a0 a b map0 map s0 s1 s q to tos n nd st u e w x =
     let whole : Extends a0 b = extends_trans a0 a b w.grown x.grown in
     record {
       grown = whole;
+      core = x.core ∙ w.core;
       visits = visits_both (suc (rank q)) map0 map (with_visited map q to)
           (visits_more (length a0.nodes) (length a0.nodes) (rank q) (suc (rank q)) map0 map (omega arith) (omega arith)
           (λ j z. below q z.0 j (stands_more a b q x.grown here) (subst (λ (qs : List Part). Contains qs z.0) (same_parts a0 b q whole st) z.1) (reached_later a b z.0 j x.grown z.2)) w.visits)

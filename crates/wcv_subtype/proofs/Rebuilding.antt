@@ -162,6 +162,7 @@ right_settled a b map q to tos st nd snd u e w = record { stands = w.stands; of_
 pub settles_same : (a b : Arena) (q : Part) (qs : List Part) → b ≡ a → Stands a q → any_other (parts_at a q) qs ≡ false → Settled a b q qs q
 settles_same a b q qs i st e = subst (λ (x : Arena). Settled a x q qs q) (sym i) (record {
   grown = extends_refl a;
+  core = refl;
   nodes = omega arith;
   stands = st;
   of_sort = eq-eqb (sort_number q) (sort_number q) refl;
@@ -171,6 +172,7 @@ settles_same a b q qs i st e = subst (λ (x : Arena). Settled a x q qs q) (sym i
 pub settles_made : (a b : Arena) (q : Part) (qs : List Part) (to : Part) → any_other (parts_at a q) qs ≡ true → MadeAgain a b q qs to → Settled a b q qs to
 settles_made a b q qs to e r = record {
   grown = r.grown;
+  core = r.core;
   nodes = omega (arith, r.nodes);
   stands = r.stands;
   of_sort = r.of_sort;
@@ -345,6 +347,7 @@ right_found a map (p.Component j) to st i snd g = sent_right a map (p.Component 
 pub remapped_found : (a : Arena) (map : Map) (s : ℕ) (q to : Part) (o : Option Part) → Stands a q → IsInside q → Sound a map → o ≡ goes_to map q → o ≡ Some to → Remapped a a map map s s q to
 remapped_found a map s q to o st i snd e g = record {
   grown = extends_refl a;
+  core = refl;
   visits = visits_none (Reached a q) (length a.nodes) (suc (rank q)) map;
   sound = snd;
   right = right_found a map q to st i snd (sym e ∙ g);

@@ -1,8 +1,9 @@
 -- The rebuilding of an entity from that of its parts.
-use Rattle.std.proofs.Common.{◌≡◌, ℕ, suc, ◌<◌, length, Bool, true, false, not, ◌||◌, refl, ap, sym, subst, ◌∙◌, arith}
+use Rattle.std.proofs.Common.{◌≡◌, ℕ, suc, max, ◌<◌, ◌≤◌, [], length, Bool, true, false, not, ◌||◌, refl, ap, sym, subst, ◌∙◌, arith}
+use Rattle.std.proofs.Math.Nat.{le-max_left, le-max_right}
 use Rattle.std.proofs.lemmas.Bool.{eqb-true}
 use Rattle.std.specs.Prelude.{Contains}
-use Rattle.wcv_types.proofs.Grown.{extends_trans, stands_more, stands_rank, same_tree}
+use Rattle.wcv_types.proofs.Grown.{extends_trans, stands_more, same_tree}
 use Rattle.wcv_types.specs.Arena.{Arena}
 use Rattle.wcv_types.specs.Entities.{entity_slot, entity_tree, SlotStands, EntityStands}
 use Rattle.wcv_types.specs.Rebuild.{sort_number}
@@ -17,7 +18,7 @@ use Rattle.wcv_types.specs.declared.ids.Part.TheVariants as p
 use Rattle.wcv_types.specs.declared.shapes.ComponentEntityType.{ComponentEntityType}
 use Rattle.wcv_types.specs.declared.shapes.ComponentEntityType.TheVariants as entity
 use Rattle.wcv_types.specs.declared.shapes.ComponentValType.TheVariants as v
-use Rattle.wcv_subtype.specs.Entities.{held, with_part, EntityHygienic, EntityRemapped}
+use Rattle.wcv_subtype.specs.Entities.{held, with_part, top_rank, EntityHygienic, EntityRemapped}
 use Rattle.wcv_subtype.specs.Hygiene.{Hygienic}
 use Rattle.wcv_subtype.specs.Map.{Map, same_part}
 use Rattle.wcv_subtype.specs.Remap.{Serves, Sound, ReachedFrom, HygienicAt, IsInside, Remapped, Right, Becomes}
@@ -46,7 +47,7 @@ stays_same a b map m q to g st r s c =
 
 pub nothing_held : (a : Arena) (map : Map) (s : ℕ) (x : ComponentEntityType) → held x ≡ h.Nothing → Sound a map → EntityStands a x → EntityRemapped a a map map s s x x
 nothing_held a map s (entity.Value (v.Primitive q)) k snd st =
-    record { sound = snd; stands = st; tree = λ m w. refl; same = λ m w c. refl; visits = visits_none (ReachedFrom a (slot_refs (entity_slot (entity.Value (v.Primitive q))))) (length a.nodes) (suc (length a.nodes)) map; steps = omega arith; nodes = omega arith }
+    record { core = refl; sound = snd; stands = st; tree = λ m w. refl; same = λ m w c. refl; visits = visits_none (ReachedFrom a (slot_refs (entity_slot (entity.Value (v.Primitive q))))) (length a.nodes) (suc (top_rank [])) map; steps = omega arith; nodes = omega arith }
 nothing_held a map s (entity.Value (v.Ty i)) k snd st = absurd (let e = k in cc)
 nothing_held a map s (entity.Module i) k snd st = absurd (let e = k in cc)
 nothing_held a map s (entity.Func i) k snd st = absurd (let e = k in cc)
@@ -101,12 +102,13 @@ one_remapped a b map map' s s' x q to k st w =
     let sq : Stands a q = subst (SlotStands a) o.slot st in
     let old : entity_tree (trees a.nodes) x ≡ tree_at a q = ap (slot_tree (trees a.nodes)) o.slot in
     record {
+      core = w.core;
       sound = w.sound;
       stands = subst (SlotStands b) (sym n) w.right.stands;
       tree = λ m sv. let c : Becomes m b q to = w.right.becomes m sv in
           ap (slot_tree (trees b.nodes)) n ∙ c.tree ∙ ap (replaced m) (same_tree a b q w.grown sq ∙ sym old);
       same = λ m sv c. ap (λ (r : Part). with_part r x) (stays_same a b map' m q to w.grown sq w.right sv (ap (changed m) (sym old) ∙ c)) ∙ o.same;
-      visits = visits_more (length a.nodes) (length a.nodes) (suc (rank q)) (suc (length a.nodes)) map map' (omega arith) (omega (arith, stands_rank a q sq)) (λ j z. (q, subst (λ (z : Slot). Contains (slot_refs z) q) (sym o.slot) (0, omega arith, refl), z)) w.visits;
+      visits = visits_more (length a.nodes) (length a.nodes) (suc (rank q)) (suc (top_rank (slot_refs (entity_slot x)))) map map' (omega arith) (omega (arith, subst (λ (z : Slot). rank q ≤ top_rank (slot_refs z)) (sym o.slot) (le-max_left (rank q) 0))) (λ j z. (q, subst (λ (z : Slot). Contains (slot_refs z) q) (sym o.slot) (0, omega arith, refl), z)) w.visits;
       steps = w.steps;
       nodes = w.nodes;
     }
@@ -177,7 +179,11 @@ two_remapped a b c map map' map'' s s' s'' x q r q' r' d e k st v w d_is e_is =
     let old : entity_tree (trees a.nodes) x ≡ type_of (tree_at a q) (tree_at a r) = ap (slot_tree (trees a.nodes)) two in
     let in_first : Contains (slot_refs (entity_slot x)) q = subst (λ (z : Slot). Contains (slot_refs z) q) (sym two) (0, omega arith, refl) in
     let in_second : Contains (slot_refs (entity_slot x)) r = subst (λ (z : Slot). Contains (slot_refs z) r) (sym two) (1, omega arith, refl) in
+    let first : rank q ≤ top_rank (slot_refs (entity_slot x)) = subst (λ (z : Slot). rank q ≤ top_rank (slot_refs z)) (sym two) (le-max_left (rank q) (max (rank r) 0)) in
+    let rest : rank r ≤ top_rank (slot_refs (entity_slot x)) =
+    subst (λ (z : Slot). rank r ≤ top_rank (slot_refs z)) (sym two) (let y : max (rank r) 0 ≤ max (rank q) (max (rank r) 0) = le-max_right (rank q) (max (rank r) 0) in omega (arith, le-max_left (rank r) 0, y)) in
     record {
+      core = w.core ∙ v.core;
       sound = w.sound;
       stands = (subst (Stands c) (sym d_is) later.stands, subst (Stands c) (sym e_is) w.right.stands);
       tree = λ m sv.
@@ -187,9 +193,9 @@ two_remapped a b c map map' map'' s s' s'' x q r q' r' d e k st v w d_is e_is =
       same = λ m sv n.
           let f : (changed m (tree_at a q) || (changed m (tree_at a r) || false)) ≡ false = ap (changed m) (sym old) ∙ n in
           two_same x q r d e k (d_is ∙ stays_same a c map'' m q q' grown sq later sv (left_none _ _ f)) (e_is ∙ stays_same a c map'' m r r' grown sr w.right sv (right_none _ _ f));
-      visits = visits_both (suc (length a.nodes)) map map' map''
-          (visits_more (length a.nodes) (length a.nodes) (suc (rank q)) (suc (length a.nodes)) map map' (omega arith) (omega (arith, stands_rank a q sq)) (λ j z. (q, in_first, reached_later b c q j w.grown z)) v.visits)
-          (visits_more (length b.nodes) (length a.nodes) (suc (rank r)) (suc (length a.nodes)) map' map'' (longer a b v.grown) (omega (arith, stands_rank a r sr)) (λ j z. (r, in_second, z)) w.visits);
+      visits = visits_both (suc (top_rank (slot_refs (entity_slot x)))) map map' map''
+          (visits_more (length a.nodes) (length a.nodes) (suc (rank q)) (suc (top_rank (slot_refs (entity_slot x)))) map map' (omega arith) (omega (arith, first)) (λ j z. (q, in_first, reached_later b c q j w.grown z)) v.visits)
+          (visits_more (length b.nodes) (length a.nodes) (suc (rank r)) (suc (top_rank (slot_refs (entity_slot x)))) map' map'' (longer a b v.grown) (omega (arith, rest)) (λ j z. (r, in_second, z)) w.visits);
       steps = omega (arith, v.steps, w.steps);
       nodes = omega (arith, v.nodes, w.nodes);
     }

@@ -1,9 +1,9 @@
 -- What the rebuilding of what is imported or exported leaves.
-use Rattle.std.specs.Prelude.{ℕ, suc, false, length, ◌≡◌, ◌+◌, ◌≤◌}
+use Rattle.std.specs.Prelude.{ℕ, suc, max, List, [], ◌∷◌, false, length, ◌≡◌, ◌+◌, ◌≤◌}
 use Rattle.wcv_types.specs.Arena.{Arena}
 use Rattle.wcv_types.specs.Entities.{entity_slot, entity_tree, EntityStands}
 use Rattle.wcv_types.specs.Replacing.{Replacement, changed, replaced}
-use Rattle.wcv_types.specs.Unfold.{any_part, slot_refs, trees}
+use Rattle.wcv_types.specs.Unfold.{any_part, rank, slot_refs, trees}
 use Rattle.wcv_types.specs.declared.ids.Part.{Part}
 use Rattle.wcv_types.specs.declared.ids.Part.TheVariants as p
 use Rattle.wcv_types.specs.declared.shapes.ComponentEntityType.{ComponentEntityType}
@@ -38,13 +38,20 @@ with_part _ x = x
 abbrev pub EntityHygienic : Arena → Map → ComponentEntityType → Type 0
 EntityHygienic a map x = (m : Replacement) → Serves a map m → Hygienic m (entity_tree (trees a.nodes) x)
 
--- each step and each new node is one more node in the map, which stood before, is reached from x, and became a new one if it became another
+-- the largest rank among the parts
+abbrev pub top_rank : List Part → ℕ
+top_rank [] = 0
+top_rank (q ∷ qs) = max (rank q) (top_rank qs)
+
+-- each step and each new node is one more node in the map, which stood no later than the parts of x, is reached from x, and became a new one if it became
+-- another
 pub record EntityRemapped (a b : Arena) (map map' : Map) (s s' : ℕ) (x y : ComponentEntityType) : Type 0 where
+  pub core : b.core ≡ a.core
   pub sound : Sound b map'
   pub stands : EntityStands b y
   pub tree : (m : Replacement) → Serves b map' m → entity_tree (trees b.nodes) y ≡ replaced m (entity_tree (trees a.nodes) x)
   -- what nothing in it changes keeps its ids
   pub same : (m : Replacement) → Serves b map' m → changed m (entity_tree (trees a.nodes) x) ≡ false → y ≡ x
-  pub visits : Visits (ReachedFrom b (slot_refs (entity_slot x))) (length a.nodes) (suc (length a.nodes)) map map'
+  pub visits : Visits (ReachedFrom b (slot_refs (entity_slot x))) (length a.nodes) (suc (top_rank (slot_refs (entity_slot x)))) map map'
   pub steps : s' + length map.types ≤ s + length map'.types
   pub nodes : length b.nodes + length map.types ≤ length a.nodes + length map'.types

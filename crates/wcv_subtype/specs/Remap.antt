@@ -102,6 +102,7 @@ IsInside q = Unit {0}
 -- of one type. Each step and each new node is one more node in the map
 pub record Remapped (a b : Arena) (map map' : Map) (s s' : ℕ) (q to : Part) : Type 0 where
   pub grown : Extends a b
+  pub core : b.core ≡ a.core
   pub visits : Visits (Reached b q) (length a.nodes) (suc (rank q)) map map'
   pub sound : Sound b map'
   pub right : Right b map' q to
@@ -117,6 +118,7 @@ Each R _ _ = ⊥
 -- of the first parts of a node
 pub record Rebuilding (a b : Arena) (map map' : Map) (s s' bound : ℕ) (qs tos : List Part) : Type 0 where
   pub grown : Extends a b
+  pub core : b.core ≡ a.core
   pub visits : Visits (ReachedFrom b qs) (length a.nodes) bound map map'
   pub sound : Sound b map'
   pub each : Each (Right b map') qs tos
@@ -131,6 +133,7 @@ any_other _ _ = false
 -- a node whose parts became others: it stays where none did, and is made again where one did
 pub record Settled (a b : Arena) (q : Part) (qs : List Part) (to : Part) : Type 0 where
   pub grown : Extends a b
+  pub core : b.core ≡ a.core
   pub nodes : length b.nodes ≤ suc (length a.nodes)
   pub stands : Stands b to
   pub of_sort : same_sort q to ≡ true

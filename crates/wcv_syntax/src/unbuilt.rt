@@ -1,5 +1,8 @@
 // What of an item is not built yet, for messages.
-use crate::component_type::{ComponentType, ComponentTypeRef};
+use crate::built::{is_built_in_component, is_built_in_instance};
+use crate::component_type::{
+    ComponentType, ComponentTypeDeclaration, ComponentTypeRef, InstanceTypeDeclaration,
+};
 use crate::instance::ComponentExternalKind;
 use crate::item::ItemForm;
 use crate::name::{ComponentExport, ComponentImport};
@@ -9,7 +12,7 @@ use std::fmt;
 #[derive(Clone, Copy)]
 pub struct UnreadForm(pub ItemForm);
 
-/// Shows what of a type is not built.
+/// Shows what of a type is not built, and in a declared type the first declaration that is not, at each depth.
 #[derive(Clone, Copy)]
 pub struct TypeForm<'a>(pub &'a ComponentType);
 
@@ -25,10 +28,10 @@ impl fmt::Display for UnreadForm {
     fn fmt<W: fmt::Write>(&self, f: &mut fmt::Formatter<W>) -> fmt::Result {
         f.write_str(match self.0 {
             ItemForm::Type => {
-                r#"the body of this "type" is none of {"func": {"params": [[NAME, TYPE], ..], "result": TYPE, "async": BOOL}}, {"defined": DEFINED} and {"resource": {"rep": CORE-TYPE}}; no other is built yet"#
+                r#"the body of this "type" is none of {"func": {"params": [[NAME, TYPE], ..], "result": TYPE, "async": BOOL}}, {"defined": DEFINED}, {"resource": {"rep": CORE-TYPE}}, {"component": [DECLARATION, ..]} and {"instance": [DECLARATION, ..]}; no other is built yet"#
             }
             ItemForm::Import => {
-                r#"the body of this "import" is none of {"name": NAME, "type": {"module": INDEX}}, {"name": NAME, "type": {"func": INDEX}}, {"name": NAME, "type": {"eq": INDEX}} and {"name": NAME, "type": "sub-resource"}; no other is built yet"#
+                r#"the body of this "import" is not {"name": NAME, "type": TYPE} with a TYPE among {"module": INDEX}, {"func": INDEX}, {"eq": INDEX}, "sub-resource", {"instance": INDEX} and {"component": INDEX}; no other is built yet"#
             }
             ItemForm::Export => {
                 r#"the body of this "export" is not {"name": NAME, "sort": SORT, "index": INDEX}; no other is built yet"#
@@ -49,16 +52,89 @@ impl fmt::Display for UnreadForm {
     }
 }
 
+/// Shows what of a type is not built: in a declared type the position of the first declaration that is not, and
+/// what of that.
+#[cycle(write_type)]
+fn write_type<W: fmt::Write>(f: &mut fmt::Formatter<W>, ty: &ComponentType) -> fmt::Result {
+    match ty {
+        ComponentType::Defined(_) => f.write_str("this defined type is not built yet"),
+        ComponentType::Func(_) => f.write_str("this function type is not built yet"),
+        ComponentType::Component(decls) => write_in_component(f, decls),
+        ComponentType::Instance(decls) => write_in_instance(f, decls),
+        ComponentType::Resource { .. } => f.write_str("destructors of resources are not built yet"),
+    }
+}
+
+/// So of the declarations of a component type.
+#[cycle(write_type)]
+fn write_in_component<W: fmt::Write>(
+    f: &mut fmt::Formatter<W>,
+    decls: &Vec<ComponentTypeDeclaration>,
+) -> fmt::Result {
+    for (position, decl) in decls.iter().enumerate() {
+        if !is_built_in_component(decl) {
+            write!(f, "declaration {position} of the component type: ")?;
+            return write_component_decl(f, decl);
+        }
+    }
+    f.write_str("this component type is not built yet")
+}
+
+/// So of the declarations of an instance type.
+#[cycle(write_type)]
+fn write_in_instance<W: fmt::Write>(
+    f: &mut fmt::Formatter<W>,
+    decls: &Vec<InstanceTypeDeclaration>,
+) -> fmt::Result {
+    for (position, decl) in decls.iter().enumerate() {
+        if !is_built_in_instance(decl) {
+            write!(f, "declaration {position} of the instance type: ")?;
+            return write_instance_decl(f, decl);
+        }
+    }
+    f.write_str("this instance type is not built yet")
+}
+
+/// So of one declaration of a component type.
+#[cycle(write_type)]
+fn write_component_decl<W: fmt::Write>(
+    f: &mut fmt::Formatter<W>,
+    decl: &ComponentTypeDeclaration,
+) -> fmt::Result {
+    match decl {
+        ComponentTypeDeclaration::CoreType(_) => f.write_str("this core type is not built yet"),
+        ComponentTypeDeclaration::Ty(ty) => write_type(f, ty),
+        ComponentTypeDeclaration::Alias(_) => f.write_str("aliases are not built yet"),
+        ComponentTypeDeclaration::Export { ty, .. } => write_entry(f, "exports", ref_word(ty)),
+        ComponentTypeDeclaration::Import(import) => {
+            write_entry(f, "imports", ref_word(&import.ty))
+        }
+    }
+}
+
+/// So of one declaration of an instance type.
+#[cycle(write_type)]
+fn write_instance_decl<W: fmt::Write>(
+    f: &mut fmt::Formatter<W>,
+    decl: &InstanceTypeDeclaration,
+) -> fmt::Result {
+    match decl {
+        InstanceTypeDeclaration::CoreType(_) => f.write_str("this core type is not built yet"),
+        InstanceTypeDeclaration::Ty(ty) => write_type(f, ty),
+        InstanceTypeDeclaration::Alias(_) => f.write_str("aliases are not built yet"),
+        InstanceTypeDeclaration::Export { ty, .. } => write_entry(f, "exports", ref_word(ty)),
+    }
+}
+
 impl fmt::Display for TypeForm<'_> {
     fn fmt<W: fmt::Write>(&self, f: &mut fmt::Formatter<W>) -> fmt::Result {
-        f.write_str(match self.0 {
-            ComponentType::Defined(_) => "this defined type is not built yet",
-            ComponentType::Func(_) => "this function type is not built yet",
-            ComponentType::Component(_) => "component types are not built yet",
-            ComponentType::Instance(_) => "instance types are not built yet",
-            ComponentType::Resource { .. } => "destructors of resources are not built yet",
-        })
+        write_type(f, self.0)
     }
+}
+
+/// Shows that imports or exports are not built of what has that name.
+fn write_entry<W: fmt::Write>(f: &mut fmt::Formatter<W>, side: &str, word: &str) -> fmt::Result {
+    write!(f, "{side} of {word} are not built yet")
 }
 
 /// What the imports of that type are called.
@@ -87,8 +163,7 @@ fn sort_word(sort: ComponentExternalKind) -> &'static str {
 
 impl fmt::Display for ImportForm<'_> {
     fn fmt<W: fmt::Write>(&self, f: &mut fmt::Formatter<W>) -> fmt::Result {
-        let word = ref_word(&self.0.ty);
-        write!(f, "imports of {word} are not built yet")
+        write_entry(f, "imports", ref_word(&self.0.ty))
     }
 }
 
@@ -97,7 +172,6 @@ impl fmt::Display for ExportForm<'_> {
         if self.0.ty.is_some() {
             return f.write_str("exports with a written type are not built yet");
         }
-        let word = sort_word(self.0.kind);
-        write!(f, "exports of {word} are not built yet")
+        write_entry(f, "exports", sort_word(self.0.kind))
     }
 }

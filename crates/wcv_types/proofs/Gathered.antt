@@ -1,9 +1,8 @@
 -- Free resources, gathered in a set.
 use Rattle.std.proofs.Common.{◌≡◌, ℕ, zero, suc, ◌+◌, ◌<◌, ◌≤◌, max, List, [], ◌∷◌, ◌++◌, length, take, take-suc, get_or, refl, sym, ◌∙◌, ap, subst, add-one, arith, inl, inr, ⊎_elim, Bool, true, false, cond, eqb}
-use Rattle.std.specs.Prelude.{◌⊎◌, All, Contains, Some, is_some}
+use Rattle.std.specs.Prelude.{◌⊎◌, All, Contains, Some}
 use Rattle.std.specs.Map.{lookup}
 use Rattle.std.proofs.lemmas.Bool.{false≢true, eqb-true}
-use Rattle.std.proofs.lemmas.Option.{same_Some}
 use Rattle.std.proofs.lemmas.List.Elements.{All-nil, All-cons, All-head, All-tail, All-append, All-push, All-weaker, Contains-append_left, Contains-append_right, Contains-append_cases}
 use Rattle.wcv_core.specs.Names.{Name, number, member}
 use Rattle.wcv_types.specs.Arena.{Arena}
@@ -25,6 +24,7 @@ use Rattle.wcv_types.specs.declared.item_map.ComponentItem.{ComponentItem}
 use Rattle.wcv_types.proofs.Gaining.{or_split, or_none, none_or, kept, gains_then, gains_as, gains_push}
 use Rattle.wcv_types.proofs.SortLaws.{free_slot, slot_free, free_below, free_above}
 use Rattle.wcv_types.proofs.Unfolding.{head_in}
+use Rattle.wcv_types.proofs.Placed.{placed_found, placed_put}
 
 -- ## Nodes that were seen
 
@@ -55,19 +55,10 @@ module _ (a : Arena) where
   Known k = Gains (λ r. Free r (tree_in (trees a.nodes) k.0)) [] k.1
 
   pub known_gains : (ks : List (ℕ × List ResourceId)) (k : ℕ) (rs : List ResourceId) → AllKnown a ks → lookup (eqb k) ks ≡ Some rs → Gains (λ r. Free r (tree_in (trees a.nodes) k)) [] rs
-  known_gains [] k rs h e = cc
-  known_gains (x ∷ ks) k rs h e = go (eqb k x.0) refl e (λ f. known_gains ks k rs (All-tail Known x ks h) f)
-    where
-      go : (b : Bool) → eqb k x.0 ≡ b → cond b (Some x.1) (lookup (eqb k) ks) ≡ Some rs → (lookup (eqb k) ks ≡ Some rs → Known (k, rs)) → Known (k, rs)
-      go true i w f = subst Known (λ j. (sym (eqb-true k x.0 i) j, same_Some _ _ w j)) (All-head Known x ks h)
-      go false i w f = f w
+  known_gains ks k rs h e = placed_found Known ks k rs h e
 
   pub known_put : (ks : List (ℕ × List ResourceId)) (k : ℕ) (rs : List ResourceId) → AllKnown a ks → Gains (λ r. Free r (tree_in (trees a.nodes) k)) [] rs → AllKnown a (with_set ks k rs)
-  known_put ks k rs h g = go (is_some (lookup (eqb k) ks))
-    where
-      go : (b : Bool) → AllKnown a (cond b ks (ks ++ (k, rs) ∷ []))
-      go true = h
-      go false = All-push Known ks (k, rs) h g
+  known_put ks k rs h g = placed_put Known ks k rs h g
 
 -- ## Trees
 

@@ -48,10 +48,12 @@ pub mod FreeBelow
 pub mod Leading
 pub mod Finding
 pub mod NamedBySet
-pub mod NamedContents
 pub mod SameTypes
 pub mod ShapeNumbers
 pub mod ShapeCodes
 pub mod ShapeTables
 pub mod EntryParts
 pub mod NamedExports
+pub mod Placed
+pub mod Needing
+pub mod NeedingValues

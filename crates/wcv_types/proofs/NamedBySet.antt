@@ -35,58 +35,64 @@ use Rattle.wcv_types.proofs.Each.{length-mapped}
 
 -- ## Members of a set
 
--- of a node
-module _ (a : Arena) (i : ComponentDefinedTypeId) (s : Stands a (p.Defined i)) where
-  node_apart : (k : ℕ) (x : Node) → slice_get a.nodes k ≡ Some x → (n.Defined s.0 ≡ x → ⊥) → false ≡ eqb i.index k
-  node_apart k x h apart = go (eqb i.index k) refl
+module _ (a : Arena) where
+  -- nodes of two sorts have two places
+  apart : (i j : ℕ) (x y : Node) → slice_get a.nodes i ≡ Some x → slice_get a.nodes j ≡ Some y → (x ≡ y → ⊥) → false ≡ eqb i j
+  apart i j x y s t d = go (eqb i j) refl
     where
-      go : (b : Bool) → eqb i.index k ≡ b → false ≡ b
+      go : (b : Bool) → eqb i j ≡ b → false ≡ b
       go false e = refl
-      go true e = absurd (apart (same_Some (n.Defined s.0) x (sym s.1 ∙ ap (slice_get a.nodes) (eqb-true i.index k e) ∙ h)))
+      go true e = absurd (d (same_Some x y (sym s ∙ ap (slice_get a.nodes) (eqb-true i j e) ∙ t)))
 
-  same_node : (id : ComponentAnyTypeId) → Stands a (any_part id) → same_type (any.Defined i) id ≡ same_identity (of_node (number i.index)) (identity_of (any_part id))
-  same_node (any.Defined j) t = refl
-  same_node (any.Resource r) t = refl
-  same_node (any.Func j) t = node_apart j.index (n.Func t.0) t.1 (λ e. cc)
-  same_node (any.Instance j) t = node_apart j.index (n.Instance t.0) t.1 (λ e. cc)
-  same_node (any.Component j) t = node_apart j.index (n.Component t.0) t.1 (λ e. cc)
+  same_here : (x y : ComponentAnyTypeId) → Stands a (any_part x) → Stands a (any_part y) → same_type x y ≡ same_identity (identity_of (any_part x)) (identity_of (any_part y))
+  same_here (any.Defined i) (any.Func j) s t = apart i.index j.index (n.Defined s.0) (n.Func t.0) s.1 t.1 (λ e. cc)
+  same_here (any.Defined i) (any.Instance j) s t = apart i.index j.index (n.Defined s.0) (n.Instance t.0) s.1 t.1 (λ e. cc)
+  same_here (any.Defined i) (any.Component j) s t = apart i.index j.index (n.Defined s.0) (n.Component t.0) s.1 t.1 (λ e. cc)
+  same_here (any.Func i) (any.Defined j) s t = apart i.index j.index (n.Func s.0) (n.Defined t.0) s.1 t.1 (λ e. cc)
+  same_here (any.Func i) (any.Instance j) s t = apart i.index j.index (n.Func s.0) (n.Instance t.0) s.1 t.1 (λ e. cc)
+  same_here (any.Func i) (any.Component j) s t = apart i.index j.index (n.Func s.0) (n.Component t.0) s.1 t.1 (λ e. cc)
+  same_here (any.Instance i) (any.Defined j) s t = apart i.index j.index (n.Instance s.0) (n.Defined t.0) s.1 t.1 (λ e. cc)
+  same_here (any.Instance i) (any.Func j) s t = apart i.index j.index (n.Instance s.0) (n.Func t.0) s.1 t.1 (λ e. cc)
+  same_here (any.Instance i) (any.Component j) s t = apart i.index j.index (n.Instance s.0) (n.Component t.0) s.1 t.1 (λ e. cc)
+  same_here (any.Component i) (any.Defined j) s t = apart i.index j.index (n.Component s.0) (n.Defined t.0) s.1 t.1 (λ e. cc)
+  same_here (any.Component i) (any.Func j) s t = apart i.index j.index (n.Component s.0) (n.Func t.0) s.1 t.1 (λ e. cc)
+  same_here (any.Component i) (any.Instance j) s t = apart i.index j.index (n.Component s.0) (n.Instance t.0) s.1 t.1 (λ e. cc)
+  same_here (any.Resource q) (any.Resource r) s t = refl
+  same_here (any.Resource q) (any.Defined j) s t = refl
+  same_here (any.Resource q) (any.Func j) s t = refl
+  same_here (any.Resource q) (any.Instance j) s t = refl
+  same_here (any.Resource q) (any.Component j) s t = refl
+  same_here (any.Defined i) (any.Resource r) s t = refl
+  same_here (any.Defined i) (any.Defined j) s t = refl
+  same_here (any.Func i) (any.Resource r) s t = refl
+  same_here (any.Func i) (any.Func j) s t = refl
+  same_here (any.Instance i) (any.Resource r) s t = refl
+  same_here (any.Instance i) (any.Instance j) s t = refl
+  same_here (any.Component i) (any.Resource r) s t = refl
+  same_here (any.Component i) (any.Component j) s t = refl
 
-  pub node_in_set : (ids : List ComponentAnyTypeId) → AllStand a ids → has_type ids (any.Defined i) ≡ is_in (identities ids) (of_node (number i.index))
-  node_in_set [] h = refl
-  node_in_set (id ∷ ids) h =
-      let e = same_node id (All-head (λ x. Stands a (any_part x)) id ids h) in
-      let e' = node_in_set ids (All-tail (λ x. Stands a (any_part x)) id ids h) in
+  -- a type is in a set where its identity is among theirs
+  pub in_set : (c : ComponentAnyTypeId) → Stands a (any_part c) → (ids : List ComponentAnyTypeId) → AllStand a ids → has_type ids c ≡ is_in (identities ids) (identity_of (any_part c))
+  in_set c s [] h = refl
+  in_set c s (y ∷ ids) h =
+      let e = same_here c y s (All-head (λ z. Stands a (any_part z)) y ids h) in
+      let e' = in_set c s ids (All-tail (λ z. Stands a (any_part z)) y ids h) in
       λ j. e j || e' j
-
--- of a reference
-same_reference : (a : Arena) (r : AliasableResourceId) (id : ComponentAnyTypeId) → Stands a (any_part id) → same_type (any.Resource r) id ≡ same_identity (of_reference (number r.resource.index) (stamp r.stamp)) (identity_of (any_part id))
-same_reference a r (any.Resource q) t = refl
-same_reference a r (any.Defined j) t = refl
-same_reference a r (any.Func j) t = refl
-same_reference a r (any.Instance j) t = refl
-same_reference a r (any.Component j) t = refl
-
-pub reference_in_set : (a : Arena) (r : AliasableResourceId) (ids : List ComponentAnyTypeId) → AllStand a ids → has_type ids (any.Resource r) ≡ is_in (identities ids) (of_reference (number r.resource.index) (stamp r.stamp))
-reference_in_set a r [] h = refl
-reference_in_set a r (id ∷ ids) h =
-    let e = same_reference a r id (All-head (λ x. Stands a (any_part x)) id ids h) in
-    let e' = reference_in_set a r ids (All-tail (λ x. Stands a (any_part x)) id ids h) in
-    λ j. e j || e' j
 
 -- ## One defined type
 
-and_true : (b : Bool) → (b && true) ≡ b
+pub and_true : (b : Bool) → (b && true) ≡ b
 and_true true = refl
 and_true false = refl
 
-some_same : (x y : AliasableResourceId) → Some x ≡ Some y → x ≡ y
+pub some_same : (x y : AliasableResourceId) → Some x ≡ Some y → x ≡ y
 some_same x y e = cc
 
 module _ (ids : List Identity) (ts : List Type_tree) where
   abbrev shape_named : Name → ComponentDefinedType → Bool
   shape_named x s = is_named ids (node (defined x (former_of s)) (slot_parts ts (defined_slots s)))
 
-  by_itself : (x : Name) (s : ComponentDefinedType) → names_itself s ≡ true → shape_named x s ≡ is_in ids (of_node x)
+  pub by_itself : (x : Name) (s : ComponentDefinedType) → names_itself s ≡ true → shape_named x s ≡ is_in ids (of_node x)
   by_itself x (d.Record a) h = refl
   by_itself x (d.Variant a) h = refl
   by_itself x (d.Flags a) h = refl
@@ -146,6 +152,12 @@ slot_all P (s ∷ ss) zero x h e =
     subst (λ (y : Role × Slot). All P (slot_refs y.1)) same (all_left P (slot_refs s.1) (parts_in ss) h)
 slot_all P (s ∷ ss) (suc k) x h e = slot_all P ss k x (all_right P (slot_refs s.1) (parts_in ss) h) e
 
+-- so for the reference of a handle
+pub handle_all : (P : Part → Type 0) (s : ComponentDefinedType) (r : AliasableResourceId) → All P (parts_in (defined_slots s)) → handle_of s ≡ Some r → P (p.Resource r)
+handle_all P (d.Own x) r h e = subst (λ (y : AliasableResourceId). P (p.Resource y)) (some_same x r e) (All-head P (p.Resource x) [] h)
+handle_all P (d.Borrow x) r h e = subst (λ (y : AliasableResourceId). P (p.Resource y)) (some_same x r e) (All-head P (p.Resource x) [] h)
+handle_all P x r h e = absurd (cc)
+
 -- it stands, before the whole
 pub value_before : (a : Arena) (bound : ℕ) (s : ComponentDefinedType) (k : ℕ) (ty : Option ComponentValType) → All (StandsBefore a (suc bound)) (parts_in (defined_slots s)) →
     option_map (λ (x : Role × Option ComponentValType). x.1) (slice_get (value_parts s) k) ≡ Some ty → SlotStands a (option_slot ty) × (value_rank ty < suc bound)
@@ -168,11 +180,11 @@ module _ (a : Arena) (ids : List ComponentAnyTypeId) (ty : Option ComponentValTy
 
   pub named_itself : names_itself s ≡ true → has_type ids (any.Defined i) ≡ is_named (identities ids) (slot_tree (trees a.nodes) (option_slot ty))
   named_itself h =
-      node_in_set a i (subst (λ (x : Option ComponentValType). SlotStands a (option_slot x)) is stands) ids set ∙
+      in_set a (any.Defined i) (subst (λ (x : Option ComponentValType). SlotStands a (option_slot x)) is stands) ids set ∙
       sym (by_itself (identities ids) (trees a.nodes) (number i.index) s h) ∙ sym whole
 
-  pub named_handle : (r : AliasableResourceId) → handle_of s ≡ Some r → has_type ids (any.Resource r) ≡ is_named (identities ids) (slot_tree (trees a.nodes) (option_slot ty))
-  named_handle r h = reference_in_set a r ids set ∙ sym (by_handle (identities ids) (trees a.nodes) (number i.index) s r h) ∙ sym whole
+  pub named_handle : (r : AliasableResourceId) → Stands a (p.Resource r) → handle_of s ≡ Some r → has_type ids (any.Resource r) ≡ is_named (identities ids) (slot_tree (trees a.nodes) (option_slot ty))
+  named_handle r w h = in_set a (any.Resource r) w ids set ∙ sym (by_handle (identities ids) (trees a.nodes) (number i.index) s r h) ∙ sym whole
 
   pub named_parts : names_itself s ≡ false → handle_of s ≡ None → named_from (identities ids) (trees a.nodes) s 0 ≡ is_named (identities ids) (slot_tree (trees a.nodes) (option_slot ty))
   named_parts h e = sym (by_parts (identities ids) (trees a.nodes) (number i.index) s h e) ∙ sym whole

@@ -1,5 +1,5 @@
--- Whether exports pass in order, where the set of what is named grows.
-use Rattle.std.proofs.Common.{◌≡◌, ℕ, suc, ◌+◌, ◌<◌, List, [], ◌∷◌, ◌++◌, length, drop, get_or, refl, sym, ◌∙◌, ap, subst, Bool, true, false, ◌&&◌, ◌||◌, cond, eqb, Some, None, drop-cons, add-one}
+-- What exports create, and which exports pass by lists with the same members.
+use Rattle.std.proofs.Common.{◌≡◌, ℕ, List, [], ◌∷◌, ◌++◌, refl, sym, ◌∙◌, ap, Bool, true, false, ◌&&◌, ◌||◌, cond, eqb, Some, None}
 use Rattle.std.specs.Prelude.{Option}
 use Rattle.std.proofs.lemmas.Bool.{false≢true, eqb-true}
 use Rattle.std.proofs.lemmas.List.Elements.{All-nil, All-cons, All-append}
@@ -11,15 +11,14 @@ use Rattle.wcv_types.specs.Named.{is_in, named_by_itself, is_named, are_named, w
 use Rattle.wcv_types.specs.NamedBySet.{with_created_type}
 use Rattle.wcv_types.specs.Sets.{same_type, has_type, with_type, AllStand, identities}
 use Rattle.wcv_types.specs.Standing.{Stands, identity_of}
-use Rattle.wcv_types.specs.Tree.{Text, export, Head, nothing, primitive, resource, defined, func, instance, type_entity, Tree, node, Parts, none, part, head, parts, sort, created, is_type, is_module, is_value, is_func, is_instance, is_component}
-use Rattle.wcv_types.specs.Unfold.{Type_tree, entry_slots, head_of, slot_parts, trees, tree_at}
+use Rattle.wcv_types.specs.Tree.{Head, nothing, primitive, resource, defined, func, instance, type_entity, Tree, node, Parts, none, part, head, parts, sort, created, is_type, is_module, is_value, is_func, is_instance, is_component}
+use Rattle.wcv_types.specs.Unfold.{Type_tree, head_of, trees, tree_at}
 use Rattle.wcv_types.specs.declared.arena.Node.TheVariants as n
 use Rattle.wcv_types.specs.declared.ids.ComponentAnyTypeId.{ComponentAnyTypeId}
 use Rattle.wcv_types.specs.declared.ids.ComponentAnyTypeId.TheVariants as any
 use Rattle.wcv_types.specs.declared.ids.ComponentCoreModuleTypeId.{ComponentCoreModuleTypeId}
 use Rattle.wcv_types.specs.declared.ids.ComponentTypeId.{ComponentTypeId}
 use Rattle.wcv_types.specs.declared.ids.Part.TheVariants as p
-use Rattle.wcv_types.specs.declared.item_map.ComponentItem.{ComponentItem}
 use Rattle.wcv_types.specs.declared.shapes.ComponentEntityType.{ComponentEntityType}
 use Rattle.wcv_types.specs.declared.shapes.ComponentEntityType.TheVariants as entity
 use Rattle.wcv_types.specs.declared.shapes.ComponentValType.TheVariants as v
@@ -66,7 +65,7 @@ mutual
   passes_by xs ys (node type_entity ps) h = created_passes_by xs ys ps h
   passes_by xs ys (node x ps) h = refl
 
-  all_pass_by : (xs ys : List Identity) (ps : Parts Name Name) → SameMembers xs ys → all_pass xs ps ≡ all_pass ys ps
+  pub all_pass_by : (xs ys : List Identity) (ps : Parts Name Name) → SameMembers xs ys → all_pass xs ps ≡ all_pass ys ps
   all_pass_by xs ys none h = refl
   all_pass_by xs ys (part l t ps) h =
       let a : passes xs t ≡ passes ys t = passes_by xs ys t h in
@@ -83,17 +82,17 @@ both_true : (b c : Bool) → (b && c) ≡ true → (b ≡ true) × (c ≡ true)
 both_true true c e = (refl, e)
 both_true false c e = absurd (false≢true e)
 
-or_true : (b : Bool) → (b || true) ≡ true
+pub or_true : (b : Bool) → (b || true) ≡ true
 or_true true = refl
 or_true false = refl
 
-or_swap : (a b c : Bool) → (a || (b || c)) ≡ (b || (a || c))
+pub or_swap : (a b c : Bool) → (a || (b || c)) ≡ (b || (a || c))
 or_swap true true c = refl
 or_swap true false c = refl
 or_swap false true c = refl
 or_swap false false c = refl
 
-same_identities : (x y : ComponentAnyTypeId) → same_type x y ≡ true → identity_of (any_part x) ≡ identity_of (any_part y)
+pub same_identities : (x y : ComponentAnyTypeId) → same_type x y ≡ true → identity_of (any_part x) ≡ identity_of (any_part y)
 same_identities (any.Resource q) (any.Resource r) e =
     let w = both_true (eqb q.resource.index r.resource.index) (eqb q.stamp r.stamp) e in
     let x : q.resource.index ≡ r.resource.index = eqb-true q.resource.index r.resource.index w.0 in
@@ -135,7 +134,7 @@ with_type_members ids c i = go (has_type ids c) refl
     go false e = members_pushed ids c i
 
 module _ (a : Arena) where
-  with_type_stands : (ids : List ComponentAnyTypeId) (c : ComponentAnyTypeId) → AllStand a ids → Stands a (any_part c) → AllStand a (with_type ids c)
+  pub with_type_stands : (ids : List ComponentAnyTypeId) (c : ComponentAnyTypeId) → AllStand a ids → Stands a (any_part c) → AllStand a (with_type ids c)
   with_type_stands ids c h s = go (has_type ids c)
     where
       go : (b : Bool) → AllStand a (cond b ids (ids ++ c ∷ []))
@@ -144,7 +143,7 @@ module _ (a : Arena) where
 
   -- ## A set with what a type entity creates
 
-  created_stands : (ids : List ComponentAnyTypeId) (ty : ComponentEntityType) → AllStand a ids → EntityStands a ty → AllStand a (with_created_type ids ty)
+  pub created_stands : (ids : List ComponentAnyTypeId) (ty : ComponentEntityType) → AllStand a ids → EntityStands a ty → AllStand a (with_created_type ids ty)
   created_stands ids (entity.Ty c r) h s = with_type_stands ids c h s.0
   created_stands ids (entity.Module i) h s = h
   created_stands ids (entity.Func i) h s = h
@@ -159,7 +158,7 @@ module _ (a : Arena) where
   same_list : (xs ys : List Identity) → ys ≡ xs → SameMembers xs ys
   same_list xs ys e i = ap (λ (zs : List Identity). is_in zs i) (sym e)
 
-  created_members : (ids : List ComponentAnyTypeId) (ty : ComponentEntityType) → EntityStands a ty → SameMembers (identities (with_created_type ids ty)) (with_created (identities ids) (entity_tree (trees a.nodes) ty))
+  pub created_members : (ids : List ComponentAnyTypeId) (ty : ComponentEntityType) → EntityStands a ty → SameMembers (identities (with_created_type ids ty)) (with_created (identities ids) (entity_tree (trees a.nodes) ty))
   created_members ids (entity.Ty c r) s = λ i. with_type_members ids c i ∙ ap (λ (o : Option Identity). is_in (with_identity o (identities ids)) i) (sym (known_any a c s.0))
   created_members ids (entity.Module i) s = same_list (identities ids) (with_created (identities ids) (tree_at a (p.Module i)))
       (no_entity (identities ids) (tree_at a (p.Module i)) (λ e. let w : is_module ≡ is_type = sym (sort_stands a (p.Module i) s) ∙ e in cc))
@@ -172,28 +171,6 @@ module _ (a : Arena) where
       (no_entity (identities ids) (tree_at a (p.Instance i)) (λ e. let w : is_instance ≡ is_type = sym (sort_stands a (p.Instance i) s) ∙ e in cc))
   created_members ids (entity.Component i) s = same_list (identities ids) (with_created (identities ids) (tree_at a (p.Component i)))
       (no_entity (identities ids) (tree_at a (p.Component i)) (λ e. let w : is_component ≡ is_type = sym (sort_stands a (p.Component i) s) ∙ e in cc))
-
-  -- ## One export after another
-
-  abbrev exports_pass : List ComponentAnyTypeId → List (Text × ComponentItem) → Bool
-  exports_pass ids es = all_pass (identities ids) (slot_parts (trees a.nodes) (entry_slots export es))
-
-  -- those before the k-th pass, where this is named by then
-  pub record PassedTo (set known : List ComponentAnyTypeId) (es : List (Text × ComponentItem)) (k : ℕ) : Type 0 where
-    pub stand : AllStand a known
-    pub rest : all_pass (identities set) (slot_parts (trees a.nodes) (entry_slots export es)) ≡ all_pass (identities known) (slot_parts (trees a.nodes) (entry_slots export (drop k es)))
-
-  module _ (set known : List ComponentAnyTypeId) (es : List (Text × ComponentItem)) (k : ℕ) (e : Text × ComponentItem) (within : k < length es) (is : e ≡ get_or es k e) (so : PassedTo set known es k) where
-    split : exports_pass set es ≡ (passes (identities known) (entity_tree (trees a.nodes) e.1.ty) && all_pass (with_created (identities known) (entity_tree (trees a.nodes) e.1.ty)) (slot_parts (trees a.nodes) (entry_slots export (drop (suc k) es))))
-    split = so.rest ∙ ap (exports_pass known) (drop-cons es k e within ∙ ap (λ (d : Text × ComponentItem). d ∷ drop (suc k) es) (sym is))
-
-    pub one_passed : (more : List ComponentAnyTypeId) → EntityStands a e.1.ty → passes (identities known) (entity_tree (trees a.nodes) e.1.ty) ≡ true → more ≡ with_created_type known e.1.ty → PassedTo set more es (k + 1)
-    one_passed more s t m =
-        subst (λ (ids : List ComponentAnyTypeId). PassedTo set ids es (k + 1)) (sym m) (subst (λ (j : ℕ). PassedTo set (with_created_type known e.1.ty) es j) (sym (add-one k)) record {
-          stand = created_stands known e.1.ty so.stand s;
-          rest = split ∙ ap (λ (b : Bool). b && all_pass (with_created (identities known) (entity_tree (trees a.nodes) e.1.ty)) (slot_parts (trees a.nodes) (entry_slots export (drop (suc k) es)))) t ∙
-              sym (all_pass_by (identities (with_created_type known e.1.ty)) (with_created (identities known) (entity_tree (trees a.nodes) e.1.ty)) (slot_parts (trees a.nodes) (entry_slots export (drop (suc k) es))) (created_members known e.1.ty s));
-        })
 
   -- ## Types and entities
 

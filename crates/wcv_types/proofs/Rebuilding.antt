@@ -109,6 +109,7 @@ made_again a b q made qs y e last s sort slots h types = record {
   nodes = ap (λ (c : Arena). length c.nodes) e ∙ length-append a.nodes (y ∷ []) ∙ omega arith;
   resources = ap (λ (c : Arena). c.resources) e;
   stamps = ap (λ (c : Arena). c.stamps) e;
+  core = ap (λ (c : Arena). c.core) e;
   grown = subst (λ (c : Arena). Extends a c) (sym e) (extends_push a y);
   stay = push_keeps a b y e;
   stands = s;

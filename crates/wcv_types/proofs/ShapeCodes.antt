@@ -11,7 +11,7 @@ use Rattle.wcv_types.specs.Arena.{Arena}
 use Rattle.wcv_types.specs.NamedBySet.{handle_of, node_id}
 use Rattle.wcv_types.specs.ShapeNumbers.{Entry, Codes, Key, IsWritten, leaf_number, label_mark, label_bytes, entry_numbers, entry_bytes, name_entries, handle_entries, form_numbers, code_of, Keeps, is_handle, of_handle, resource_number, label_of, entry_if, entries_if, leaf_if, code_if, form_if, number_if, shape_number, part_entries}
 use Rattle.wcv_types.specs.Tree.{Text, Former, Head, nothing, primitive, resource, defined, func, instance, component, type_entity, core_module, core_instance, core_type, core_item, Role, Tree, node, Parts, none, part}
-use Rattle.wcv_types.specs.Unfold.{Type_tree, Slot, leaf, leaf_tree, former_of, defined_slots, value_parts, value_slots, option_slot, slot_tree, slot_parts, trees, tree_at, unfolded}
+use Rattle.wcv_types.specs.Unfold.{Type_tree, former_of, defined_slots, value_parts, value_slots, option_slot, slot_tree, slot_parts, trees, tree_at, unfolded}
 use Rattle.wcv_types.specs.declared.arena.Node.TheVariants as n
 use Rattle.wcv_types.specs.declared.ids.AliasableResourceId.{AliasableResourceId}
 use Rattle.wcv_types.specs.declared.ids.ComponentDefinedTypeId.{ComponentDefinedTypeId}

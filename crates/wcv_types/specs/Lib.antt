@@ -29,6 +29,7 @@ pub mod Sets
 pub mod Given
 pub mod Gathering
 pub mod NamedBySet
+pub mod Needing
 pub mod Alike
 pub mod ShapeNumbers
 pub mod CoreCalls

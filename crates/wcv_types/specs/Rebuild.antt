@@ -118,6 +118,7 @@ pub record MadeAgain (a b : Arena) (q : Part) (qs : List Part) (made : Part) : T
   pub nodes : length b.nodes ≡ suc (length a.nodes)
   pub resources : b.resources ≡ a.resources
   pub stamps : b.stamps ≡ a.stamps
+  pub core : b.core ≡ a.core
   pub grown : Extends a b
   pub stay : KeepsTrees a b
   pub stands : Stands b made

@@ -44,6 +44,10 @@ has_place ks k = list_any (eqb k) ks
 abbrev pub with_place : List ℕ → ℕ → List ℕ
 with_place ks k = cond (has_place ks k) ks (ks ++ k ∷ [])
 
+-- the sets by places with one more, which the place may have already
+abbrev pub with_set : {A : Type 0} → List (ℕ × A) → ℕ → A → List (ℕ × A)
+with_set fs k x = cond (is_some (lookup (eqb k) fs)) fs (fs ++ (k, x) ∷ [])
+
 -- ## Resources
 
 abbrev pub same_resource : ResourceId → ResourceId → Bool
@@ -55,7 +59,3 @@ has_resource rs r = list_any (same_resource r) rs
 -- the set with that resource, which it may have already
 abbrev pub with_resource : List ResourceId → ResourceId → List ResourceId
 with_resource rs r = cond (has_resource rs r) rs (rs ++ r ∷ [])
-
--- the sets of places with one more, which the place may have already
-abbrev pub with_set : List (ℕ × List ResourceId) → ℕ → List ResourceId → List (ℕ × List ResourceId)
-with_set fs k rs = cond (is_some (lookup (eqb k) fs)) fs (fs ++ (k, rs) ∷ [])

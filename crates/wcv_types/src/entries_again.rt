@@ -12,7 +12,7 @@ use std::alloc::Global;
 use wcv_core::{OutOfMemory, Place, Text};
 
 /// A copy of the text, where it is there.
-fn copy_option(alloc: Global, text: &Option<Text>) -> Result<Option<Text>, OutOfMemory>
+pub fn copy_option(alloc: Global, text: &Option<Text>) -> Result<Option<Text>, OutOfMemory>
     ensures { IfOk result (λ t. t ≡ text.now) }
 {
     match text {

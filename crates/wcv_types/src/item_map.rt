@@ -1,7 +1,9 @@
 // Imports and exports by name.
-ghost use Rattle.std.specs.Prelude.{◌≡◌, List, [], ◌∷◌, ◌++◌, length, slice_get, option_copied, bytes_eq, OnOk, OnErr};
+ghost use Rattle.std.specs.Prelude.{◌≡◌, List, [], ◌∷◌, ◌++◌, length, slice_get, option_copied, bytes_eq, OnOk, OnErr, IfOk};
 ghost use Rattle.std.specs.Map.{lookup};
 
+use crate::again::copy_text;
+use crate::entries_again::copy_option;
 use crate::shapes::ComponentEntityType;
 use std::alloc::Global;
 use std::marker::Model;
@@ -14,6 +16,20 @@ pub struct ComponentItem {
     pub implements: Option<Text>,
     pub version_suffix: Option<Text>,
     pub external_id: Option<Text>,
+}
+
+impl ComponentItem {
+    /// An equal item.
+    fn copy(&self, alloc: Global) -> Result<ComponentItem, OutOfMemory>
+        ensures { IfOk result (λ copied. copied ≡ self.now) }
+    {
+        Ok(ComponentItem {
+            ty: self.ty,
+            implements: copy_option(alloc, &self.implements)?,
+            version_suffix: copy_option(alloc, &self.version_suffix)?,
+            external_id: copy_option(alloc, &self.external_id)?,
+        })
+    }
 }
 
 /// Items by name, in order. A name may stand more than once. Contracts see it as the list of its pairs.
@@ -49,6 +65,19 @@ impl ItemMap {
     {
         self.entries.push(entry)?;
         Ok(())
+    }
+
+    /// An equal map.
+    pub fn copy(&self, alloc: Global) -> Result<ItemMap, OutOfMemory>
+        ensures { IfOk result (λ copied. copied ≡ self.now) }
+    {
+        let mut copied = ItemMap::new(alloc);
+        for entry in &self.entries {
+            let name = copy_text(alloc, &entry.0)?;
+            let item = entry.1.copy(alloc)?;
+            copied.push((name, item))?;
+        }
+        Ok(copied)
     }
 
     /// How many pairs there are.

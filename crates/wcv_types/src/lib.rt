@@ -31,6 +31,8 @@ mod layout;
 mod module_sort;
 mod named_contents;
 mod named_types;
+mod needed_sets;
+mod needs;
 mod nodes;
 mod parts;
 mod place_set;

@@ -1,59 +1,23 @@
-// Which types are made of named types.
-ghost use Rattle.std.specs.Prelude.{◌≡◌, All, IfOk, OnOk};
+// Which types are made of named types, by what they need to be named.
+ghost use Rattle.std.specs.Prelude.{◌≡◌, [], ◌++◌, All, IfOk, OnOk};
 ghost use Rattle.wcv_types.specs.Entities.{any_part, entity_tree, EntityStands, EntryStands};
-ghost use Rattle.wcv_types.specs.Named.{are_named, passes, all_pass};
+ghost use Rattle.wcv_types.specs.Named.{passes, all_pass};
 ghost use Rattle.wcv_types.specs.NamedBySet.{with_created_type};
+ghost use Rattle.wcv_types.specs.Needing.{beside, AllNeeded, Needs};
 ghost use Rattle.wcv_types.specs.Sets.{AllStand, identities};
 ghost use Rattle.wcv_types.specs.Standing.{Stands};
 ghost use Rattle.wcv_types.specs.Tree.{export};
-ghost use Rattle.wcv_types.specs.Unfold.{parts_of, slots_of, entry_slots, slot_parts, tree_at, trees};
-ghost use Rattle.wcv_types.specs.declared.arena.Node.TheVariants as n;
+ghost use Rattle.wcv_types.specs.Unfold.{entry_slots, slot_parts, tree_at, trees};
+ghost use Rattle.wcv_types.specs.declared.ids.Part.TheVariants as part;
 
 use crate::arena::TypeAlloc;
-use crate::ids::ComponentAnyTypeId;
+use crate::ids::{ComponentAnyTypeId, ComponentInstanceTypeId};
 use crate::item_map::ComponentItem;
-use crate::named_types::is_named_value;
-use crate::shapes::{
-    ComponentDefinedType, ComponentEntityType, ComponentFuncType, ComponentValType,
-};
+use crate::needed_sets::NeededSets;
+use crate::needs::{need_all, need_defined, need_func};
+use crate::shapes::{ComponentEntityType, ComponentValType};
 use crate::type_set::TypeSet;
 use wcv_core::{OutOfMemory, Text};
-
-/// Whether what a defined type is made of is named.
-fn all_valtypes_named_in_defined(
-    types: &TypeAlloc,
-    shape: &ComponentDefinedType,
-    set: &TypeSet,
-) -> bool
-    requires stands { All (Stands types.now) (parts_of (n.Defined shape.now)) }
-    requires set { AllStand types.now set.now }
-    ensures { result ≡ are_named (identities set.now) (slot_parts (trees types.now.nodes) (slots_of (n.Defined shape.now))) }
-{
-    if let Some(handle) = shape.handle() {
-        return set.contains(&ComponentAnyTypeId::Resource(handle));
-    }
-    for k in 0..shape.value_count() {
-        if !is_named_value(types, shape.value_at(k), set) {
-            return false;
-        }
-    }
-    true
-}
-
-/// Whether the parameters and the result of a function are named.
-#[tactic(auto, using(crate::proofs::Knowing::given_stands, crate::proofs::Knowing::given_result, crate::proofs::Knowing::named_next, crate::proofs::Knowing::named_last))]
-fn all_valtypes_named_in_func(types: &TypeAlloc, shape: &ComponentFuncType, set: &TypeSet) -> bool
-    requires stands { All (Stands types.now) (parts_of (n.Func shape.now)) }
-    requires set { AllStand types.now set.now }
-    ensures { result ≡ are_named (identities set.now) (slot_parts (trees types.now.nodes) (slots_of (n.Func shape.now))) }
-{
-    for param in &shape.params {
-        if !is_named_value(types, Some(param.1), set) {
-            return false;
-        }
-    }
-    is_named_value(types, shape.result, set)
-}
 
 /// What a type entity creates joins the set.
 fn push_created(ty: ComponentEntityType, set: &mut TypeSet) -> Result<(), OutOfMemory>
@@ -65,82 +29,136 @@ fn push_created(ty: ComponentEntityType, set: &mut TypeSet) -> Result<(), OutOfM
     }
 }
 
-/// Whether exports pass in order, where what an export creates counts as named from then on.
-#[cycle(passing)]
-fn exports_pass(
+/// What an instance type needs to pass. Its exports are gone through once.
+#[cycle(needing)]
+fn need_instance(
+    types: &TypeAlloc,
+    id: ComponentInstanceTypeId,
+    set: &TypeSet,
+    created: &TypeSet,
+    known: &mut NeededSets,
+    needed: &mut TypeSet,
+) -> Result<(), OutOfMemory>
+    requires id { Stands types.now (part.Instance id) }
+    requires set { AllStand types.now set.now }
+    requires created { AllStand types.now created.now }
+    requires known { AllNeeded types.now set.now known.old }
+    requires needed { AllStand types.now needed.old }
+    ensures needed { OnOk result (Needs types.now (λ ids. passes (beside ids created.now set.now) (tree_at types.now (part.Instance id))) needed.old needed.new) }
+    ensures known { OnOk result (AllNeeded types.now set.now known.new) }
+{
+    if let Some(more) = known.get(id.index) {
+        return need_all(types, more, created, needed);
+    }
+    let more = needs_of_exports(types, types.get(id).exports.as_slice(), set, known)?;
+    need_all(types, &more, created, needed)?;
+    known.put(id.index, more)
+}
+
+/// What exports need to pass in order, where what an export creates counts as named from then on.
+#[cycle(needing)]
+fn needs_of_exports(
     types: &TypeAlloc,
     exports: &[(Text, ComponentItem)],
     set: &TypeSet,
-) -> Result<bool, OutOfMemory>
+    known: &mut NeededSets,
+) -> Result<TypeSet, OutOfMemory>
     requires stand { All (EntryStands types.now) exports.now }
     requires set { AllStand types.now set.now }
-    ensures { IfOk result (λ b. b ≡ all_pass (identities set.now) (slot_parts (trees types.now.nodes) (entry_slots export exports.now))) }
+    requires known { AllNeeded types.now set.now known.old }
+    ensures needed { IfOk result (λ needed. Needs types.now (λ ids. all_pass (ids ++ identities set.now) (slot_parts (trees types.now.nodes) (entry_slots export exports.now))) [] needed) }
+    ensures known { OnOk result (AllNeeded types.now set.now known.new) }
 {
-    let mut known = set.copy()?;
+    let mut created = TypeSet::new(types.allocator());
+    let mut needed = TypeSet::new(types.allocator());
     for entry in exports {
-        if !entity_passes(types, entry.1.ty, &known)? {
-            return Ok(false);
-        }
-        push_created(entry.1.ty, &mut known)?;
+        need_entity(types, entry.1.ty, set, &created, known, &mut needed)?;
+        push_created(entry.1.ty, &mut created)?;
     }
-    Ok(true)
+    Ok(needed)
 }
 
-/// Whether a type passes as an export of an instance type.
-#[cycle(passing)]
-fn type_passes(
+/// What a type needs to pass as an export of an instance type.
+#[cycle(needing)]
+fn need_type(
     types: &TypeAlloc,
     id: ComponentAnyTypeId,
     set: &TypeSet,
-) -> Result<bool, OutOfMemory>
+    created: &TypeSet,
+    known: &mut NeededSets,
+    needed: &mut TypeSet,
+) -> Result<(), OutOfMemory>
     requires id { Stands types.now (any_part id) }
     requires set { AllStand types.now set.now }
-    ensures { IfOk result (λ b. b ≡ passes (identities set.now) (tree_at types.now (any_part id))) }
+    requires created { AllStand types.now created.now }
+    requires known { AllNeeded types.now set.now known.old }
+    requires needed { AllStand types.now needed.old }
+    ensures needed { OnOk result (Needs types.now (λ ids. passes (beside ids created.now set.now) (tree_at types.now (any_part id))) needed.old needed.new) }
+    ensures known { OnOk result (AllNeeded types.now set.now known.new) }
 {
     match id {
-        ComponentAnyTypeId::Resource(_) => Ok(true),
-        ComponentAnyTypeId::Defined(id) => {
-            Ok(all_valtypes_named_in_defined(types, types.get(id), set))
-        }
-        ComponentAnyTypeId::Func(id) => Ok(all_valtypes_named_in_func(types, types.get(id), set)),
-        ComponentAnyTypeId::Instance(id) => {
-            exports_pass(types, types.get(id).exports.as_slice(), set)
-        }
-        ComponentAnyTypeId::Component(_) => Ok(true),
+        ComponentAnyTypeId::Resource(_) => Ok(()),
+        ComponentAnyTypeId::Defined(id) => need_defined(types, types.get(id), set, created, needed),
+        ComponentAnyTypeId::Func(id) => need_func(types, types.get(id), set, created, needed),
+        ComponentAnyTypeId::Instance(id) => need_instance(types, id, set, created, known, needed),
+        ComponentAnyTypeId::Component(_) => Ok(()),
     }
 }
 
 /// So of what is exported.
-#[cycle(passing)]
-fn entity_passes(
+#[cycle(needing)]
+fn need_entity(
     types: &TypeAlloc,
     ty: ComponentEntityType,
     set: &TypeSet,
-) -> Result<bool, OutOfMemory>
+    created: &TypeSet,
+    known: &mut NeededSets,
+    needed: &mut TypeSet,
+) -> Result<(), OutOfMemory>
     requires stands { EntityStands types.now ty }
     requires set { AllStand types.now set.now }
-    ensures { IfOk result (λ b. b ≡ passes (identities set.now) (entity_tree (trees types.now.nodes) ty)) }
+    requires created { AllStand types.now created.now }
+    requires known { AllNeeded types.now set.now known.old }
+    requires needed { AllStand types.now needed.old }
+    ensures needed { OnOk result (Needs types.now (λ ids. passes (beside ids created.now set.now) (entity_tree (trees types.now.nodes) ty)) needed.old needed.new) }
+    ensures known { OnOk result (AllNeeded types.now set.now known.new) }
 {
     match ty {
-        ComponentEntityType::Module(_) => Ok(true),
-        ComponentEntityType::Func(id) => type_passes(types, ComponentAnyTypeId::Func(id), set),
-        ComponentEntityType::Value(ComponentValType::Primitive(_)) => Ok(true),
+        ComponentEntityType::Module(_) => Ok(()),
+        ComponentEntityType::Func(id) => {
+            need_type(
+                types,
+                ComponentAnyTypeId::Func(id),
+                set,
+                created,
+                known,
+                needed,
+            )
+        }
+        ComponentEntityType::Value(ComponentValType::Primitive(_)) => Ok(()),
         ComponentEntityType::Value(ComponentValType::Ty(id)) => {
-            type_passes(types, ComponentAnyTypeId::Defined(id), set)
+            need_type(
+                types,
+                ComponentAnyTypeId::Defined(id),
+                set,
+                created,
+                known,
+                needed,
+            )
         }
-        ComponentEntityType::Ty { created, .. } => type_passes(types, created, set),
-        ComponentEntityType::Instance(id) => {
-            type_passes(types, ComponentAnyTypeId::Instance(id), set)
+        ComponentEntityType::Ty { created: id, .. } => {
+            need_type(types, id, set, created, known, needed)
         }
-        ComponentEntityType::Component(id) => {
-            type_passes(types, ComponentAnyTypeId::Component(id), set)
-        }
+        ComponentEntityType::Instance(id) => need_instance(types, id, set, created, known, needed),
+        ComponentEntityType::Component(_) => Ok(()),
     }
 }
 
 impl TypeAlloc {
     /// Whether the contents of a type are named by a set: the parameters and the result of a function, what a
-    /// defined type is made of, the exports of an instance. A resource and a component have none.
+    /// defined type is made of, the exports of an instance. A resource and a component have none. The exports of
+    /// each instance type are gone through once, however many ways lead there. One that is exported again costs
+    /// as many steps as it needs types that the set has not. The set is not copied.
     pub fn all_valtypes_named(
         &self,
         id: &ComponentAnyTypeId,
@@ -150,6 +168,10 @@ impl TypeAlloc {
         requires set { AllStand self.now set.now }
         ensures { IfOk result (λ b. b ≡ passes (identities set.now) (tree_at self.now (any_part id.now))) }
     {
-        type_passes(self, *id, set)
+        let created = TypeSet::new(self.allocator());
+        let mut known = NeededSets::new(self.allocator());
+        let mut needed = TypeSet::new(self.allocator());
+        need_type(self, *id, set, &created, &mut known, &mut needed)?;
+        Ok(needed.len() == 0)
     }
 }

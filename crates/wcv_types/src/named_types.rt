@@ -13,7 +13,7 @@ use crate::type_set::TypeSet;
 
 impl ComponentDefinedType {
     /// Whether it is named by its own identity alone, whatever it is made of.
-    fn names_itself(&self) -> bool
+    pub(crate) fn names_itself(&self) -> bool
         ensures { result ≡ names_itself self.now }
     {
         matches!(

@@ -1,9 +1,6 @@
-use Rattle.std.proofs.Common.{[], ap, ◌∙◌}
+use Rattle.std.proofs.Common.{ap, ◌∙◌}
 use Rattle.wcv_state.specs.Contents.{Contents}
 use Rattle.wcv_call_tests.proofs.modules.exported.Goals as goal
 
-pub returns-in-Ok-clause-open : goal.returns-in-Ok-clause-open
-returns-in-Ok-clause-open c = record { live = ap (λ (s : Contents). s.spent) c.in-Ok.ensures.same ∙ c.requires.live; stands = c.in-Ok.ensures.keeps.stands }
-
-pub returns-in-Ok-clause-stands : goal.returns-in-Ok-clause-stands
-returns-in-Ok-clause-stands c = (c.in-Ok.ensures.ok []).stands
+pub returns-in-Ok : goal.returns-in-Ok
+returns-in-Ok c = record { live = ap (λ (s : Contents). s.spent) c.in-Ok.ensures.same ∙ c.requires.live; stands = c.in-Ok.ensures.keeps.stands }

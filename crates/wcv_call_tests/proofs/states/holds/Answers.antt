@@ -1,4 +1,4 @@
 use Rattle.wcv_call_tests.proofs.states.holds.Goals as goal
 
-pub answers-requires-clause-open : goal.answers-requires-clause-open
-answers-requires-clause-open c = c.in-Ok.ensures.open c.new-types.result
+pub answers-requires : goal.answers-requires
+answers-requires c = c.in-Ok.ensures c.new-types.result

@@ -1,7 +1,6 @@
-use Rattle.std.proofs.Common.{◌≡◌, ◌++◌, ◌∙◌, sym, true}
+use Rattle.std.proofs.Common.{◌++◌}
 use Rattle.std.proofs.lemmas.Result.{err_from_is_err_and, on_ok_weaker, IfErr-weaker}
 use Rattle.wcv_core.specs.Refusal.{error_kind}
-use Rattle.wcv_syntax.specs.Built.{is_built_type}
 use Rattle.wcv_syntax.specs.View.{type_view}
 use Rattle.wcv_lower.specs.Checks.{Checks, no_type_room}
 use Rattle.wcv_lower.specs.Context.{counts}
@@ -9,37 +8,34 @@ use Rattle.wcv_lower.specs.Trees.{tree_maker}
 use Rattle.wcv_lower.specs.Types.{tree_checks}
 use Rattle.wcv_lower.proofs.Causes.{cause_left, cause_right, free_both}
 use Rattle.wcv_state.specs.Contents.{context_of}
-use Rattle.wcv_state.proofs.Calls.{caused_more, built_caused, built_free}
+use Rattle.wcv_state.proofs.Calls.{caused_more}
 use Rattle.wcv_core.proofs.Closing.{caused_same}
 use Rattle.wcv_decls.proofs.declare.declare.Goals as goal
 
 pub returns-in_err-check_types-clause-err : goal.returns-in_err-check_types-clause-err
 returns-in_err-check_types-clause-err c =
-    let p = err_from_is_err_and c.from_residual-in_err-check_types.result c.from_residual-in_err-check_types.ensures.1 in
+    let p = err_from_is_err_and c.from_residual.result c.from_residual.ensures.1 in
     let x = context_of c.args.types.now c.args.state.now in
     let e = c.in_err-check_types.field-0.0 in
     let room : Checks = no_type_room c.args.check_limit (counts x) in
-    let built : is_built_type (type_view c.args.ty) ≡ true = sym c.is_built_type.ensures ∙ c.in_ok-check_form.ensures.ok in
     rw p.1 (λ n q. let tree : Checks = tree_checks c.args.state.now.features (tree_maker n q) x (type_view c.args.ty) in
-    built_caused (is_built_type (type_view c.args.ty)) (tree ++ room) c.args.offset p.0 built (caused_more room (tree ++ room) c.args.offset p.0 (cause_right tree room (error_kind p.0))
-    (caused_same room c.args.offset e p.0 p.2.0 p.2.1 c.in_err-check_types.ensures.err)))
+    caused_more room (tree ++ room) c.args.offset p.0 (cause_right tree room (error_kind p.0))
+    (caused_same room c.args.offset e p.0 p.2.0 p.2.1 c.in_err-check_types.ensures.err))
 
 pub returns-clause-free : goal.returns-clause-free
 returns-clause-free c =
     let x = context_of c.args.types.now c.args.state.now in
     let room : Checks = no_type_room c.args.check_limit (counts x) in
-    let built : is_built_type (type_view c.args.ty) ≡ true = sym c.is_built_type.ensures ∙ c.in_ok-check_form.ensures.ok in
-    on_ok_weaker c.add_built.result
+    on_ok_weaker c.add_plain.result
     (λ z n q. let tree : Checks = tree_checks c.args.state.now.features (tree_maker n q) x (type_view c.args.ty) in
-    built_free (is_built_type (type_view c.args.ty)) (tree ++ room) built (free_both tree room (z n q) c.in_ok-check_types.ensures.ok))
-    c.add_built.ensures.free
+    free_both tree room (z n q) c.in_ok-check_types.ensures.ok)
+    c.add_plain.ensures.free
 
 pub returns-clause-err : goal.returns-clause-err
 returns-clause-err c =
     let x = context_of c.args.types.now c.args.state.now in
     let room : Checks = no_type_room c.args.check_limit (counts x) in
-    let built : is_built_type (type_view c.args.ty) ≡ true = sym c.is_built_type.ensures ∙ c.in_ok-check_form.ensures.ok in
-    IfErr-weaker c.add_built.result _ _
+    IfErr-weaker c.add_plain.result _ _
     (λ e z n q. let tree : Checks = tree_checks c.args.state.now.features (tree_maker n q) x (type_view c.args.ty) in
-    built_caused (is_built_type (type_view c.args.ty)) (tree ++ room) c.args.offset e built (caused_more tree (tree ++ room) c.args.offset e (cause_left tree room (error_kind e)) (z n q)))
-    c.add_built.ensures.err
+    caused_more tree (tree ++ room) c.args.offset e (cause_left tree room (error_kind e)) (z n q))
+    c.add_plain.ensures.err

@@ -1,14 +1,12 @@
 use Rattle.std.proofs.Common.{arith, ◌≡◌, ◌∙◌, sym, ap, ℕ, suc, List, [], ◌∷◌, ◌++◌, subst, length}
 use Rattle.std.specs.Vec.Iter.{into_iter_items}
-use Rattle.std.proofs.lemmas.List.{nil_from_length, length-append}
-use Rattle.std.proofs.lemmas.Result.{err_from_is_err_and}
+use Rattle.std.proofs.lemmas.List.{nil_from_length, length-append, length-set}
+use Rattle.std.proofs.lemmas.Result.{err_from_is_err_and, on_ok_weaker, IfErr-weaker}
 use Rattle.wcv_syntax.specs.Model.{Items, no_items}
 use Rattle.wcv_syntax.specs.View.{item_view, items_view}
 use Rattle.wcv_syntax.specs.declared.item.Item.{Item}
-use Rattle.wcv_types.specs.declared.component_type.ComponentType.{ComponentType}
-use Rattle.wcv_state.specs.Promises.{Finished}
 use Rattle.wcv_link.specs.Progress.{ValidSoFar}
-use Rattle.wcv_link.proofs.Leading.{read_none, read_one, refused_one, refused_end, read_all}
+use Rattle.wcv_link.proofs.Alone.{begins, goes_on, stops, alone_open, first_alone, stops_at_end, ends_alone, ok_and}
 use Rattle.wcv_link.proofs.driver.read_root.Goals as goal
 
 pub loop-item-init : goal.loop-item-init
@@ -16,8 +14,8 @@ loop-item-init c =
     let items : into_iter_items c.into_iter-item-iterator.result ≡ c.args.items.items = c.into_iter-item-iterator.ensures.into_iter_gives.0 in
     record {
       read =
-          subst (λ (xs : List Item). ValidSoFar c.args.types.now c.args.state.now 0 c.args.state.now.features (items_view c.args.items.items) (items_view xs)) (sym items)
-          (read_none c.args.types.now c.args.state.now c.args.state.now.features (items_view c.args.items.items) c.requires.types c.requires.state);
+          subst (λ (xs : List Item). ValidSoFar c.args.types.now c.args.components.now.items 0 c.args.features (items_view c.args.items.items) (items_view xs)) (sym items)
+          (begins c.args.types.now c.args.features c.requires.types c.args.components.now.items (items_view c.args.items.items) c.requires.state);
       left = search;
     }
 
@@ -30,9 +28,10 @@ returns-in_err-read_item-clause-err c =
     let items = items_view c.args.items.items in
     let x = item_view c.in-Some.item in
     let left = ap items_view c.in-Some.ensures.steps.0 in
+    let ss = c.loop-item.components.items in
     rw (p.1, p.2)
-    (refused_one c.loop-item.types c.read_item.new.types c.loop-item.state (length c.loop-item.yielded) c.args.state.now.features items (items_view (into_iter_items c.next.new.self)) x.offset x.form c.args.end c.in_err-read_item.field-0.0
-    (subst (λ (z : Items). ValidSoFar c.loop-item.types c.loop-item.state (length c.loop-item.yielded) c.args.state.now.features items z) left c.loop-item.invariant.read) c.in_err-read_item.ensures.err)
+    (stops c.loop-item.types c.read_item.new.types ss (length c.loop-item.yielded) c.args.features items (items_view (into_iter_items c.next.new.self)) x.offset x.form
+    (subst (λ (z : Items). ValidSoFar c.loop-item.types ss (length c.loop-item.yielded) c.args.features items z) left c.loop-item.invariant.read) c.args.end c.in_err-read_item.field-0.0 c.in_err-read_item.ensures.err)
 
 pub loop-item-preserved : goal.loop-item-preserved
 loop-item-preserved c =
@@ -42,12 +41,13 @@ loop-item-preserved c =
     let x = item_view c.in-Some.item in
     let steps = c.in-Some.ensures.steps.0 in
     let left = ap items_view steps in
+    let ss = c.loop-item.components.items in
     let more : suc k ≡ length (c.loop-item.yielded ++ c.in-Some.item ∷ []) = omega (arith, length-append c.loop-item.yielded (c.in-Some.item ∷ [])) in
     record {
       read =
-          subst (λ (j : ℕ). ValidSoFar c.read_item.new.types c.read_item.new.state j c.args.state.now.features items rest) more
-          (read_one c.loop-item.types c.read_item.new.types c.loop-item.state c.read_item.new.state k c.args.state.now.features items rest x.offset x.form
-          (subst (λ (z : Items). ValidSoFar c.loop-item.types c.loop-item.state k c.args.state.now.features items z) left c.loop-item.invariant.read) c.in_ok-read_item.ensures.ok);
+          subst (λ (j : ℕ). ValidSoFar c.read_item.new.types c.read_item.new.components.items j c.args.features items rest) more
+          (goes_on c.loop-item.types c.read_item.new.types ss k c.args.features items rest x.offset x.form
+          (subst (λ (z : Items). ValidSoFar c.loop-item.types ss k c.args.features items z) left c.loop-item.invariant.read) c.read_item.new.components.items c.in_ok-read_item.ensures.ok);
       left =
           let gone = c.in-Some.ensures.steps.1 in
           let short = ap length steps in
@@ -59,17 +59,44 @@ loop-item-preserved c =
 ended : (xs : List Item) (n : ℕ) → n ≡ length xs → n ≡ 0 → items_view xs ≡ no_items
 ended xs n e z = ap items_view (nil_from_length xs (sym e ∙ z))
 
-pub finish-requires : goal.finish-requires
-finish-requires c = record { live = c.loop-item.invariant.read.ready.live; stands = c.loop-item.invariant.read.ready.stands }
+pub take_type-requires : goal.take_type-requires
+take_type-requires c =
+    let ss = c.loop-item.components.items in
+    let left = items_view (into_iter_items c.loop-item.item-iterator) in
+    let h = c.loop-item.invariant.read in
+    let k = length c.loop-item.yielded in
+    let is = items_view c.args.items.items in
+    let s = c.index_mut.result.now in
+    let o = alone_open c.loop-item.types ss k c.args.features is left h s (first_alone c.loop-item.types ss k c.args.features is left h s c.index_mut.ensures.value) in
+    record { live = o.live; stands = o.stands }
 
-pub returns-in-Err-clause-err : goal.returns-in-Err-clause-err
-returns-in-Err-clause-err c =
+pub returns-clause-ok : goal.returns-clause-ok
+returns-clause-ok c =
+    let ss = c.loop-item.components.items in
     let left = into_iter_items c.loop-item.item-iterator in
-    refused_end c.loop-item.types c.loop-item.state (length c.loop-item.yielded) c.args.state.now.features (items_view c.args.items.items) (items_view left) c.loop-item.invariant.read c.finish.new.self c.args.end c.in-Err.error (ended left _ c.loop-item.invariant.left c.in-None.ensures.steps.0) c.in-Err.ensures.err
+    let h = c.loop-item.invariant.read in
+    let k = length c.loop-item.yielded in
+    let is = items_view c.args.items.items in
+    let s = c.index_mut.result.now in
+    let one = first_alone c.loop-item.types ss k c.args.features is (items_view left) h s c.index_mut.ensures.value in
+    ok_and c.take_type.result
+    (λ ty w after t e. ends_alone c.loop-item.types ss k c.args.features is (items_view left) h s c.take_type.new.self t ty one e (ended left _ c.loop-item.invariant.left c.in-None.ensures.steps.0) after w)
+    c.take_type.ensures.ok c.take_type.ensures.after
 
-pub returns-in-Ok-clause-ok : goal.returns-in-Ok-clause-ok
-returns-in-Ok-clause-ok c = λ a types state ty none.
+pub returns-clause-one : goal.returns-clause-one
+returns-clause-one c =
+    let ss = c.loop-item.components.items in
+    on_ok_weaker c.take_type.result (λ e. length-set ss 0 c.take_type.new.self ∙ ap length c.loop-item.invariant.read.alone) c.take_type.ensures.after
+
+pub returns-clause-err : goal.returns-clause-err
+returns-clause-err c =
+    let ss = c.loop-item.components.items in
     let left = into_iter_items c.loop-item.item-iterator in
-    read_all c.loop-item.types c.loop-item.state (length c.loop-item.yielded) c.args.state.now.features (items_view c.args.items.items) (items_view left) c.loop-item.invariant.read a types
-    (ended left _ c.loop-item.invariant.left c.in-None.ensures.steps.0) (state ∙ c.in-Ok.ensures.after)
-    (subst (λ (z : ComponentType). Finished c.loop-item.types c.loop-item.state z) (sym ty) c.in-Ok.ensures.ok) none
+    let h = c.loop-item.invariant.read in
+    let k = length c.loop-item.yielded in
+    let is = items_view c.args.items.items in
+    let s = c.index_mut.result.now in
+    let one = first_alone c.loop-item.types ss k c.args.features is (items_view left) h s c.index_mut.ensures.value in
+    IfErr-weaker c.take_type.result _ _
+    (λ e w. stops_at_end c.loop-item.types ss k c.args.features is (items_view left) h s c.take_type.new.self c.args.end e one (ended left _ c.loop-item.invariant.left c.in-None.ensures.steps.0) w)
+    c.take_type.ensures.err

@@ -1,5 +1,5 @@
 use Rattle.wcv_state.proofs.Given.{again_names, again_given, resource_names, resource_given, node_names, node_given, node_name}
-use Rattle.wcv_state.proofs.SlotMakers.{makes_again, makes_resource, makes_node}
+use Rattle.wcv_state.proofs.SlotMakers.{makes_again, makes_resource, makes_instance, makes_node}
 use Rattle.wcv_lower.specs.Given.{names_of}
 use Rattle.wcv_state.proofs.laws.an_arena_makes_what_trees_say.Goals as goal
 
@@ -11,3 +11,6 @@ returns-clause-resource c = λ a b p e f. (resource_names a p, resource_given a 
 
 pub returns-clause-node : goal.returns-clause-node
 returns-clause-node c = λ a b p n k t. (node_names a p, node_given a b p k, makes_node a b p (names_of (node_names a p)) n (node_name a p) t)
+
+pub returns-clause-instance : goal.returns-clause-instance
+returns-clause-instance c = λ a b p names i r rs own rs_are h t. makes_instance a b p names i r rs own rs_are h t

@@ -1,9 +1,10 @@
-use Rattle.std.proofs.Common.{◌≡◌, ◌+◌, sym, ◌∙◌, ap, Some, None, true, false, Bool, ◌&&◌, arith}
+use Rattle.std.proofs.Common.{◌≡◌, suc, ◌+◌, sym, ◌∙◌, ap, Some, None, true, false, Bool, ◌&&◌, arith}
 use Rattle.wcv_types.specs.NamedBySet.{handle_of}
 use Rattle.wcv_types.specs.Sets.{identities}
+use Rattle.wcv_types.specs.Standing.{StandsBefore}
 use Rattle.wcv_types.specs.Unfold.{trees}
 use Rattle.wcv_types.specs.declared.shapes.ComponentValType.TheVariants as v
-use Rattle.wcv_types.proofs.NamedBySet.{value_rank, named_itself, named_handle, named_parts, named_next, named_all, named_from, value_before, is_node}
+use Rattle.wcv_types.proofs.NamedBySet.{value_rank, named_itself, named_handle, named_parts, named_next, named_all, named_from, handle_all, value_before, is_node}
 use Rattle.wcv_types.proofs.named_types.+is_named_value.Goals as goal
 
 pub returns-then-names_itself : goal.returns-then-names_itself
@@ -14,7 +15,9 @@ returns-then-names_itself t c =
 pub returns-in-Some-handle : goal.returns-in-Some-handle
 returns-in-Some-handle t c =
     let is : c.args.ty ≡ Some (v.Ty c.in-Some.id) = is_node c.args.ty c.in-Some.id (sym c.node_of.ensures ∙ c.in-Some.is) in
-    c.contains-in-Some-handle.ensures ∙ named_handle c.args.types.now c.args.set.now c.args.ty c.in-Some.id c.get-shape.result.now is c.requires.value c.requires.set c.get-shape.ensures.unfolds c.in-Some-handle.handle (sym c.handle.ensures ∙ c.in-Some-handle.is)
+    let of : handle_of c.get-shape.result.now ≡ Some c.in-Some-handle.handle = sym c.handle.ensures ∙ c.in-Some-handle.is in
+    let stands = handle_all (StandsBefore c.args.types.now (suc c.in-Some.id.index)) c.get-shape.result.now c.in-Some-handle.handle c.get-shape.ensures.before of in
+    c.contains-in-Some-handle.ensures ∙ named_handle c.args.types.now c.args.set.now c.args.ty c.in-Some.id c.get-shape.result.now is c.requires.value c.requires.set c.get-shape.ensures.unfolds c.in-Some-handle.handle stands.stands of
 
 pub is_named_value-requires : goal.is_named_value-requires
 is_named_value-requires t c =

@@ -1,0 +1,87 @@
+-- What core items do to a context: they list no resource, and nothing is free in what they bring.
+use Rattle.std.proofs.Common.{◌≡◌, ℕ, List, [], ◌∷◌, Bool, true, false, refl, subst, Some, None, inl, inr}
+use Rattle.std.specs.Prelude.{Option, cond}
+use Rattle.std.specs.Option.{option_map}
+use Rattle.std.proofs.lemmas.List.Elements.{All-nil}
+use Rattle.wcv_core.specs.CoreForm.{Group}
+use Rattle.wcv_core.specs.CoreJoining.{group_ids, grown}
+use Rattle.wcv_core.specs.CoreWritten.{closed_group}
+use Rattle.wcv_core.specs.Names.{Name, Place, base}
+use Rattle.wcv_core.specs.declared.core_types.EntityType.{EntityType}
+use Rattle.wcv_core.specs.declared.features.WasmFeatures.{WasmFeatures}
+use Rattle.wcv_syntax.specs.Model.{Core_type_form, core_rec, core_module_type, Module_decl}
+use Rattle.wcv_syntax.specs.ModuleTypes.{Module_type, Made, written_group}
+use Rattle.wcv_types.specs.Resources.{FreeIn}
+use Rattle.wcv_types.specs.Tree.{Text, core_imports, core_exports, sub_type, none}
+use Rattle.wcv_types.proofs.Lists.{some-inj}
+use Rattle.wcv_lower.specs.Context.{Core_space, core_types, core_modules, exporting}
+use Rattle.wcv_lower.specs.CoreItems.{core_entries, is_closable, types_join, closed_step, module_joins, core_type_made, core_module_made, core_type_step, core_module_step}
+use Rattle.wcv_lower.specs.Names.{names_by_place}
+use Rattle.wcv_lower.specs.Step.{core_appends, interns, Step, change, apply}
+use Rattle.wcv_lower.specs.Trees.{Tree_stack, tree_reader, tree_maker, module_tree}
+use Rattle.wcv_lower.proofs.Bringing.{Brings, AllBring, brings_one, brings_more}
+use Rattle.wcv_link.proofs.Growing.{Ready, Does, SameLists, same-does}
+use Rattle.wcv_link.proofs.Known.{mapped-some, Fine, Within, Any, After}
+
+-- nothing is free in what a core module imports and exports
+exports-closed : (r : Name) (es : List (Text × EntityType)) → FreeIn {I = Name} r (core_exports es none) → ⊥
+exports-closed r [] x = x
+exports-closed r (e ∷ es) (inl (inl x)) = x
+exports-closed r (e ∷ es) (inl (inr x)) = x.1
+exports-closed r (e ∷ es) (inr x) = exports-closed r es x
+
+imports-closed : (r : Name) (is : List ((Text × Text) × EntityType)) (es : List (Text × EntityType)) → FreeIn {I = Name} r (core_imports is (core_exports es none)) → ⊥
+imports-closed r [] es x = exports-closed r es x
+imports-closed r (i ∷ is) es (inl (inl x)) = x
+imports-closed r (i ∷ is) es (inl (inr x)) = x.1
+imports-closed r (i ∷ is) es (inr x) = imports-closed r is es x
+
+module-closed : (P : Name → Type 0) (i : Name) (m : Module_type) → Within P (module_tree i m)
+module-closed P i m r (inl x) = absurd x
+module-closed P i m r (inr x) = absurd (imports-closed r m.imports m.exports x.1)
+
+sub-closed : (P : Name → Type 0) (i : ℕ) → Within P (sub_type i)
+sub-closed P i r (inl x) = absurd x
+sub-closed P i r (inr x) = absurd x.1
+
+types-bring : (P : Name → Type 0) (is : List ℕ) → AllBring (Fine P) Any (types_join tree_reader is)
+types-bring P [] = All-nil (Brings (Fine P) Any)
+types-bring P (i ∷ is) = brings_more (Fine P) Any (core_appends core_types (sub_type i)) (types_join tree_reader is) (sub-closed P i, tt) (types-bring P is)
+
+-- core types change no list
+types-same : (is : List ℕ) (s : Tree_stack) → SameLists s.top (apply (types_join tree_reader is) s).top
+types-same [] s = record { imported = refl; defined = refl; imports = refl; exports = refl }
+types-same (i ∷ is) s =
+    let h = types-same is (change (core_appends core_types (sub_type i)) s) in
+    record { imported = h.imported; defined = h.defined; imports = h.imports; exports = h.exports }
+
+module _ (p : Place) (s : Tree_stack) (h : Ready p s.top) where
+  closed-does : (g : Group) → Does exporting p s (closed_step tree_reader s.groups g)
+  closed-does g =
+      let x : Step tree_reader = closed_step tree_reader s.groups g in
+      let same = types-same (group_ids s.groups g) (change (interns (grown s.groups g)) s) in
+      same-does p s h x (brings_more (Fine (After x s)) Any (interns (grown s.groups g)) (types_join tree_reader (group_ids s.groups g)) tt (types-bring (After x s) (group_ids s.groups g)))
+      (record { imported = same.imported; defined = same.defined; imports = same.imports; exports = same.exports })
+
+  module-does : (k : Core_space) (o : Option Made) (x : Step tree_reader) → option_map (module_joins (tree_maker names_by_place p) k) o ≡ Some x → Does exporting p s x
+  module-does k o x e =
+      let m = mapped-some (module_joins (tree_maker names_by_place p) k) o x e in
+      subst (Does exporting p s) m.2 (joins m.0)
+    where
+      joins : (m : Made) → Does exporting p s (module_joins (tree_maker names_by_place p) k m)
+      joins m =
+          let y : Step tree_reader = module_joins (tree_maker names_by_place p) k m in
+          same-does p s h y
+          (brings_more (Fine (After y s)) Any (interns m.0) (core_appends k (module_tree (base p) m.1) ∷ []) tt (brings_one (Fine (After y s)) Any (core_appends k (module_tree (base p) m.1)) (module-closed (After y s) (base p) m.1, tt)))
+          (record { imported = refl; defined = refl; imports = refl; exports = refl })
+
+  pub core_type-does : (fs : WasmFeatures) (t : Core_type_form) (x : Step tree_reader) → core_type_step fs (tree_maker names_by_place p) s t ≡ Some x → Does exporting p s x
+  core_type-does fs (core_rec w) x e = go (is_closable s.groups (core_entries s.top) (written_group w)) e
+    where
+      go : (b : Bool) → cond b (Some (closed_step tree_reader s.groups (closed_group (core_entries s.top) (written_group w)))) None ≡ Some x → Does exporting p s x
+      go true k = subst (Does exporting p s) (some-inj k) (closed-does (closed_group (core_entries s.top) (written_group w)))
+      go false k = cc
+  core_type-does fs (core_module_type ds) x e = module-does core_types (core_type_made fs s (core_module_type ds)) x e
+
+  pub core_module-does : (fs : WasmFeatures) (ds : List Module_decl) (x : Step tree_reader) → core_module_step fs (tree_maker names_by_place p) s ds ≡ Some x → Does exporting p s x
+  core_module-does fs ds x e = module-does core_modules (core_module_made fs s ds) x e

@@ -1,0 +1,185 @@
+-- The states that are open, before and after an item in the innermost of them.
+use Rattle.std.proofs.Common.{◌≡◌, ℕ, ◌<◌, ◌-◌, List, [], ◌∷◌, ◌++◌, length, refl, sym, ◌∙◌, ap, subst, arith, slice_set, slice_index_or, true, false, cond}
+use Rattle.wcv_core.specs.Names.{Place}
+use Rattle.wcv_core.specs.Refusal.{error_kind, error_offset}
+use Rattle.wcv_core.specs.declared.error.Error.{Error}
+use Rattle.wcv_syntax.specs.Built.{is_built_type}
+use Rattle.wcv_syntax.specs.Model.{Form, Core_type_form, core_type_item, Type_form, type_item}
+use Rattle.wcv_types.specs.Arena.{Arena}
+use Rattle.wcv_types.proofs.Grown.{extends_refl}
+use Rattle.wcv_lower.specs.Checks.{IsFree}
+use Rattle.wcv_lower.specs.Declared.{declared_left}
+use Rattle.wcv_lower.specs.Given.{names_of}
+use Rattle.wcv_lower.specs.Growth.{left_checks, unbuilt}
+use Rattle.wcv_lower.specs.Names.{Under}
+use Rattle.wcv_lower.specs.Owned.{IsCalm}
+use Rattle.wcv_lower.specs.Trees.{Tree_context, tree_maker}
+use Rattle.wcv_lower.proofs.CalmGrowth.{calm_grows}
+use Rattle.wcv_state.specs.Contents.{Contents, context_of, stack_of}
+use Rattle.wcv_state.specs.Promises.{MemoryOrCausedBy, numbers_of, Keeps}
+use Rattle.wcv_decls.specs.Declaring.{innermost, around}
+use Rattle.wcv_decls.specs.Stack.{IsOpen, AreCalm, ChangesLast, stay, contexts_around, stack_on, GrewOn, RefusedOn, DeclaresOn, RefusesOn, KeepsOn}
+use Rattle.wcv_decls.proofs.InnermostStates.{innermost_at, indexed, calm_all, open_here, open_around, outer_contexts, stays, last_changed}
+use Rattle.wcv_decls.proofs.Plain.{own_given}
+use Rattle.wcv_decls.proofs.ReadingOn.{grown_numbers, extends_on, innermost_kept}
+use Rattle.wcv_decls.proofs.SimpleDecls as simple
+use Rattle.wcv_decls.proofs.Stacks.{around_same}
+use Rattle.wcv_link.specs.Progress.{IsReady, RefusedAt, TakesItem, TakenOn, AcceptsItem, RefusesItem, LeavesItem, AllMayOpen}
+use Rattle.wcv_link.proofs.Steps.{OneStep, one_step, grew_here, step_refused, type_grew, type_caused, type_left_caused, caused_same_at}
+
+-- lists that end alike
+pub same_end : {X : Type 0} (xs ys : List X) (x y : X) → xs ++ x ∷ [] ≡ ys ++ y ∷ [] → (xs ≡ ys) × (x ≡ y)
+same_end [] [] x y e = (refl, cc)
+same_end [] (z ∷ []) x y e = absurd (omega (arith, ap length e))
+same_end [] (z ∷ w ∷ ys) x y e = absurd (omega (arith, ap length e))
+same_end (z ∷ []) [] x y e = absurd (omega (arith, ap length e))
+same_end (z ∷ w ∷ xs) [] x y e = absurd (omega (arith, ap length e))
+same_end (z ∷ xs) (w ∷ ys) x y e =
+    let h : z ≡ w = cc in
+    let t : xs ++ x ∷ [] ≡ ys ++ y ∷ [] = cc in
+    let r = same_end xs ys x y t in
+    ((λ j. h j ∷ r.0 j), r.1)
+
+-- ## The innermost, as it is looked up
+
+is_innermost : (ss : List Contents) (k : ℕ) (s : Contents) → 0 < length ss → k ≡ length ss - 1 → s ≡ slice_index_or ss k s → s ≡ innermost ss
+is_innermost ss k s h e i = i ∙ indexed ss k s h e
+
+module _ (a : Arena) (ss : List Contents) (k : ℕ) (s : Contents) (e : k ≡ length ss - 1) (i : s ≡ slice_index_or ss k s) (h : IsReady a ss) where
+  pub last_open : IsOpen a s
+  last_open = subst (IsOpen a) (sym (is_innermost ss k s h.some e i)) (open_here a ss h.some h.usable)
+
+  -- an instance may be made of each instance type in it
+  pub last_may_open : AllMayOpen a s
+  last_may_open r =
+      let was : ss ≡ around ss ++ s ∷ [] = (last_changed ss k s s h.some e (is_innermost ss k s h.some e i)).was in
+      simple.may_open a (contexts_around a (around ss)) s r last_open.stands (h.calm (around ss) s was)
+
+-- ## An item that the innermost took
+
+module _ (a b : Arena) (ss ss' : List Contents) (h : IsReady a ss) (f : Form) (taken : (p : Place) → TakenOn a b p ss ss' f) where
+  abbrev last : ChangesLast stay ss ss'
+  last = (taken []).last
+
+  module _ (keeps : Keeps a b last.old last.new) (live : last.new.spent ≡ false) where
+    -- the states may be used further
+    accepts_so : IsCalm (numbers_of b) (stack_of b last.new (outer_contexts a b ss ss' last)) → AcceptsItem a b ss ss' f
+    accepts_so calm =
+        let r = (stays a b ss ss' last h.usable keeps live calm).ready in
+        record { taken = taken; ready = record { some = r.some; usable = r.each; calm = calm_all b ss' r.calm }; arena = keeps.arena }
+
+    -- what is read in one step leaves them calm
+    pub accepts_step : OneStep f → AcceptsItem a b ss ss' f
+    accepts_step one =
+        let g = (taken []).grew in
+        accepts_so
+        (calm_grows (Under []) (numbers_of a) (numbers_of b) g.names [] (stack_on a last.outer last.old) (grown_numbers a b keeps.arena) g.given (h.calm last.outer last.old last.was)
+        last.old.features (stack_of b last.new (outer_contexts a b ss ss' last)) f (own_given b last.new keeps.stands)
+        (sym (one.read last.old.features (tree_maker (names_of g.names)) [] (stack_on a last.outer last.old)) ∙ g.grown))
+
+    -- a type is said to
+    pub accepts_calm : AreCalm b ss' → AcceptsItem a b ss ss' f
+    accepts_calm calm = accepts_so (subst (λ (cs : List Tree_context). IsCalm (numbers_of b) (stack_of b last.new cs)) (taken []).around (calm last.outer last.new last.becomes))
+
+-- a state took it
+module _ (a b : Arena) (ss : List Contents) (k : ℕ) (s s' : Contents) (e : k ≡ length ss - 1) (i : s ≡ slice_index_or ss k s) (h : IsReady a ss) (f : Form) (one : OneStep f) (w : TakesItem a b s s' f) where
+  abbrev taken_last : (p : Place) → TakenOn a b p ss (slice_set ss k s') f
+  taken_last p = record {
+    last = last_changed ss k s s' h.some e (is_innermost ss k s h.some e i);
+    around = around_same a b w.keeps.arena (around ss) (open_around a ss h.some h.usable);
+    grew = w.grew (contexts_around a (around ss)) p;
+    features = w.keeps.features;
+  }
+
+  pub accepts_last : AcceptsItem a b ss (slice_set ss k s') f
+  accepts_last = accepts_step a b ss (slice_set ss k s') h f taken_last w.keeps w.live one
+
+-- a state left it
+pub refuses_last : {M : Type 0} (a b : Arena) (ss : List Contents) (k : ℕ) (s : Contents) (e : k ≡ length ss - 1) (some : 0 < length ss) (i : s ≡ slice_index_or ss k s) (f : Form) (offset : ℕ) (x : Error M) →
+    LeavesItem a b s f offset x → RefusesItem a b ss f offset x
+refuses_last a b ss k s e some i f offset x w = record {
+  refused = λ outer t g p.
+      let same : s ≡ t = is_innermost ss k s some e i ∙ ap innermost g ∙ innermost_at outer t in
+      subst (λ (y : Contents). RefusedAt a b (contexts_around a outer) y f p offset x) same (w.refused (contexts_around a outer) p);
+  arena = w.arena;
+}
+
+-- ## Types and core types
+
+module _ (a b : Arena) (ss ss' : List Contents) (h : IsReady a ss) (keeps : KeepsOn a b ss ss') where
+  kept_last : (last : ChangesLast stay ss ss') → Keeps a b last.old last.new
+  kept_last last =
+      subst (λ (s : Contents). Keeps a b s last.new) (ap innermost last.was ∙ innermost_at last.outer last.old)
+      (subst (Keeps a b (innermost ss)) (ap innermost last.becomes ∙ innermost_at last.outer last.new) (innermost_kept a b ss ss' h.some keeps))
+
+  -- a core type was taken
+  module _ (t : Core_type_form) (left : (s : Contents) → IsFree (left_checks (context_of a s) (core_type_item t))) (grew : (p : Place) → GrewOn a b p ss ss' (core_type_item t)) where
+    abbrev core_taken : (p : Place) → TakenOn a b p ss ss' (core_type_item t)
+    core_taken p =
+        let g = grew p in
+        record {
+          last = g.last;
+          around = g.around;
+          grew = grew_here a b g.last.old g.last.new (core_type_item t) (one_step (core_type_item t) refl) (contexts_around a g.last.outer) p refl (left g.last.old) g.grew;
+          features = (kept_last g.last).features;
+        }
+
+    pub accepts_core : AcceptsItem a b ss ss' (core_type_item t)
+    accepts_core = accepts_step a b ss ss' h (core_type_item t) core_taken (kept_last (grew []).last) (grew []).grew.live (one_step (core_type_item t) refl)
+
+  -- a type was
+  module _ (t : Type_form) (built : is_built_type t ≡ true) (left : IsFree (declared_left t)) (declares : (p : Place) → DeclaresOn true a b p ss ss' t) where
+    abbrev type_taken : (p : Place) → TakenOn a b p ss ss' (type_item t)
+    type_taken p =
+        let g = declares p in
+        record {
+          last = g.last;
+          around = g.around;
+          grew = type_grew a b (contexts_around a g.last.outer) p g.last.old t g.last.new built left g.declared;
+          features = (kept_last g.last).features;
+        }
+
+    pub accepts_type : AreCalm b ss' → AcceptsItem a b ss ss' (type_item t)
+    accepts_type calm = accepts_calm a b ss ss' h (type_item t) type_taken (kept_last (declares []).last) (declares []).declared.live calm
+
+-- the innermost is the same state
+same_innermost : {M : Type 0} (a b : Arena) (ss : List Contents) (f : Form) (p : Place) (offset : ℕ) (x : Error M) (outer outer' : List Contents) (s s' : Contents) → ss ≡ outer ++ s ∷ [] → ss ≡ outer' ++ s' ∷ [] →
+    RefusedAt a b (contexts_around a outer) s f p offset x → RefusedAt a b (contexts_around a outer') s' f p offset x
+same_innermost a b ss f p offset x outer outer' s s' e e' w =
+    let r = same_end outer outer' s s' (sym e ∙ e') in
+    subst (λ (y : Contents). RefusedAt a b (contexts_around a outer') y f p offset x) r.1 (subst (λ (os : List Contents). RefusedAt a b (contexts_around a os) s f p offset x) r.0 w)
+
+module _ {M : Type 0} (a b : Arena) (ss ss' : List Contents) (some : 0 < length ss) (keeps : KeepsOn a b ss ss') (offset : ℕ) (x : Error M) where
+  pub refuses_core : (t : Core_type_form) → ((p : Place) → RefusedOn a b p ss ss' (core_type_item t) offset x) → RefusesItem a b ss (core_type_item t) offset x
+  refuses_core t w = record {
+    refused = λ outer s e p.
+        let r = w p in
+        same_innermost a b ss (core_type_item t) p offset x r.last.outer outer r.last.old s r.last.was e
+        (step_refused a b r.last.old (core_type_item t) (one_step (core_type_item t) refl) offset x (contexts_around a r.last.outer) p r.refused.1);
+    arena = extends_on a b ss ss' some keeps;
+  }
+
+  pub refuses_type : (t : Type_form) → ((p : Place) → RefusesOn true a b p ss ss' t offset x) → RefusesItem a b ss (type_item t) offset x
+  refuses_type t w = record {
+    refused = λ outer s e p.
+        let r = w p in
+        same_innermost a b ss (type_item t) p offset x r.last.outer outer r.last.old s r.last.was e (type_caused a b (contexts_around a r.last.outer) p r.last.old t offset x r.caused);
+    arena = extends_on a b ss ss' some keeps;
+  }
+
+-- ## Refusals before the call
+
+module _ {M : Type 0} (a : Arena) (ss : List Contents) (offset : ℕ) (x : Error M) where
+  -- whatever state is the innermost
+  pub refuses_left : (f : Form) → ((s : Contents) → LeavesItem a a s f offset x) → RefusesItem a a ss f offset x
+  refuses_left f w = record { refused = λ outer s e p. (w s).refused (contexts_around a outer) p; arena = extends_refl a }
+
+  -- so of a type
+  pub refuses_type_left : (t : Type_form) → MemoryOrCausedBy (cond (is_built_type t) (declared_left t) unbuilt) offset x → RefusesItem a a ss (type_item t) offset x
+  refuses_type_left t w = record { refused = λ outer s e p. type_left_caused a a (contexts_around a outer) p s t offset x w; arena = extends_refl a }
+
+-- ## Messages
+
+-- another error of that kind and that offset is as good a refusal
+pub refused_same : {M N : Type 0} (a b : Arena) (ss : List Contents) (f : Form) (offset : ℕ) (e : Error M) (x : Error N) → error_kind x ≡ error_kind e → error_offset x ≡ error_offset e → RefusesItem a b ss f offset e → RefusesItem a b ss f offset x
+refused_same a b ss f offset e x k o r = record { refused = λ outer s w p. caused_same_at a b (contexts_around a outer) s f p offset e x k o (r.refused outer s w p); arena = r.arena }

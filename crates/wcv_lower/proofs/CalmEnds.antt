@@ -1,0 +1,128 @@
+-- A stack stays calm where a declared type ends: what the type owns its context had, so no other type owns it and no other context has it.
+use Rattle.std.proofs.Common.{◌≡◌, ℕ, zero, suc, List, [], ◌∷◌, map, refl, sym, subst, arith, suc-ne-zero, Bool, true, false, cond, ◌||◌, ◌⊎◌, inl, inr, Some, None}
+use Rattle.std.specs.Prelude.{Option, All}
+use Rattle.std.specs.Option.{option_map}
+use Rattle.std.proofs.lemmas.Bool.{or_cases}
+use Rattle.wcv_core.specs.Names.{Name, Place, number, same, member}
+use Rattle.wcv_core.specs.declared.core_types.ValType.{ValType}
+use Rattle.wcv_types.specs.Tree.{import, export, Parts, none, firsts, entries}
+use Rattle.wcv_types.specs.Unfold.{Type_tree}
+use Rattle.wcv_types.proofs.Lists.{some-inj}
+use Rattle.wcv_lower.specs.Context.{Kind, concrete, declares_instance, declares_component, importing, exporting, in_types}
+use Rattle.wcv_lower.specs.Declared.{around, ended}
+use Rattle.wcv_lower.specs.Ending.{is_free_among, any_free, keep, kept, component_of, component_made, declared_made}
+use Rattle.wcv_lower.specs.Given.{Numbers}
+use Rattle.wcv_lower.specs.Names.{Names, introduced}
+use Rattle.wcv_lower.specs.Owned.{OwnsNot, OwnApart, AllEntries, IsOwn, IsCalm}
+use Rattle.wcv_lower.specs.Readers.{Named, New_node, func_node, defined_node, module_node, instance_node, component_node}
+use Rattle.wcv_lower.specs.Step.{appends, apply}
+use Rattle.wcv_lower.specs.Trees.{tree_reader, Tree_context, Tree_stack, tree_maker, node_tree, type_entry}
+use Rattle.wcv_lower.specs.Types.{added}
+use Rattle.wcv_lower.proofs.Bringing.{OfAny, of_some, any_mapped, any_then, brings_one}
+use Rattle.wcv_lower.proofs.Calm.{IsLate, not_both, own_given, stood, calm_around, IsGentle, calm_applied}
+use Rattle.wcv_lower.proofs.CalmGrowth.{map-some}
+use Rattle.wcv_lower.proofs.DeclaredLaws.{then-some}
+use Rattle.wcv_lower.proofs.Given.{or_left, or_right, not_so}
+use Rattle.wcv_lower.proofs.Members.{firsts_map, imported_own, defined_own}
+use Rattle.wcv_lower.proofs.Owning.{Inherited, owns_not_inherited, own_apart_inherited, entry_has, entries_have}
+
+-- ## The node at an end
+
+-- what it owns its context has, and its parts are the sides of that
+abbrev Ends : Tree_context → New_node tree_reader → Type 0
+Ends c (instance_node own es) = ((r : Name) → member r own ≡ true → IsOwn c r) × (es ≡ c.side exporting)
+Ends c (component_node ins outs es es') = ((r : Name) → (member r (firsts ins) || member r (firsts outs)) ≡ true → IsOwn c r) × (es ≡ c.side importing) × (es' ≡ c.side exporting)
+Ends c (func_node b ps) = ⊥
+Ends c (defined_node k ps) = ⊥
+Ends c (module_node m) = ⊥
+
+-- the kept resources are some of the defined ones
+abbrev AreSomeOf : List (Name × Option ValType) → List (Name × List ℕ) → Type 0
+AreSomeOf ds ks = (r : Name) → member r (firsts ks) ≡ true → member r (map (λ d. d.0) ds) ≡ true
+
+keep_some : (d : Name × Option ValType) (ds : List (Name × Option ValType)) (es : Named tree_reader) (ks : List (Name × List ℕ)) → AreSomeOf ds ks → OfAny (AreSomeOf (d ∷ ds)) (keep tree_reader d.0 es ks)
+keep_some d ds es ks h = go (is_free_among tree_reader d.0 es) (tree_reader.first_path d.0 es)
+  where
+    go : (b : Bool) (o : Option (List ℕ)) → OfAny (AreSomeOf (d ∷ ds)) (cond b (option_map (λ p. (d.0, p) ∷ ks) o) (Some ks))
+    go true None = tt
+    go true (Some p) = λ r e. one r (or_cases (same r d.0) (member r (firsts ks)) e)
+      where
+        one : (r : Name) → (same r d.0 ≡ true) ⊎ (member r (firsts ks) ≡ true) → member r (map (λ d. d.0) (d ∷ ds)) ≡ true
+        one r (inl x) = or_left (same r d.0) (member r (map (λ d. d.0) ds)) x
+        one r (inr x) = or_right (same r d.0) (member r (map (λ d. d.0) ds)) (h r x)
+    go false o = λ r e. or_right (same r d.0) (member r (map (λ d. d.0) ds)) (h r e)
+
+kept_some : (ds : List (Name × Option ValType)) (es : Named tree_reader) → OfAny (AreSomeOf ds) (kept tree_reader ds es)
+kept_some [] es = λ r e. e
+kept_some (d ∷ ds) es = any_then (AreSomeOf ds) (AreSomeOf (d ∷ ds)) (keep tree_reader d.0 es) (keep_some d ds es) (kept tree_reader ds es) (kept_some ds es)
+
+component_ends : (c : Tree_context) → OfAny (Ends c) (component_made c)
+component_ends c = go (any_free tree_reader c.defined (c.side importing))
+  where
+    owned : (ds : List (Name × List ℕ)) → AreSomeOf c.defined ds → (r : Name) → (member r (firsts c.imported) || member r (firsts ds)) ≡ true → IsOwn c r
+    owned ds h r e = one (or_cases (member r (firsts c.imported)) (member r (firsts ds)) e)
+      where
+        one : (member r (firsts c.imported) ≡ true) ⊎ (member r (firsts ds) ≡ true) → IsOwn c r
+        one (inl x) = imported_own c r (subst (λ (rs : List Name). member r rs ≡ true) (firsts_map c.imported) x)
+        one (inr x) = defined_own c r (h r x)
+
+    go : (b : Bool) → OfAny (Ends c) (cond b None (option_map (component_of c) (kept tree_reader c.defined (c.side exporting))))
+    go true = tt
+    go false = any_mapped (AreSomeOf c.defined) (Ends c) (component_of c) (λ ds h. (owned ds h, refl, refl)) (kept tree_reader c.defined (c.side exporting)) (kept_some c.defined (c.side exporting))
+
+node_ends : (k : Kind) (c : Tree_context) → OfAny (Ends c) (declared_made k c)
+node_ends declares_instance c = ((λ r e. defined_own c r e), refl)
+node_ends declares_component c = component_ends c
+node_ends concrete c = component_ends c
+
+-- ## What it owns
+
+module _ {P : Type_tree → Type 0} {In : Parts Name Name → Type 0} (law : Inherited P In) (c : Tree_context) (all : AllEntries P c) where
+  pub exports_in_it : (es : Named tree_reader) → es ≡ c.side exporting → In (entries export es none)
+  exports_in_it es e = entries_have law export es none (subst (All (λ x. P x.1)) (sym e) (all.side exporting)) law.none_in
+
+  pub sides_in_it : (es es' : Named tree_reader) → es ≡ c.side importing → es' ≡ c.side exporting → In (entries import es (entries export es' none))
+  sides_in_it es es' e f = entries_have law import es (entries export es' none) (subst (All (λ x. P x.1)) (sym e) (all.side importing)) (exports_in_it es' f)
+
+module _ (c : Tree_context) (i : Name) where
+  -- none but its context's
+  end_spares : (r : Name) → (IsOwn c r → ⊥) → AllEntries (OwnsNot r) c → (n : New_node tree_reader) → Ends c n → OwnsNot r (node_tree i n)
+  end_spares r foreign all (instance_node own es) w = (not_so (member r own) (λ e. foreign (w.0 r e)), exports_in_it (owns_not_inherited r) c all es w.1)
+  end_spares r foreign all (component_node ins outs es es') w = (not_so (member r (firsts ins) || member r (firsts outs)) (λ e. foreign (w.0 r e)), sides_in_it (owns_not_inherited r) c all es es' w.1 w.2)
+  end_spares r foreign all (func_node b ps) w = absurd w
+  end_spares r foreign all (defined_node k ps) w = absurd w
+  end_spares r foreign all (module_node m) w = absurd w
+
+  end_apart : ((r : Name) → IsOwn c r → AllEntries (OwnsNot r) c) → AllEntries OwnApart c → (n : New_node tree_reader) → Ends c n → OwnApart (node_tree i n)
+  end_apart spared all (instance_node own es) w = ((λ r e. exports_in_it (owns_not_inherited r) c (spared r (w.0 r e)) es w.1), exports_in_it own_apart_inherited c all es w.1)
+  end_apart spared all (component_node ins outs es es') w =
+      ((λ r e. sides_in_it (owns_not_inherited r) c (spared r (w.0 r e)) es es' w.1 w.2), sides_in_it own_apart_inherited c all es es' w.1 w.2)
+  end_apart spared all (func_node b ps) w = absurd w
+  end_apart spared all (defined_node k ps) w = absurd w
+  end_apart spared all (module_node m) w = absurd w
+
+-- ## The end
+
+module _ (a : Numbers) (names : Names) (p : Place) (u t : Tree_stack) (h : IsCalm a u) (w : around u ≡ Some t) where
+  abbrev entry : New_node tree_reader → Type_tree
+  entry n = type_entry (node_tree (names.identity (introduced p)) n)
+
+  ending : (n : New_node tree_reader) → Ends u.top n → IsGentle a t (added {X = tree_reader} (tree_maker names p) n)
+  ending n e = record {
+    apart = brings_one OwnApart (IsLate a) (appends in_types (entry n)) (entry_has own_apart_inherited _ (end_apart u.top (names.identity (introduced p)) (λ r o. h.spared zero u.top r refl o zero u.top refl) (h.apart zero u.top refl) n e));
+    spared = λ j c r f o. brings_one (OwnsNot r) (IsLate a) (appends in_types (entry n))
+        (entry_has (owns_not_inherited r) _ (end_spares u.top (names.identity (introduced p)) r (λ q. suc-ne-zero j (h.differ (suc j) zero c u.top r (stood u t w j c f) refl o q)) (h.spared (suc j) c r (stood u t w j c f) o zero u.top refl) n e));
+    late = λ k l. brings_one (OwnsNot (number k)) (IsLate a) (appends in_types (entry n))
+        (entry_has (owns_not_inherited (number k)) _ (end_spares u.top (names.identity (introduced p)) (number k) (λ q. not_both a (number k) (own_given a u h zero u.top (number k) refl q) l) (h.late k l zero u.top refl) n e));
+  }
+
+  closed_calm : (n : New_node tree_reader) → Ends u.top n → IsCalm a (apply (added {X = tree_reader} (tree_maker names p) n) t)
+  closed_calm n e =
+      let c = calm_around u t w a h in
+      calm_applied a a t (added {X = tree_reader} (tree_maker names p) n) (record { resources = omega arith; nodes = omega arith; stamps = omega arith }) c (ending n e) (c.given zero t.top refl)
+
+pub calm_ended : (a : Numbers) (k : Kind) (names : Names) (p : Place) (u v : Tree_stack) → IsCalm a u → ended k (tree_maker names p) u ≡ Some v → IsCalm a v
+calm_ended a k names p u v h e =
+    let t = then-some (λ t. option_map (λ n. apply (added (tree_maker names p) n) t) (declared_made k u.top)) (around u) v e in
+    let n = map-some (λ n. apply (added {X = tree_reader} (tree_maker names p) n) t.0) (declared_made k u.top) v t.2 in
+    subst (IsCalm a) (some-inj n.2) (closed_calm a names p u t.0 h t.1 n.0 (of_some (Ends u.top) (declared_made k u.top) n.0 (node_ends k u.top) n.1))

@@ -1,0 +1,320 @@
+-- What a type owns, inside and out, and what it becomes when it is made again: a property of trees that goes down to parts.
+use Rattle.std.proofs.Common.{◌≡◌, List, [], ◌∷◌, refl, sym, ◌∙◌, ap, subst, Bool, true, false, ◌||◌, Some, None}
+use Rattle.std.specs.Prelude.{Option, All}
+use Rattle.std.proofs.lemmas.Bool.{false≢true}
+use Rattle.std.proofs.lemmas.List.Elements.{All-head, All-tail}
+use Rattle.wcv_core.specs.Names.{Name, Place, same, member}
+use Rattle.wcv_core.proofs.Names.{same-refl}
+use Rattle.wcv_core.specs.declared.core_types.EntityType.{EntityType}
+use Rattle.wcv_syntax.specs.ModuleTypes.{Module_type}
+use Rattle.wcv_types.specs.Identity.{Identity, identity_at}
+use Rattle.wcv_types.specs.Replacing.{Replacement, given_at, given_or, moves, changed_in, new_head, replaced, replaced_in}
+use Rattle.wcv_types.specs.Resources.{owns}
+use Rattle.wcv_types.specs.Tree as tree
+use Rattle.wcv_types.specs.Tree.{Text, Extern_name, Role, Head, nothing, primitive, resource, defined, func, instance, component, type_entity, core_module, core_instance, core_type, core_item, here, export, import, node, Parts, none, part, first_part, rest_parts, parts, type_of, owned_at, entries, core_imports, core_exports}
+use Rattle.wcv_types.specs.Unfold.{Type_tree, capped}
+use Rattle.wcv_lower.specs.Names.{Names, introduced, stamp_at}
+use Rattle.wcv_lower.specs.NewTypes.{type_entry, renewed_head, renewed, new_reference, owned_anew, instance_tree}
+use Rattle.wcv_lower.specs.Owned.{OwnsNot, OwnsNotIn, OwnsApart, OwnApart, OwnApartIn, IsOnce, OwnsOnce, OwnsOnceIn}
+use Rattle.wcv_lower.specs.Readers.{New_node, func_node, defined_node, module_node, instance_node, component_node}
+use Rattle.wcv_lower.proofs.Given.{or_left}
+use Rattle.wcv_lower.specs.Trees.{created, referenced, tree_parts, module_tree, node_tree, tree_reader}
+
+-- A property of trees that their parts have, and trees whose nodes own the same, or nothing.
+pub record Inherited (P : Type_tree → Type 0) (In : Parts Name Name → Type 0) : Type 0 where
+  pub none_in : In none
+  pub part_in : (k : Role) (t : Type_tree) (ps : Parts Name Name) → P t → In ps → In (part k t ps)
+  pub first : (k : Role) (t : Type_tree) (ps : Parts Name Name) → In (part k t ps) → P t
+  pub rest : (k : Role) (t : Type_tree) (ps : Parts Name Name) → In (part k t ps) → In ps
+  pub inner : (h : Head Name Name) (ps : Parts Name Name) → P (node h ps) → In ps
+  pub bare : (h : Head Name Name) (ps : Parts Name Name) → ((r : Name) → owns h r ≡ false) → In ps → P (node h ps)
+  pub alike : (h g : Head Name Name) (ps : Parts Name Name) → ((r : Name) → owns g r ≡ owns h r) → owned_at g ≡ owned_at h → P (node h ps) → P (node g ps)
+  pub again : (m : Replacement) → ((i : Identity) → m.nodes i ≡ None) → (t : Type_tree) → P t → P (replaced m t)
+
+-- ## Where resources are replaced
+
+head_owns : (m : Replacement) (b : Bool) (h : Head Name Name) (r : Name) → owns (new_head m b h) r ≡ owns h r
+head_owns m b (resource q s) r = refl
+head_owns m b nothing r = refl
+head_owns m b (primitive p) r = refl
+head_owns m b type_entity r = refl
+head_owns m true (defined i k) r = refl
+head_owns m true (func i k) r = refl
+head_owns m true (instance i own) r = refl
+head_owns m true (component i ins outs) r = refl
+head_owns m true (core_module i k) r = refl
+head_owns m true (core_instance i k) r = refl
+head_owns m true (core_type i) r = refl
+head_owns m true (core_item x) r = refl
+head_owns m false (defined i k) r = refl
+head_owns m false (func i k) r = refl
+head_owns m false (instance i own) r = refl
+head_owns m false (component i ins outs) r = refl
+head_owns m false (core_module i k) r = refl
+head_owns m false (core_instance i k) r = refl
+head_owns m false (core_type i) r = refl
+head_owns m false (core_item x) r = refl
+
+head_owned : (m : Replacement) (b : Bool) (h : Head Name Name) → owned_at (new_head m b h) ≡ owned_at h
+head_owned m b (resource q s) = refl
+head_owned m b nothing = refl
+head_owned m b (primitive p) = refl
+head_owned m b type_entity = refl
+head_owned m true (defined i k) = refl
+head_owned m true (func i k) = refl
+head_owned m true (instance i own) = refl
+head_owned m true (component i ins outs) = refl
+head_owned m true (core_module i k) = refl
+head_owned m true (core_instance i k) = refl
+head_owned m true (core_type i) = refl
+head_owned m true (core_item x) = refl
+head_owned m false (defined i k) = refl
+head_owned m false (func i k) = refl
+head_owned m false (instance i own) = refl
+head_owned m false (component i ins outs) = refl
+head_owned m false (core_module i k) = refl
+head_owned m false (core_instance i k) = refl
+head_owned m false (core_type i) = refl
+head_owned m false (core_item x) = refl
+
+module _ (m : Replacement) (plain : (i : Identity) → m.nodes i ≡ None) where
+  none_given : (h : Head Name Name) → given_at m h ≡ None
+  none_given h = go (identity_at h)
+    where
+      go : (o : Option Identity) → elim o as (λ o. Option Type_tree) [ None ↦ None | Some i ↦ m.nodes i ] ≡ None
+      go None = refl
+      go (Some i) = plain i
+
+  -- the tree as it is where no node is given
+  abbrev rebuilt : Head Name Name → Parts Name Name → Type_tree
+  rebuilt h ps = node (new_head m (moves m h || changed_in m ps) h) (replaced_in m ps)
+
+  as_rebuilt : (h : Head Name Name) (ps : Parts Name Name) → replaced m (node h ps) ≡ rebuilt h ps
+  as_rebuilt h ps = ap (λ (o : Option Type_tree). given_or o (rebuilt h ps)) (none_given h)
+
+  rebuilt_owns : (h : Head Name Name) (ps : Parts Name Name) (r : Name) → owns (new_head m (moves m h || changed_in m ps) h) r ≡ owns h r
+  rebuilt_owns h ps r = head_owns m (moves m h || changed_in m ps) h r
+
+  mutual
+    owns_not-replaced : (r : Name) (t : Type_tree) → OwnsNot r t → OwnsNot r (replaced m t)
+    owns_not-replaced r (node h ps) w = subst (OwnsNot r) (sym (as_rebuilt h ps)) (rebuilt_owns h ps r ∙ w.0, owns_not_in-replaced r ps w.1)
+
+    owns_not_in-replaced : (r : Name) (ps : Parts Name Name) → OwnsNotIn r ps → OwnsNotIn r (replaced_in m ps)
+    owns_not_in-replaced r none w = tt
+    owns_not_in-replaced r (part k t ps) w = (owns_not-replaced r t w.0, owns_not_in-replaced r ps w.1)
+
+  mutual
+    own_apart-replaced : (t : Type_tree) → OwnApart t → OwnApart (replaced m t)
+    own_apart-replaced (node h ps) w =
+        subst OwnApart (sym (as_rebuilt h ps)) ((λ r e. owns_not_in-replaced r ps (w.0 r (sym (rebuilt_owns h ps r) ∙ e))), own_apart_in-replaced ps w.1)
+
+    own_apart_in-replaced : (ps : Parts Name Name) → OwnApartIn ps → OwnApartIn (replaced_in m ps)
+    own_apart_in-replaced none w = tt
+    own_apart_in-replaced (part k t ps) w = (own_apart-replaced t w.0, own_apart_in-replaced ps w.1)
+
+  mutual
+    owns_once-replaced : (t : Type_tree) → OwnsOnce t → OwnsOnce (replaced m t)
+    owns_once-replaced (node h ps) w = subst OwnsOnce (sym (as_rebuilt h ps)) (subst IsOnce (sym (head_owned m (moves m h || changed_in m ps) h)) w.0, owns_once_in-replaced ps w.1)
+
+    owns_once_in-replaced : (ps : Parts Name Name) → OwnsOnceIn ps → OwnsOnceIn (replaced_in m ps)
+    owns_once_in-replaced none w = tt
+    owns_once_in-replaced (part k t ps) w = (owns_once-replaced t w.0, owns_once_in-replaced ps w.1)
+
+-- ## The properties
+
+pub owns_not_inherited : (r : Name) → Inherited (OwnsNot r) (OwnsNotIn r)
+owns_not_inherited r = record {
+  none_in = tt;
+  part_in = λ k t ps x y. (x, y);
+  first = λ k t ps w. w.0;
+  rest = λ k t ps w. w.1;
+  inner = λ h ps w. w.1;
+  bare = λ h ps e w. (e r, w);
+  alike = λ h g ps e f w. (e r ∙ w.0, w.1);
+  again = λ m plain t w. owns_not-replaced m plain r t w;
+}
+
+pub own_apart_inherited : Inherited OwnApart OwnApartIn
+own_apart_inherited = record {
+  none_in = tt;
+  part_in = λ k t ps x y. (x, y);
+  first = λ k t ps w. w.0;
+  rest = λ k t ps w. w.1;
+  inner = λ h ps w. w.1;
+  bare = λ h ps e w. ((λ r o. absurd (false≢true (sym (e r) ∙ o))), w);
+  alike = λ h g ps e f w. ((λ r o. w.0 r (sym (e r) ∙ o)), w.1);
+  again = λ m plain t w. own_apart-replaced m plain t w;
+}
+
+none_once : (h : Head Name Name) → ((r : Name) → owns h r ≡ false) → IsOnce (owned_at h)
+none_once (instance i []) e = tt
+none_once (instance i (x ∷ xs)) e = absurd (false≢true (sym (e x) ∙ or_left (same x x) (member x xs) (same-refl x)))
+none_once (resource q s) e = tt
+none_once nothing e = tt
+none_once (primitive q) e = tt
+none_once (defined i k) e = tt
+none_once (func i b) e = tt
+none_once (component i ins outs) e = tt
+none_once type_entity e = tt
+none_once (core_module i n) e = tt
+none_once (core_instance i n) e = tt
+none_once (core_type i) e = tt
+none_once (core_item x) e = tt
+
+pub owns_once_inherited : Inherited OwnsOnce OwnsOnceIn
+owns_once_inherited = record {
+  none_in = tt;
+  part_in = λ k t ps x y. (x, y);
+  first = λ k t ps w. w.0;
+  rest = λ k t ps w. w.1;
+  inner = λ h ps w. w.1;
+  bare = λ h ps e w. (none_once h e, w);
+  alike = λ h g ps e f w. (subst IsOnce (sym f) w.0, w.1);
+  again = λ m plain t w. owns_once-replaced m plain t w;
+}
+
+pub apart_outside : (t : Type_tree) → OwnApart t → OwnsApart t
+apart_outside (node h ps) w = w.0
+
+-- ## What is made of trees that have it
+
+module _ {P : Type_tree → Type 0} {In : Parts Name Name → Type 0} (law : Inherited P In) where
+  pub leaf_has : (h : Head Name Name) → ((r : Name) → owns h r ≡ false) → P (node h none)
+  leaf_has h e = law.bare h none e law.none_in
+
+  pub first_has : (ps : Parts Name Name) → In ps → P (first_part ps)
+  first_has none w = leaf_has nothing (λ r. refl)
+  first_has (part k t ps) w = law.first k t ps w
+
+  rest_has : (ps : Parts Name Name) → In ps → In (rest_parts ps)
+  rest_has none w = law.none_in
+  rest_has (part k t ps) w = law.rest k t ps w
+
+  pub entity_has : (t u : Type_tree) → P t → P u → P (type_of t u)
+  entity_has t u x y = law.bare type_entity (part here t (part here u none)) (λ r. refl) (law.part_in here t (part here u none) x (law.part_in here u none y law.none_in))
+
+  pub entry_has : (t : Type_tree) → P t → P (type_entry t)
+  entry_has t x = entity_has t t x x
+
+  pub created_has : (t : Type_tree) → P t → P (created t)
+  created_has (node type_entity ps) w = entry_has (first_part ps) (first_has ps (law.inner type_entity ps w))
+  created_has (node nothing ps) w = w
+  created_has (node (primitive p) ps) w = w
+  created_has (node (resource q s) ps) w = w
+  created_has (node (defined i k) ps) w = w
+  created_has (node (func i b) ps) w = w
+  created_has (node (instance i own) ps) w = w
+  created_has (node (component i ins outs) ps) w = w
+  created_has (node (core_module i n) ps) w = w
+  created_has (node (core_instance i n) ps) w = w
+  created_has (node (core_type i) ps) w = w
+  created_has (node (core_item x) ps) w = w
+
+  pub referenced_has : (t : Type_tree) → P t → P (referenced t)
+  referenced_has (node type_entity ps) w = first_has (rest_parts ps) (rest_has ps (law.inner type_entity ps w))
+  referenced_has (node nothing ps) w = w
+  referenced_has (node (primitive p) ps) w = w
+  referenced_has (node (resource q s) ps) w = w
+  referenced_has (node (defined i k) ps) w = w
+  referenced_has (node (func i b) ps) w = w
+  referenced_has (node (instance i own) ps) w = w
+  referenced_has (node (component i ins outs) ps) w = w
+  referenced_has (node (core_module i n) ps) w = w
+  referenced_has (node (core_instance i n) ps) w = w
+  referenced_has (node (core_type i) ps) w = w
+  referenced_has (node (core_item x) ps) w = w
+
+  -- ## Under names of a place
+
+  renewed_owns : (names : Names) (p : Place) (h : Head Name Name) (r : Name) → owns (renewed_head names p h) r ≡ owns h r
+  renewed_owns names p (resource q s) r = refl
+  renewed_owns names p nothing r = refl
+  renewed_owns names p (primitive q) r = refl
+  renewed_owns names p (defined i k) r = refl
+  renewed_owns names p (func i b) r = refl
+  renewed_owns names p (instance i own) r = refl
+  renewed_owns names p (component i ins outs) r = refl
+  renewed_owns names p type_entity r = refl
+  renewed_owns names p (core_module i n) r = refl
+  renewed_owns names p (core_instance i n) r = refl
+  renewed_owns names p (core_type i) r = refl
+  renewed_owns names p (core_item x) r = refl
+
+  renewed_owned : (names : Names) (p : Place) (h : Head Name Name) → owned_at (renewed_head names p h) ≡ owned_at h
+  renewed_owned names p (resource q s) = refl
+  renewed_owned names p nothing = refl
+  renewed_owned names p (primitive q) = refl
+  renewed_owned names p (defined i k) = refl
+  renewed_owned names p (func i b) = refl
+  renewed_owned names p (instance i own) = refl
+  renewed_owned names p (component i ins outs) = refl
+  renewed_owned names p type_entity = refl
+  renewed_owned names p (core_module i n) = refl
+  renewed_owned names p (core_instance i n) = refl
+  renewed_owned names p (core_type i) = refl
+  renewed_owned names p (core_item x) = refl
+
+  renewed_has : (names : Names) (p : Place) (t : Type_tree) → P t → P (renewed names p t)
+  renewed_has names p (node h ps) w = law.alike h (renewed_head names p h) ps (renewed_owns names p h) (renewed_owned names p h) w
+
+  pub again_has : (names : Names) (p : Place) (t : Type_tree) → P t → P (type_of (renewed names p t) t)
+  again_has names p t w = entity_has (renewed names p t) t (renewed_has names p t w) w
+
+  pub reference_has : (names : Names) (p : Place) → P (type_entry (new_reference names p))
+  reference_has names p = entry_has (new_reference names p) (leaf_has (resource (names.resource (introduced p)) (names.identity (stamp_at p))) (λ r. refl))
+
+  -- an instance owns nothing
+  pub instance_has : (names : Names) (p : Place) (t : Type_tree) → P t → P (instance_tree names p t)
+  instance_has names p (node (instance i own) ps) w =
+      law.again (owned_anew names p own) (λ i. refl) (node (instance i []) ps) (law.bare (instance i []) ps (λ r. refl) (law.inner (instance i own) ps w))
+  instance_has names p (node nothing ps) w = w
+  instance_has names p (node (primitive q) ps) w = w
+  instance_has names p (node (resource q s) ps) w = w
+  instance_has names p (node (defined i k) ps) w = w
+  instance_has names p (node (func i b) ps) w = w
+  instance_has names p (node (component i ins outs) ps) w = w
+  instance_has names p (node type_entity ps) w = w
+  instance_has names p (node (core_module i n) ps) w = w
+  instance_has names p (node (core_instance i n) ps) w = w
+  instance_has names p (node (core_type i) ps) w = w
+  instance_has names p (node (core_item x) ps) w = w
+
+  -- ## Nodes
+
+  parts_have : (ps : List (Role × Type_tree)) → All (λ p. P p.1) ps → In (tree_parts ps)
+  parts_have [] w = law.none_in
+  parts_have (p ∷ ps) w = law.part_in p.0 p.1 (tree_parts ps) (All-head (λ (p : Role × Type_tree). P p.1) p ps w) (parts_have ps (All-tail (λ (p : Role × Type_tree). P p.1) p ps w))
+
+  pub entries_have : (role : Extern_name → Role) (es : List (Extern_name × Type_tree)) (ps : Parts Name Name) → All (λ e. P e.1) es → In ps → In (entries role es ps)
+  entries_have role [] ps w x = x
+  entries_have role (e ∷ es) ps w x =
+      law.part_in (role e.0) e.1 (entries role es ps) (All-head (λ (e : Extern_name × Type_tree). P e.1) e es w) (entries_have role es ps (All-tail (λ (e : Extern_name × Type_tree). P e.1) e es w) x)
+
+  item_has : (e : EntityType) → P (node (core_item e) none)
+  item_has e = leaf_has (core_item e) (λ r. refl)
+
+  core_exports_have : (es : List (Text × EntityType)) (ps : Parts Name Name) → In ps → In (core_exports es ps)
+  core_exports_have [] ps w = w
+  core_exports_have (e ∷ es) ps w = law.part_in (tree.core_export e.0) (node (core_item e.1) none) (core_exports es ps) (item_has e.1) (core_exports_have es ps w)
+
+  core_imports_have : (es : List ((Text × Text) × EntityType)) (ps : Parts Name Name) → In ps → In (core_imports es ps)
+  core_imports_have [] ps w = w
+  core_imports_have (e ∷ es) ps w = law.part_in (tree.core_import e.0.0 e.0.1) (node (core_item e.1) none) (core_imports es ps) (item_has e.1) (core_imports_have es ps w)
+
+  pub module_has : (i : Name) (m : Module_type) → P (module_tree i m)
+  module_has i m = law.bare (core_module i (capped m.size)) (core_imports m.imports (core_exports m.exports none)) (λ r. refl) (core_imports_have m.imports (core_exports m.exports none) (core_exports_have m.exports none law.none_in))
+
+  -- what it is made of has it, and it owns nothing
+  abbrev pub MadeOf : New_node tree_reader → Type 0
+  MadeOf (func_node b ps) = All (λ p. P p.1) ps
+  MadeOf (defined_node k ps) = All (λ p. P p.1) ps
+  MadeOf (module_node m) = Unit {0}
+  MadeOf (instance_node own es) = ⊥
+  MadeOf (component_node ins outs es es') = ⊥
+
+  pub node_has : (i : Name) (n : New_node tree_reader) → MadeOf n → P (node_tree i n)
+  node_has i (func_node b ps) w = law.bare (func i b) (tree_parts ps) (λ r. refl) (parts_have ps w)
+  node_has i (defined_node k ps) w = law.bare (defined i k) (tree_parts ps) (λ r. refl) (parts_have ps w)
+  node_has i (module_node m) w = module_has i m
+  node_has i (instance_node own es) w = absurd w
+  node_has i (component_node ins outs es es') w = absurd w

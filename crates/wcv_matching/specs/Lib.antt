@@ -1,0 +1,14 @@
+pub mod Refusals
+pub mod ItemTests
+pub mod ItemTables
+pub mod ByName
+pub mod ModuleItems
+pub mod Standings
+pub mod CoreArguments
+pub mod Matching
+pub mod Orderly
+pub mod TableMatching
+pub mod NamedPaths
+pub mod SameTypes
+pub mod OnePass
+pub mod IdTests

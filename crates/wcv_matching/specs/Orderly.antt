@@ -1,0 +1,70 @@
+-- What matching by one pass asks of trees, as items make them.
+use Rattle.std.specs.Prelude.{ℕ, suc, max, List, bytes_eq, Contains}
+use Rattle.std.specs.List.{IsDistinct}
+use Rattle.std.specs.Map.{keys_of}
+use Rattle.wcv_core.specs.Names.{Name}
+use Rattle.wcv_core.specs.declared.core_types.EntityType.{EntityType}
+use Rattle.wcv_types.specs.Led.{HeadLed}
+use Rattle.wcv_types.specs.Tree.{Text, Head, node, Parts, none, part}
+use Rattle.wcv_types.specs.Unfold.{Type_tree}
+use Rattle.wcv_closed.specs.CoreModules.{Module_items}
+use Rattle.wcv_matching.specs.Matching.{named_exports_in, named_imports_in}
+use Rattle.wcv_matching.specs.ModuleItems.{core_imports_in, core_exports_in}
+
+-- ## Each node
+
+-- P holds at each node inside the tree
+abbrev mutual
+  pub EachNode : (Head Name Name → Parts Name Name → Type 0) → Type_tree → Type 0
+  EachNode P (node h ps) = P h ps × EachNodeIn P ps
+
+  pub EachNodeIn : (Head Name Name → Parts Name Name → Type 0) → Parts Name Name → Type 0
+  EachNodeIn P none = Unit {0}
+  EachNodeIn P (part r t ps) = EachNode P t × EachNodeIn P ps
+
+-- ## Names
+
+abbrev pub NamesDiffer : {X : Type 0} → List (Text × X) → Type 0
+NamesDiffer es = IsDistinct bytes_eq (keys_of es)
+
+-- in each list of imports and of exports inside the tree the names differ
+abbrev mutual
+  pub AllNamesDiffer : Type_tree → Type 0
+  AllNamesDiffer (node h ps) = NamesDiffer (named_imports_in ps) × NamesDiffer (named_exports_in ps) × PartNamesDiffer ps
+
+  pub PartNamesDiffer : Parts Name Name → Type 0
+  PartNamesDiffer none = Unit {0}
+  PartNamesDiffer (part r t ps) = AllNamesDiffer t × PartNamesDiffer ps
+
+-- ## Paths
+
+-- at each node inside the tree the resources that it owns are led to
+abbrev pub AllPathsLead : Type_tree → Type 0
+AllPathsLead t = EachNode HeadLed t
+
+-- names differ in each list, and what is owned is led to
+abbrev pub Orderly : Type_tree → Type 0
+Orderly t = AllNamesDiffer t × AllPathsLead t
+
+abbrev pub EachOrderly : List (Text × Type_tree) → Type 0
+EachOrderly es = (n : Text) (x : Type_tree) → Contains es (n, x) → Orderly x
+
+-- ## Core modules
+
+-- what a node with these parts imports and exports as a core module
+abbrev pub items_in : Parts Name Name → Module_items EntityType
+items_in ps = record { imports = core_imports_in ps; exports = core_exports_in ps }
+
+-- P holds of what each node inside the tree imports and exports so
+abbrev pub EachModule : (Module_items EntityType → Type 0) → Type_tree → Type 0
+EachModule P t = EachNode (λ h ps. P (items_in ps)) t
+
+-- ## Heights
+
+abbrev mutual
+  pub height : Type_tree → ℕ
+  height (node h ps) = suc (heights ps)
+
+  pub heights : Parts Name Name → ℕ
+  heights none = 0
+  heights (part r t ps) = max (height t) (heights ps)

@@ -1,0 +1,18 @@
+//! Whether types match, and what opens the imports of a component.
+#![tactic(auto)]
+
+mod by_name;
+mod core_args;
+mod core_items;
+mod laws;
+mod modules;
+
+pub use core_args::{core_arguments, core_exports};
+pub use core_items::{entity_type, memory_type, table_type};
+pub use laws::{
+    a_type_matches_itself, at_most_one_substitution_opens, groups_behind_change_no_matching,
+    matching_asks_once, matching_goes_on, matching_is_told_by_ids, one_pass_decides_matching,
+    one_pass_decides_openings, one_pass_goes_by_ids, renaming_keeps_matching,
+    replacing_keeps_matching, same_types_match_both_ways, what_the_types_of_an_arena_keep,
+};
+pub use modules::module_type;

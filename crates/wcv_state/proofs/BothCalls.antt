@@ -1,0 +1,206 @@
+-- An export by two calls: what both do together.
+use Rattle.std.proofs.Common.{◌≡◌, ℕ, ◌≤◌, List, [], ◌∷◌, ◌++◌, map, refl, sym, ◌∙◌, ap, subst, arith, Bool, true, false, Some, ⊎_elim, length-append}
+use Rattle.std.specs.Prelude.{Option, length}
+use Rattle.std.specs.Option.{option_map}
+use Rattle.std.proofs.lemmas.Bool.{false≢true}
+use Rattle.wcv_core.specs.Names.{Name, Place, number, stamp, base, at, stamped, aside}
+use Rattle.wcv_core.specs.Refusal.{error_kind}
+use Rattle.wcv_core.specs.declared.error.Error.{Error}
+use Rattle.wcv_syntax.specs.Built.{is_built_ref, is_built_item}
+use Rattle.wcv_syntax.specs.Model.{export_item}
+use Rattle.wcv_syntax.specs.declared.component_type.ComponentTypeRef.{ComponentTypeRef}
+use Rattle.wcv_syntax.specs.declared.name.ComponentExport.{ComponentExport}
+use Rattle.wcv_syntax.specs.declared.name.ComponentExternName.{ComponentExternName}
+use Rattle.wcv_types.specs.Arena.{Arena}
+use Rattle.wcv_types.specs.Entities.{entity_tree}
+use Rattle.wcv_types.specs.Standing.{Extends}
+use Rattle.wcv_types.specs.Unfold.{Type_tree, trees}
+use Rattle.wcv_types.specs.declared.shapes.ComponentEntityType.{ComponentEntityType}
+use Rattle.wcv_types.specs.declared.shapes.ComponentValType.{ComponentValType}
+use Rattle.wcv_lower.specs.Checks.{Checks, IsFree, if_found, full_side}
+use Rattle.wcv_lower.specs.Context.{in_values, exporting, counts}
+use Rattle.wcv_lower.specs.Entries.{extern_name, written, written_checks, exported, exported_checks, entity_checks, join_checks}
+use Rattle.wcv_lower.specs.Entries as entries
+use Rattle.wcv_lower.specs.Given.{GivenNames, names_of, none_given, both_given, Numbers, IsNewResource, IsNewIdentity, GivesAt}
+use Rattle.wcv_lower.specs.Names.{Under}
+use Rattle.wcv_lower.specs.Readers.{Maker, Brought}
+use Rattle.wcv_lower.specs.Step.{brought_by, brought_at, apply, enters}
+use Rattle.wcv_lower.specs.Trees.{Tree_context, tree_reader, tree_maker}
+use Rattle.wcv_lower.proofs.Causes.{cause_left, cause_right, cause_either, free_both, free_left, free_right}
+use Rattle.wcv_lower.proofs.Given.{given_weaker}
+use Rattle.wcv_state.specs.Contents.{Contents, ids, core_ids, unmarked, marks_aside, id_tree, core_tree, context_of, stack_of, StateStands}
+use Rattle.wcv_state.specs.Looking.{is_built_entity}
+use Rattle.wcv_state.specs.Promises.{MemoryOrCausedBy, numbers_of, is_instance_entity, if_built, ref_checks, Grew, WrittenEntity, Exported, Entered, EntryCaused, ExportDeclared, ExportCaused}
+use Rattle.wcv_state.proofs.Brought.{as_it_is_at}
+use Rattle.wcv_state.proofs.Calls.{built_free, caused_more}
+use Rattle.wcv_state.proofs.Keeping.{same_context}
+use Rattle.wcv_state.proofs.Opened.{both_none}
+use Rattle.wcv_state.proofs.Sides.{each_space, each_core}
+
+-- marks of use are no part of a context
+marks_unseen : (a : Arena) (s : Contents) → context_of a (marks_aside s) ≡ context_of a s
+marks_unseen a s = λ j. record (context_of a s) {
+  core = λ k. each_core (λ i. map (core_tree (trees a.nodes) i) (core_ids i (marks_aside s).spaces) ≡ map (core_tree (trees a.nodes) i) (core_ids i s.spaces)) refl refl refl refl refl refl refl refl k j;
+  space = λ k. each_space (λ i. map (id_tree (trees a.nodes) i) (ids i (marks_aside s).spaces) ≡ map (id_tree (trees a.nodes) i) (ids i s.spaces)) refl refl (values s.spaces.values) refl refl k j;
+}
+  where
+    values : (xs : List (ComponentValType × Bool)) → map (id_tree (trees a.nodes) in_values) (map (unmarked in_values) xs) ≡ map (id_tree (trees a.nodes) in_values) xs
+    values [] = refl
+    values (x ∷ xs) = ap (λ l. id_tree (trees a.nodes) in_values x ∷ l) (values xs)
+
+-- where there is no cause, it is built
+free_built : (b : Bool) (cs : Checks) → IsFree (if_built b cs) → (b ≡ true) × IsFree cs
+free_built true cs f = (refl, f)
+free_built false cs f = absurd (false≢true (sym f.0))
+
+-- ## An entry that joins where it was looked up
+
+module _ (a b : Arena) (outer : List Tree_context) (s t : Contents) (h : StateStands a s) (g : Extends a b) (core : b.core ≡ a.core) (same : marks_aside t ≡ marks_aside s) where
+  context_same : context_of b t ≡ context_of a s
+  context_same = sym (marks_unseen b t) ∙ ap (context_of b) same ∙ marks_unseen b s ∙ same_context a b g s h
+
+  stack_same : stack_of b t outer ≡ stack_of a s outer
+  stack_same = λ j. record { top = context_same j; outer = outer; groups = core j }
+
+-- the entity of an exported item, and then its entry, are the export
+pub export_by_both : (a b : Arena) (outer : List Tree_context) (p : Place) (s t s' : Contents) (e : ComponentExport) (x : ComponentEntityType) → StateStands a s → Extends a b → Exported a b p s e x → marks_aside t ≡ marks_aside s → Entered true b b outer p t s' e.name x → Grew a b outer p s s' (export_item e)
+export_by_both a b outer p s t s' e x h g w same v =
+    let c : Tree_context = context_of a s in
+    let tree : Type_tree = entity_tree (trees b.nodes) x in
+    let mk : Maker tree_reader = tree_maker (names_of v.names) p in
+    let looked = free_built (is_built_item e) (exported_checks c e) w.free in
+    let plain : brought_at mk tree ≡ brought_by tree_reader tree = as_it_is_at b mk x w.stands w.plain in
+    let of_entity : Checks = entity_checks s.features exporting (extern_name e.name) c tree in
+    let room : Checks = full_side true exporting (counts c) in
+    let met = free_built (is_built_entity x) (join_checks true t.features exporting (extern_name e.name) (context_of b t) (brought_at mk tree).entity) v.free in
+    let features : t.features ≡ s.features = ap (λ (z : Contents). z.features) same in
+    let here : join_checks true t.features exporting (extern_name e.name) (context_of b t) (brought_at mk tree).entity ≡ room ++ of_entity =
+    λ j. join_checks true (features j) exporting (extern_name e.name) (context_same a b outer s t h g w.core same j) (plain j).entity in
+    let joined : IsFree (room ++ of_entity) = subst IsFree here met.1 in
+    let all : IsFree (room ++ (exported_checks c e ++ of_entity)) = free_both room (exported_checks c e ++ of_entity) (free_left room of_entity joined) (free_both (exported_checks c e) of_entity looked.1 (free_right room of_entity joined)) in
+    record {
+      names = w.names;
+      given = w.given;
+      grown = ap (λ o. option_map (λ q. apply q (stack_of a s outer)) (option_map (enters exporting (extern_name e.name)) o)) w.found ∙
+          (λ j. Some (apply (enters exporting (extern_name e.name) (sym plain j)) (sym (stack_same a b outer s t h g w.core same) j))) ∙ ap Some (sym v.entered);
+      free = built_free (is_built_item e) _ looked.0 (subst (λ (o : Option (Brought tree_reader)). IsFree (entries.entry_checks s.features exporting (extern_name e.name) c (exported_checks c e) o)) (sym w.found) all);
+      live = v.live;
+    }
+
+-- ## Names of two calls, one of which gives none
+
+-- new from fewer numbers to more
+module _ (a b a' b' : Numbers) (r : a'.resources ≤ a.resources) (n : a'.nodes ≤ a.nodes) (t : a'.stamps ≤ a.stamps) (r' : b.resources ≤ b'.resources) (n' : b.nodes ≤ b'.nodes) (t' : b.stamps ≤ b'.stamps) where
+  resource_within : (x : Name) → IsNewResource a b x → IsNewResource a' b' x
+  resource_within (number k) h = (omega (arith, r, h.0), omega (arith, r', h.1))
+  resource_within (stamp k) h = absurd h
+  resource_within (base p) h = absurd h
+  resource_within (at p x) h = absurd h
+  resource_within (stamped p) h = absurd h
+  resource_within (aside x) h = absurd h
+
+  identity_within : (x : Name) → IsNewIdentity a b x → IsNewIdentity a' b' x
+  identity_within (number k) h = (omega (arith, n, h.0), omega (arith, n', h.1))
+  identity_within (stamp k) h = (omega (arith, t, h.0), omega (arith, t', h.1))
+  identity_within (base p) h = absurd h
+  identity_within (at p x) h = absurd h
+  identity_within (stamped p) h = absurd h
+  identity_within (aside x) h = absurd h
+
+  gives_within : (In : Place → Type 0) (g : GivenNames) → GivesAt In a b g → GivesAt In a' b' g
+  gives_within In g h = record {
+    resources = given_weaker (IsNewResource a b) (IsNewResource a' b') In In resource_within (λ p k. k) g.resources h.resources;
+    identities = given_weaker (IsNewIdentity a b) (IsNewIdentity a' b') In In identity_within (λ p k. k) g.identities h.identities;
+  }
+
+more_nodes : (a b : Arena) → Extends a b → length a.nodes ≤ length b.nodes
+more_nodes a b g = subst (λ xs. length a.nodes ≤ length xs) (sym g.nodes) (simp length-append (omega arith))
+
+module _ (a b c : Arena) (p : Place) (s : Contents) (r : ComponentTypeRef) (x : ComponentEntityType) (h : StateStands a s) (g : Extends a b) (k : Extends b c) (w : WrittenEntity a b p s r x) (v : GivenNames) (given : GivesAt (Under p) (numbers_of b) (numbers_of c) v) (bare : is_instance_entity x ≡ false → v ≡ none_given) where
+  abbrev tree : Type_tree
+  tree = entity_tree (trees b.nodes) x
+
+  abbrev both : GivenNames
+  both = both_given w.names v
+
+  abbrev mk : Maker tree_reader
+  mk = tree_maker (names_of both) p
+
+  both_given_at : GivesAt (Under p) (numbers_of a) (numbers_of c) both
+  both_given_at = go (is_instance_entity x) refl
+    where
+      go : (e : Bool) → is_instance_entity x ≡ e → GivesAt (Under p) (numbers_of a) (numbers_of c) (both_given w.names v)
+      go true e =
+          subst (λ (n : GivenNames). GivesAt (Under p) (numbers_of a) (numbers_of c) (both_given n v)) (sym (w.instance e))
+          (gives_within (numbers_of b) (numbers_of c) (numbers_of a) (numbers_of c) g.resources (more_nodes a b g) g.stamps (omega arith) (omega arith) (omega arith) (Under p) v given)
+      go false e =
+          subst (λ (n : GivenNames). GivesAt (Under p) (numbers_of a) (numbers_of c) (both_given w.names n)) (sym (bare e))
+          (subst (GivesAt (Under p) (numbers_of a) (numbers_of c)) (sym (both_none w.names))
+          (gives_within (numbers_of a) (numbers_of b) (numbers_of a) (numbers_of c) (omega arith) (omega arith) (omega arith) k.resources (more_nodes b c k) k.stamps (Under p) w.names w.given))
+
+  -- what joins is the same by the names of both
+  brought_both : brought_at mk tree ≡ brought_at (tree_maker (names_of v) p) tree
+  brought_both = go (is_instance_entity x) refl
+    where
+      go : (e : Bool) → is_instance_entity x ≡ e → brought_at (tree_maker (names_of (both_given w.names v)) p) tree ≡ brought_at (tree_maker (names_of v) p) tree
+      go true e = ap (λ (n : GivenNames). brought_at (tree_maker (names_of (both_given n v)) p) tree) (w.instance e)
+      go false e = as_it_is_at b (tree_maker (names_of (both_given w.names v)) p) x w.stands e ∙ sym (as_it_is_at b (tree_maker (names_of v) p) x w.stands e)
+
+  found_both : written mk (context_of a s) r ≡ Some (brought_at (tree_maker (names_of v) p) tree)
+  found_both = w.brings v ∙ ap Some brought_both
+
+-- so of a written type
+pub written_by_both : (a b c : Arena) (outer : List Tree_context) (p : Place) (s s' : Contents) (r : ComponentTypeRef) (n : ComponentExternName) (x : ComponentEntityType) → StateStands a s → Extends a b → Extends b c → WrittenEntity a b p s r x →
+    Entered true b c outer p s s' n x → ExportDeclared a c outer p s s' n r
+written_by_both a b c outer p s s' r n x h g k w v =
+    let t : Tree_context = context_of a s in
+    let brought : Brought tree_reader = brought_at (tree_maker (names_of v.names) p) (entity_tree (trees b.nodes) x) in
+    let looked = free_built (is_built_ref r) (written_checks t r) w.free in
+    let met = free_built (is_built_entity x) (join_checks true s.features exporting (extern_name n) (context_of b s) brought.entity) v.free in
+    let of_entity : Checks = entity_checks s.features exporting (extern_name n) t brought.entity in
+    let room : Checks = full_side true exporting (counts t) in
+    let joined : IsFree (room ++ of_entity) = subst (λ (y : Tree_context). IsFree (join_checks true s.features exporting (extern_name n) y brought.entity)) (same_context a b g s h) met.1 in
+    let all : IsFree (room ++ (written_checks t r ++ of_entity)) = free_both room (written_checks t r ++ of_entity) (free_left room of_entity joined) (free_both (written_checks t r) of_entity looked.1 (free_right room of_entity joined)) in
+    let found = found_both a b c p s r x h g k w v.names v.given v.bare in
+    record {
+      names = both_given w.names v.names;
+      given = both_given_at a b c p s r x h g k w v.names v.given v.bare;
+      read = ap (λ o. option_map (λ q. apply q (stack_of a s outer)) (option_map (enters exporting (extern_name n)) o)) found ∙
+          (λ j. Some (apply (enters exporting (extern_name n) brought) (sym (stack_same a b outer s s h g w.core refl) j))) ∙ ap Some (sym v.entered);
+      free = subst (λ (o : Option (Brought tree_reader)). IsFree (entries.entry_checks s.features exporting (extern_name n) t (written_checks t r) o)) (sym found) all;
+    }
+
+-- a cause of the written type is one of the export
+pub export_written_caused : {M : Type 0} (a b : Arena) (p : Place) (s : Contents) (r : ComponentTypeRef) (n : ComponentExternName) (offset : ℕ) (e : Error M) → is_built_ref r ≡ true → MemoryOrCausedBy (ref_checks (context_of a s) r) offset e → ExportCaused a b p s n r offset e
+export_written_caused a b p s r n offset e built t =
+    let c : Tree_context = context_of a s in
+    let found : Option (Brought tree_reader) = written (tree_maker (names_of none_given) p) c r in
+    let room : Checks = full_side true exporting (counts c) in
+    let of_found : Checks = if_found (λ y. entity_checks s.features exporting (extern_name n) c y.entity) found in
+    record {
+      names = none_given;
+      given = record { resources = tt; identities = tt };
+      caused = caused_more (written_checks c r) (room ++ (written_checks c r ++ of_found)) offset e
+          (λ q. cause_right room (written_checks c r ++ of_found) (error_kind e) (cause_left (written_checks c r) of_found (error_kind e) q))
+          (subst (λ (y : Bool). MemoryOrCausedBy (if_built y (written_checks c r)) offset e) built t);
+    }
+
+-- so is one of the entry
+pub export_entry_caused : {M : Type 0} (a b c : Arena) (p : Place) (s : Contents) (r : ComponentTypeRef) (n : ComponentExternName) (x : ComponentEntityType) (offset : ℕ) (e : Error M) → StateStands a s → Extends a b → Extends b c → WrittenEntity a b p s r x →
+    EntryCaused true b c p s n x offset e → ExportCaused a c p s n r offset e
+export_entry_caused a b c p s r n x offset e h g k w v =
+    let t : Tree_context = context_of a s in
+    let brought : Brought tree_reader = brought_at (tree_maker (names_of v.names) p) (entity_tree (trees b.nodes) x) in
+    let of_entity : Checks = entity_checks s.features exporting (extern_name n) t brought.entity in
+    let room : Checks = full_side true exporting (counts t) in
+    let met : MemoryOrCausedBy (room ++ of_entity) offset e =
+    subst (λ (y : Tree_context). MemoryOrCausedBy (join_checks true s.features exporting (extern_name n) y brought.entity) offset e) (same_context a b g s h)
+    (subst (λ (y : Bool). MemoryOrCausedBy (if_built y (join_checks true s.features exporting (extern_name n) (context_of b s) brought.entity)) offset e) w.built v.caused) in
+    let found = found_both a b c p s r x h g k w v.names v.given v.bare in
+    record {
+      names = both_given w.names v.names;
+      given = both_given_at a b c p s r x h g k w v.names v.given v.bare;
+      caused = subst (λ (o : Option (Brought tree_reader)). MemoryOrCausedBy (entries.entry_checks s.features exporting (extern_name n) t (written_checks t r) o) offset e) (sym found)
+          (caused_more (room ++ of_entity) (room ++ (written_checks t r ++ of_entity)) offset e
+          (λ q. ⊎_elim (λ l. cause_left room (written_checks t r ++ of_entity) (error_kind e) l) (λ l. cause_right room (written_checks t r ++ of_entity) (error_kind e) (cause_right (written_checks t r) of_entity (error_kind e) l)) (cause_either room of_entity (error_kind e) q)) met);
+    }

@@ -1,0 +1,15 @@
+use Rattle.std.proofs.Common.{refl}
+use Rattle.wcv_types.proofs.Grown.{extends_refl}
+use Rattle.wcv_state.proofs.Brought.{not_instance}
+use Rattle.wcv_state.proofs.Opened.{bare_opened}
+use Rattle.wcv_state.proofs.bringing.open_entity.Goals as goal
+
+pub returns-in_ok-new-in_default : goal.returns-in_ok-new-in_default
+returns-in_ok-new-in_default c = record {
+  ok = bare_opened c.args.types.now c.args.ty c.requires.built c.requires.stands c.in_ok-new-in_default.new (not_instance c.args.ty c.in_default.not-Instance) c.in_ok-new-in_default.ensures.ty c.in_ok-new-in_default.ensures.resources;
+  grown = extends_refl c.args.types.now;
+  same = λ e. refl;
+}
+
+pub returns-in_err-new-in_default-clause-grown : goal.returns-in_err-new-in_default-clause-grown
+returns-in_err-new-in_default-clause-grown c = extends_refl c.args.types.now

@@ -1,0 +1,9 @@
+use Rattle.wcv_state.proofs.OpenedType.{opened_is, read_stand}
+use Rattle.wcv_state.proofs.instances.read_type.Goals as goal
+
+pub explicit_resource_paths-requires : goal.explicit_resource_paths-requires
+explicit_resource_paths-requires g c = read_stand c.args.types.now c.args.id c.view-shape.result.now c.view-shape.ensures.found c.view-shape.ensures.unfolds
+
+pub returns : goal.returns
+returns g c =
+    opened_is c.args.types.now c.args.id c.view-shape.result.now _ c.view-shape.ensures.found c.view-shape.ensures.unfolds c.view-shape.ensures.led c.len.ensures.unique c.in_ok-owned.ensures c.in_ok-exports.ensures

@@ -1,0 +1,33 @@
+// What stands in the spaces of instances and of components.
+ghost use Rattle.std.specs.Prelude.{◌≡◌, Some, slice_get, IfOk, IfErr};
+ghost use Rattle.wcv_lower.specs.Checks.{missing};
+ghost use Rattle.wcv_state.specs.Promises.{CausedBy};
+
+use crate::indices::element_at;
+use crate::state::ComponentState;
+use wcv_core::Refusal;
+use wcv_types::{ComponentInstanceTypeId, ComponentTypeId};
+
+impl ComponentState {
+    /// The type of the instance at that index. Refuses an index that is not below the length as
+    /// `OutOfBounds`, and takes no memory.
+    pub fn instance_at(
+        &self,
+        idx: u32,
+        offset: u64,
+    ) -> Result<ComponentInstanceTypeId, Refusal<'static>>
+        ensures ok { IfOk result (λ id. slice_get self.now.spaces.instances idx ≡ Some id) }
+        ensures err { IfErr result (CausedBy (missing (slice_get self.now.spaces.instances idx)) offset) }
+    {
+        element_at(&self.spaces.instances, "instance", idx, offset)
+    }
+
+    /// The type of the component at that index. Refuses an index that is not below the length as
+    /// `OutOfBounds`, and takes no memory.
+    pub fn component_at(&self, idx: u32, offset: u64) -> Result<ComponentTypeId, Refusal<'static>>
+        ensures ok { IfOk result (λ id. slice_get self.now.spaces.components idx ≡ Some id) }
+        ensures err { IfErr result (CausedBy (missing (slice_get self.now.spaces.components idx)) offset) }
+    {
+        element_at(&self.spaces.components, "component", idx, offset)
+    }
+}

@@ -1,0 +1,226 @@
+// Imports and exports that are read.
+ghost use Rattle.std.specs.Prelude.{◌≡◌, [], true, false, List, OnOk, OnErr, IfOk, IfErr};
+ghost use Rattle.wcv_core.specs.Names.{Place};
+ghost use Rattle.wcv_syntax.specs.Built.{is_built_ref, is_built_item};
+ghost use Rattle.wcv_syntax.specs.Model.{import_item, export_item};
+ghost use Rattle.wcv_types.specs.Entities.{EntityStands};
+ghost use Rattle.wcv_types.specs.Standing.{Extends};
+ghost use Rattle.wcv_lower.specs.Entries as rules;
+ghost use Rattle.wcv_lower.specs.Entries.{written_checks, exported_checks};
+ghost use Rattle.wcv_lower.specs.Trees.{Tree_context};
+ghost use Rattle.wcv_state.specs.Bringing.{EntityOpened, Found};
+ghost use Rattle.wcv_state.specs.Contents.{marks_aside, context_of, StateStands};
+ghost use Rattle.wcv_state.specs.Instances.{MayOpen, EntityMayOpen};
+ghost use Rattle.wcv_state.specs.Looking.{is_built_entity as built_entity};
+ghost use Rattle.wcv_state.specs.Promises.{MemoryOrCausedBy, Keeps, Grew, Refuses, RefusesBy, if_built, WrittenEntity, ref_checks, Exported, item_checks, Entered, EntryCaused, is_instance_entity, MayJoinExports};
+
+use crate::bringing::{NewEntity, as_it_is, open_entity};
+use crate::entries::is_built_entity;
+use crate::forms::{exported, unbuilt, written};
+use crate::state::ComponentState;
+use wcv_core::Error;
+use wcv_syntax::{ComponentExport, ComponentExternName, ComponentImport, ComponentTypeRef};
+use wcv_types::{ComponentEntityType, TypeAlloc};
+
+/// What joins of an entity, which has to be of a sort that is built.
+fn open_export(
+    types: &mut TypeAlloc,
+    ty: ComponentEntityType,
+    offset: u64,
+) -> Result<NewEntity, Error>
+    requires stands { EntityStands types.old ty }
+    requires opens { EntityMayOpen types.old ty }
+    ensures built { OnOk result (built_entity ty ≡ true) }
+    ensures ok { IfOk result (EntityOpened types.old types.new ty) }
+    ensures grown { Extends types.old types.new }
+    ensures same { is_instance_entity ty ≡ false → types.new ≡ types.old }
+    ensures err { IfErr result (MemoryOrCausedBy (if_built (built_entity ty) []) offset) }
+{
+    if !is_built_entity(&ty) {
+        return Err(Error::from(unbuilt(offset)));
+    }
+    let new = open_entity(types, ty)?;
+    Ok(new)
+}
+
+impl ComponentState {
+    /// The entity that a written type gives, which may be handed to `add_export` next. Refuses an index that is not below the length as `OutOfBounds`,
+    /// a type of another sort as `WrongSort`, and a form that is not built yet as `Unbuilt`.
+    pub fn check_type_ref(
+        &mut self,
+        ty: &ComponentTypeRef,
+        types: &mut TypeAlloc,
+        offset: u64,
+    ) -> Result<ComponentEntityType, Error>
+        requires live { self.old.spent ≡ false }
+        requires stands { StateStands types.old self.old }
+        ensures ok { IfOk result (λ x. (p : Place) → WrittenEntity types.old types.new p self.old ty.now x) }
+        ensures joins { IfOk result (MayJoinExports types.new self.new) }
+        ensures opens { IfOk result (λ x. MayOpen types.old self.old.spaces.types ty.now → EntityMayOpen types.new x) }
+        ensures same { OnOk result (self.new ≡ self.old) }
+        ensures err { IfErr result (RefusesBy (ref_checks (context_of types.old self.old) ty.now) self.new offset) }
+        ensures keeps { Keeps types.old types.new self.old self.new }
+    {
+        self.spent = true;
+        let entity = written(&self.spaces, ty, types, offset)?;
+        self.spent = false;
+        Ok(entity)
+    }
+
+    /// What joins for an import of that type.
+    fn read_import(
+        &self,
+        ty: &ComponentTypeRef,
+        types: &mut TypeAlloc,
+        offset: u64,
+    ) -> Result<NewEntity, Error>
+        requires stands { StateStands types.old self.now }
+        requires opens { MayOpen types.old self.now.spaces.types ty.now }
+        ensures built { OnOk result (is_built_ref ty.now ≡ true) }
+        ensures ok { IfOk result (λ n. Found types.old types.new n (written_checks (context_of types.old self.now) ty.now) (λ k. rules.written k (context_of types.old self.now) ty.now)) }
+        ensures grown { Extends types.old types.new }
+        ensures err { IfErr result (MemoryOrCausedBy (ref_checks (context_of types.old self.now) ty.now) offset) }
+    {
+        let entity = written(&self.spaces, ty, types, offset)?;
+        let new = open_entity(types, entity)?;
+        Ok(new)
+    }
+
+    /// Reads an import: the entity that its type gives joins the imports and the space of its sort. Refuses
+    /// what `check_type_ref` refuses, what needs a type that is not named as `Unnamed`, a name in no form as
+    /// `Name`, one that needs a missing feature as `Feature`, an entity that does not look as its name says as
+    /// `MethodName`, a name whose key another import has as `Conflict`, and more entries, size or depth than
+    /// there may be as `Limit`. The length of the name is left to the caller.
+    pub fn add_import(
+        &mut self,
+        import: ComponentImport,
+        types: &mut TypeAlloc,
+        offset: u64,
+    ) -> Result<(), Error>
+        requires live { self.old.spent ≡ false }
+        requires stands { StateStands types.old self.old }
+        requires opens { MayOpen types.old self.old.spaces.types import.ty }
+        ensures ok { OnOk result ((outer : List Tree_context) (p : Place) → Grew types.old types.new outer p self.old self.new (import_item import)) }
+        ensures err { IfErr result (λ e. (outer : List Tree_context) (p : Place) → Refuses types.old types.new outer p self.old self.new (import_item import) offset e) }
+        ensures keeps { Keeps types.old types.new self.old self.new }
+    {
+        let new = match self.read_import(&import.ty, types, offset) {
+            Ok(new) => new,
+            Err(error) => {
+                self.spent = true;
+                return Err(error);
+            }
+        };
+        let joined = self.join_imports(import.name, &new, types, offset);
+        drop(new);
+        match joined {
+            Ok(()) => Ok(()),
+            Err(error) => Err(error),
+        }
+    }
+
+    /// The entity of an exported item, which may be handed to `add_export` next. Refuses an index that is not below the length as `OutOfBounds`, and a
+    /// form that is not built yet as `Unbuilt`.
+    pub fn export_to_entity_type(
+        &mut self,
+        export: &ComponentExport,
+        types: &mut TypeAlloc,
+        offset: u64,
+    ) -> Result<ComponentEntityType, Error>
+        requires live { self.old.spent ≡ false }
+        requires stands { StateStands types.old self.old }
+        ensures ok { IfOk result (λ x. (p : Place) → Exported types.old types.new p self.old export.now x) }
+        ensures joins { IfOk result (MayJoinExports types.new self.new) }
+        ensures same { OnOk result (marks_aside self.new ≡ marks_aside self.old) }
+        ensures err { IfErr result (RefusesBy (item_checks (context_of types.old self.old) export.now) self.new offset) }
+        ensures keeps { Keeps types.old types.new self.old self.new }
+    {
+        self.spent = true;
+        let entity = exported(&self.spaces, export, types, offset)?;
+        self.spent = false;
+        Ok(entity)
+    }
+
+    /// Reads an export of that entity: it joins the exports and the space of its sort. Refuses as
+    /// `add_import` does by the exports' names. Where `check_limit` is false the number of exports is not
+    /// looked at. The length of the name is left to the caller.
+    pub fn add_export(
+        &mut self,
+        name: ComponentExternName,
+        ty: ComponentEntityType,
+        types: &mut TypeAlloc,
+        offset: u64,
+        check_limit: bool,
+    ) -> Result<(), Error>
+        requires live { self.old.spent ≡ false }
+        requires stands { StateStands types.old self.old }
+        requires joins { MayJoinExports types.old self.old ty }
+        requires opens { EntityMayOpen types.old ty }
+        ensures ok { OnOk result ((outer : List Tree_context) (p : Place) → Entered check_limit types.old types.new outer p self.old self.new name ty) }
+        ensures spent { OnErr result (self.new.spent ≡ true) }
+        ensures err { IfErr result (λ e. (p : Place) → EntryCaused check_limit types.old types.new p self.old name ty offset e) }
+        ensures keeps { Keeps types.old types.new self.old self.new }
+        ensures types { is_instance_entity ty ≡ false → types.new ≡ types.old }
+    {
+        let new = match open_export(types, ty, offset) {
+            Ok(new) => new,
+            Err(error) => {
+                self.spent = true;
+                return Err(error);
+            }
+        };
+        let joined = self.join_exports(name, &new, types, check_limit, offset);
+        drop(new);
+        match joined {
+            Ok(()) => Ok(()),
+            Err(error) => Err(error),
+        }
+    }
+
+    /// What joins for an export item.
+    fn read_export(
+        &self,
+        export: &ComponentExport,
+        types: &mut TypeAlloc,
+        offset: u64,
+    ) -> Result<NewEntity, Error>
+        requires { StateStands types.old self.now }
+        ensures built { OnOk result (is_built_item export.now ≡ true) }
+        ensures ok { IfOk result (λ n. Found types.old types.new n (exported_checks (context_of types.old self.now) export.now) (λ k. rules.exported k (context_of types.old self.now) export.now)) }
+        ensures grown { Extends types.old types.new }
+        ensures err { IfErr result (MemoryOrCausedBy (item_checks (context_of types.old self.now) export.now) offset) }
+    {
+        let entity = exported(&self.spaces, export, types, offset)?;
+        let new = as_it_is(entity, types.allocator())?;
+        Ok(new)
+    }
+
+    /// Reads an export item: the exported item joins the exports and the space of its sort. Refuses what
+    /// `export_to_entity_type` and `add_export` refuse. The length of the name is left to the caller.
+    pub fn add_export_item(
+        &mut self,
+        export: ComponentExport,
+        types: &mut TypeAlloc,
+        offset: u64,
+    ) -> Result<(), Error>
+        requires live { self.old.spent ≡ false }
+        requires stands { StateStands types.old self.old }
+        ensures ok { OnOk result ((outer : List Tree_context) (p : Place) → Grew types.old types.new outer p self.old self.new (export_item export)) }
+        ensures err { IfErr result (λ e. (outer : List Tree_context) (p : Place) → Refuses types.old types.new outer p self.old self.new (export_item export) offset e) }
+        ensures keeps { Keeps types.old types.new self.old self.new }
+    {
+        let new = match self.read_export(&export, types, offset) {
+            Ok(new) => new,
+            Err(error) => {
+                self.spent = true;
+                return Err(error);
+            }
+        };
+        let joined = self.join_exports(export.name, &new, types, true, offset);
+        drop(new);
+        match joined {
+            Ok(()) => Ok(()),
+            Err(error) => Err(error),
+        }
+    }
+}

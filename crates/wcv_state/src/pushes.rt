@@ -1,0 +1,202 @@
+// One more entry in a space, or one more resource that is defined.
+ghost use Rattle.std.specs.Prelude.{◌≡◌, false, OnOk, OnErr};
+ghost use Rattle.wcv_lower.specs.Context.{in_types, in_funcs, in_instances, core_types, core_funcs, core_tags, core_modules, core_instances, core_memories, core_tables, core_globals};
+ghost use Rattle.wcv_state.specs.Contents.{with_id, with_core, with_defined, spent};
+ghost use Rattle.wcv_state.specs.Looking.{has_resource};
+
+use crate::spaces::append;
+use crate::state::ComponentState;
+use wcv_core::{CoreTypeId, GlobalType, MemoryType, OutOfMemory, TableType, ValType};
+use wcv_types::{
+    ComponentAnyTypeId, ComponentCoreInstanceTypeId, ComponentCoreModuleTypeId,
+    ComponentCoreTypeId, ComponentFuncTypeId, ComponentInstanceTypeId, ResourceId,
+};
+
+impl ComponentState {
+    /// Appends a core type, whatever the number of core types. There is no memory for one that an index
+    /// cannot count.
+    pub fn push_core_type(&mut self, ty: ComponentCoreTypeId) -> Result<(), OutOfMemory>
+        requires live { self.old.spent ≡ false }
+        ensures ok { OnOk result (self.new ≡ with_core core_types ty self.old) }
+        ensures err { OnErr result (self.new ≡ spent self.old) }
+    {
+        match self.spaces.core_types.push(ty) {
+            Ok(()) => Ok(()),
+            Err(error) => {
+                self.spent = true;
+                Err(error)
+            }
+        }
+    }
+
+    /// Appends a core function of that type, whatever the number of core functions.
+    pub fn push_core_func(&mut self, ty: CoreTypeId) -> Result<(), OutOfMemory>
+        requires live { self.old.spent ≡ false }
+        ensures ok { OnOk result (self.new ≡ with_core core_funcs ty self.old) }
+        ensures err { OnErr result (self.new ≡ spent self.old) }
+    {
+        match append(&mut self.spaces.core_funcs, ty) {
+            Ok(()) => Ok(()),
+            Err(error) => {
+                self.spent = true;
+                Err(error)
+            }
+        }
+    }
+
+    /// Appends a core tag of that type, whatever the number of tags.
+    pub fn push_core_tag(&mut self, ty: CoreTypeId) -> Result<(), OutOfMemory>
+        requires live { self.old.spent ≡ false }
+        ensures ok { OnOk result (self.new ≡ with_core core_tags ty self.old) }
+        ensures err { OnErr result (self.new ≡ spent self.old) }
+    {
+        match append(&mut self.spaces.core_tags, ty) {
+            Ok(()) => Ok(()),
+            Err(error) => {
+                self.spent = true;
+                Err(error)
+            }
+        }
+    }
+
+    /// Appends a core module of that type, whatever the number of modules.
+    pub fn push_core_module(&mut self, ty: ComponentCoreModuleTypeId) -> Result<(), OutOfMemory>
+        requires live { self.old.spent ≡ false }
+        ensures ok { OnOk result (self.new ≡ with_core core_modules ty self.old) }
+        ensures err { OnErr result (self.new ≡ spent self.old) }
+    {
+        match append(&mut self.spaces.core_modules, ty) {
+            Ok(()) => Ok(()),
+            Err(error) => {
+                self.spent = true;
+                Err(error)
+            }
+        }
+    }
+
+    /// Appends a core instance of that type, whatever the number of core instances.
+    pub fn push_core_instance(&mut self, ty: ComponentCoreInstanceTypeId) -> Result<(), OutOfMemory>
+        requires live { self.old.spent ≡ false }
+        ensures ok { OnOk result (self.new ≡ with_core core_instances ty self.old) }
+        ensures err { OnErr result (self.new ≡ spent self.old) }
+    {
+        match append(&mut self.spaces.core_instances, ty) {
+            Ok(()) => Ok(()),
+            Err(error) => {
+                self.spent = true;
+                Err(error)
+            }
+        }
+    }
+
+    /// Appends a core memory, whatever the number of memories.
+    pub fn push_core_memory(&mut self, ty: MemoryType) -> Result<(), OutOfMemory>
+        requires live { self.old.spent ≡ false }
+        ensures ok { OnOk result (self.new ≡ with_core core_memories ty self.old) }
+        ensures err { OnErr result (self.new ≡ spent self.old) }
+    {
+        match append(&mut self.spaces.core_memories, ty) {
+            Ok(()) => Ok(()),
+            Err(error) => {
+                self.spent = true;
+                Err(error)
+            }
+        }
+    }
+
+    /// Appends a core table, whatever the number of tables.
+    pub fn push_core_table(&mut self, ty: TableType) -> Result<(), OutOfMemory>
+        requires live { self.old.spent ≡ false }
+        ensures ok { OnOk result (self.new ≡ with_core core_tables ty self.old) }
+        ensures err { OnErr result (self.new ≡ spent self.old) }
+    {
+        match append(&mut self.spaces.core_tables, ty) {
+            Ok(()) => Ok(()),
+            Err(error) => {
+                self.spent = true;
+                Err(error)
+            }
+        }
+    }
+
+    /// Appends a core global, whatever the number of globals.
+    pub fn push_core_global(&mut self, ty: GlobalType) -> Result<(), OutOfMemory>
+        requires live { self.old.spent ≡ false }
+        ensures ok { OnOk result (self.new ≡ with_core core_globals ty self.old) }
+        ensures err { OnErr result (self.new ≡ spent self.old) }
+    {
+        match append(&mut self.spaces.core_globals, ty) {
+            Ok(()) => Ok(()),
+            Err(error) => {
+                self.spent = true;
+                Err(error)
+            }
+        }
+    }
+
+    /// Appends a type, whatever the number of types.
+    pub fn push_type(&mut self, ty: ComponentAnyTypeId) -> Result<(), OutOfMemory>
+        requires live { self.old.spent ≡ false }
+        ensures ok { OnOk result (self.new ≡ with_id in_types ty self.old) }
+        ensures err { OnErr result (self.new ≡ spent self.old) }
+    {
+        match append(&mut self.spaces.types, ty) {
+            Ok(()) => Ok(()),
+            Err(error) => {
+                self.spent = true;
+                Err(error)
+            }
+        }
+    }
+
+    /// Appends a function of that type, whatever the number of functions.
+    pub fn push_func(&mut self, ty: ComponentFuncTypeId) -> Result<(), OutOfMemory>
+        requires live { self.old.spent ≡ false }
+        ensures ok { OnOk result (self.new ≡ with_id in_funcs ty self.old) }
+        ensures err { OnErr result (self.new ≡ spent self.old) }
+    {
+        match append(&mut self.spaces.funcs, ty) {
+            Ok(()) => Ok(()),
+            Err(error) => {
+                self.spent = true;
+                Err(error)
+            }
+        }
+    }
+
+    /// Appends an instance of that type, whatever the number of instances.
+    pub fn push_instance(&mut self, ty: ComponentInstanceTypeId) -> Result<(), OutOfMemory>
+        requires live { self.old.spent ≡ false }
+        ensures ok { OnOk result (self.new ≡ with_id in_instances ty self.old) }
+        ensures err { OnErr result (self.new ≡ spent self.old) }
+    {
+        match append(&mut self.spaces.instances, ty) {
+            Ok(()) => Ok(()),
+            Err(error) => {
+                self.spent = true;
+                Err(error)
+            }
+        }
+    }
+
+    /// Adds a resource to those that are defined, with its representation where that is known.
+    pub fn define_resource(
+        &mut self,
+        resource: ResourceId,
+        rep: Option<ValType>,
+    ) -> Result<(), OutOfMemory>
+        requires live { self.old.spent ≡ false }
+        requires imported { has_resource resource self.old.imported_resources ≡ false }
+        requires defined { has_resource resource self.old.defined_resources ≡ false }
+        ensures ok { OnOk result (self.new ≡ with_defined resource rep self.old) }
+        ensures err { OnErr result (self.new ≡ spent self.old) }
+    {
+        match self.defined_resources.insert(resource, rep) {
+            Ok(()) => Ok(()),
+            Err(error) => {
+                self.spent = true;
+                Err(error)
+            }
+        }
+    }
+}

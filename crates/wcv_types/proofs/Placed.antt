@@ -1,0 +1,24 @@
+-- Sets by places, where something holds of each set and its place.
+use Rattle.std.proofs.Common.{◌≡◌, ℕ, List, [], ◌∷◌, ◌++◌, refl, sym, subst, Bool, true, false, cond, eqb, Some}
+use Rattle.std.specs.Prelude.{All, is_some}
+use Rattle.std.specs.Map.{lookup}
+use Rattle.std.proofs.lemmas.Bool.{eqb-true}
+use Rattle.std.proofs.lemmas.List.Elements.{All-head, All-tail, All-push}
+use Rattle.std.proofs.lemmas.Option.{same_Some}
+use Rattle.wcv_types.specs.Sets.{with_set}
+
+module _ {X : Type 0} (P : ℕ × X → Type 0) where
+  pub placed_found : (ks : List (ℕ × X)) (k : ℕ) (x : X) → All P ks → lookup (eqb k) ks ≡ Some x → P (k, x)
+  placed_found [] k x h e = cc
+  placed_found (q ∷ ks) k x h e = go (eqb k q.0) refl e (λ f. placed_found ks k x (All-tail P q ks h) f)
+    where
+      go : (b : Bool) → eqb k q.0 ≡ b → cond b (Some q.1) (lookup (eqb k) ks) ≡ Some x → (lookup (eqb k) ks ≡ Some x → P (k, x)) → P (k, x)
+      go true i w f = subst P (λ j. (sym (eqb-true k q.0 i) j, same_Some _ _ w j)) (All-head P q ks h)
+      go false i w f = f w
+
+  pub placed_put : (ks : List (ℕ × X)) (k : ℕ) (x : X) → All P ks → P (k, x) → All P (with_set ks k x)
+  placed_put ks k x h g = go (is_some (lookup (eqb k) ks))
+    where
+      go : (b : Bool) → All P (cond b ks (ks ++ (k, x) ∷ []))
+      go true = h
+      go false = All-push P ks (k, x) h g

@@ -1,0 +1,24 @@
+use Rattle.std.proofs.Common.{◌+◌, ◌*◌}
+use Rattle.wcv_types.specs.Entities.{any_part, entity_slot}
+use Rattle.wcv_types.specs.Needing.{AllNeeded}
+use Rattle.wcv_types.specs.Unfold.{rank}
+use Rattle.wcv_types.specs.declared.ids.Part.TheVariants as part
+use Rattle.wcv_types.proofs.FreeBelow.{slot_rank, entries_rank}
+use Rattle.wcv_types.proofs.Needing.{GoneThrough}
+use Rattle.wcv_types.proofs.named_contents.+needing.Given as goal
+
+abbrev pub decreases-need_instance : goal.decreases-need_instance
+decreases-need_instance l = 4 * rank (part.Instance l.id)
+
+abbrev pub decreases-need_type : goal.decreases-need_type
+decreases-need_type l = 4 * rank (any_part l.id) + 1
+
+abbrev pub decreases-need_entity : goal.decreases-need_entity
+decreases-need_entity l = 4 * slot_rank (entity_slot l.ty) + 2
+
+abbrev pub decreases-needs_of_exports : goal.decreases-needs_of_exports
+decreases-needs_of_exports l = 4 * entries_rank l.exports.now + 3
+
+-- those before are gone through, and what they created is kept apart
+abbrev pub invariant-needs_of_exports-loop-entry : goal.invariant-needs_of_exports-loop-entry
+invariant-needs_of_exports-loop-entry l = GoneThrough l.types l.set l.exports l.entry-index l.created l.needed × AllNeeded l.types l.set l.known

@@ -1,0 +1,9 @@
+use Rattle.wcv_types.specs.Needing.{beside}
+use Rattle.wcv_types.specs.Unfold.{trees}
+use Rattle.wcv_types.proofs.Knowing.{named_from}
+use Rattle.wcv_types.proofs.Needing.{Left}
+use Rattle.wcv_types.proofs.needs.need_func.Given as goal
+
+-- those before are gone through
+abbrev pub invariant-loop-param : goal.invariant-loop-param
+invariant-loop-param l = Left l.types (λ ids. named_from (beside ids l.created l.set) (trees l.types.nodes) l.shape 0) (λ ids. named_from (beside ids l.created l.set) (trees l.types.nodes) l.shape l.param-index) l.fn.needed l.needed
