@@ -130,7 +130,7 @@ module _ {X Y : Reader} (m : Map X Y) {Known : X.Entry → Type 0} (law : Commut
     decl_checks-mapped : (p : Place) (s : Stack X) (d : Decl) → DeclAlike m Known fs k l p s d → decl_checks fs l p (map_stack m s) d ≡ decl_checks fs k p s d
     decl_checks-mapped p s (core_type_decl t) h = core_type_checks-mapped m law fs s t
     decl_checks-mapped p s (type_decl t) h = declared_checks-mapped true p s t h
-    decl_checks-mapped p s (alias_decl a) h = alias_checks-mapped m law s h a
+    decl_checks-mapped p s (alias_decl a) h = alias_checks-mapped m law fs s h a
     decl_checks-mapped p s (export_decl n r) h = export_checks-mapped p s.top h.known n r h.same
     decl_checks-mapped p s (import_decl i) h = import_checks-mapped m law (k p) (l p) fs s.top h.known i h.same
 

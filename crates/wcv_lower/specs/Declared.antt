@@ -93,7 +93,7 @@ abbrev mutual
   pub decl_checks : {X : Reader} → WasmFeatures → Makers X → Place → Stack X → Decl → Checks
   decl_checks fs mk p s (core_type_decl t) = core_type_checks fs s t
   decl_checks fs mk p s (type_decl t) = declared_checks true fs mk p s t
-  decl_checks fs mk p s (alias_decl a) = alias_checks s a
+  decl_checks fs mk p s (alias_decl a) = alias_checks fs s a
   decl_checks fs mk p s (export_decl n r) = declared_export_checks fs (mk p) s.top n r
   decl_checks fs mk p s (import_decl i) = import_checks fs (mk p) s.top i
 
