@@ -157,10 +157,6 @@ abbrev inner_at : {A : Type 0} → Name → Within A
 inner_at r = inner r
 
 module _ (g₁ k₁ g₂ k₂ c : Name → Name) (ck : (r : Name) → c (k₁ r) ≡ k₂ r) where
-  -- f₁ reads the first move as f₂ the second
-  abbrev pub Tracks : {A B : Type 0} → (A → B) → Reading A → Reading B → (Name → Name) → (Name → Name) → Type_tree → Type 0
-  Tracks h f₁ f₂ u₁ u₂ t = (r : Name) → Free r t → h (f₁ (u₁ r)) ≡ f₂ (u₂ r)
-
   under-tracks : {A B : Type 0} (h : A → B) (f₁ : Name → Within A) (f₂ : Name → Within B) (u₁ u₂ : Name → Name) (x : Head Name Name) (ps : Parts Name Name) →
       Moves g₁ k₁ u₁ (node x ps) → Moves g₂ k₂ u₂ (node x ps) → ((r : Name) → Free r (node x ps) → map_within c h (f₁ (u₁ r)) ≡ f₂ (u₂ r)) →
       (r : Name) → FreeIn r ps → map_within c h (under (move_head g₁ k₁ u₁ x) f₁ (moved k₁ x u₁ r)) ≡ under (move_head g₂ k₂ u₂ x) f₂ (moved k₂ x u₂ r)

@@ -101,11 +101,6 @@ module _ (C : Item_rule) where
       one_reading (j ∷ p) r d (Within A) (in_instance y.0 f) (in_instance t g) (in_instance t h) (named_exports y.0) (tree.exports t) l.3 m' n' in
       within-outer (g r) (h r) (sym (outside-read t g r l.2.1) ∙ q ∙ outside-read t h r l.2.1)
 
--- what MatchBelow says at some height, at one height for both
-module _ (C : Item_rule) where
-  abbrev pub AtSomeHeight : {A : Type 0} → Reading A → Reading A → Type_tree → Type_tree → Type 0
-  AtSomeHeight {A} f g x y = (d : ℕ) × MatchBelow C d A f g x y
-
 -- at most one substitution lets arguments open the imports of a component whose imported resources have paths
 module _ (C : Item_rule) where
   pub one_opening : (p : List ℕ) (r : Name) (s t : Name → Name) (args : List (Text × Type_tree)) (c : Type_tree) (d : ℕ) → PathLeadsTo p r (tree.imports c) → member r (imported_at (head c)) ≡ true →
