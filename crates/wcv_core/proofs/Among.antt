@@ -11,6 +11,9 @@ bytes_eq-sym a b = grind (arith, bytes_eq-Decides a b, bytes_eq-Decides b a)
 pub same_bytes : (a b : List ℕ) → bytes_eq a b ≡ true → a ≡ b
 same_bytes a b e = grind (arith, bytes_eq-Decides a b)
 
+pub own_bytes : (a : List ℕ) → bytes_eq a a ≡ true
+own_bytes a = grind (arith, bytes_eq-Decides a a)
+
 pub or_swap : (a b c : Bool) → (a || (b || c)) ≡ (b || (a || c))
 or_swap a b c = grind arith
 

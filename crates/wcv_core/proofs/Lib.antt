@@ -24,3 +24,4 @@ pub mod HeapWords
 pub mod Mixing
 pub mod Supertypes
 pub mod Comparing
+pub mod Texts

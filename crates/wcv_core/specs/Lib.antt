@@ -7,6 +7,7 @@ pub mod Kinds
 pub mod Refusal
 pub mod Names
 pub mod LabelSet
+pub mod TextSet
 pub mod Checks
 pub mod CoreForm
 pub mod CoreIds

@@ -254,7 +254,7 @@ fn check_func(features: &WasmFeatures, func: &FuncType, offset: u64) -> Result<(
 }
 
 #[tactic(auto, using(crate::proofs::Closing::caused_left, crate::proofs::Closing::caused_right, crate::proofs::Causes::free_both))]
-fn check_form(
+fn check_inner(
     features: &WasmFeatures,
     form: &CompositeInnerType,
     offset: u64,
@@ -283,7 +283,7 @@ fn check_sub(features: &WasmFeatures, ty: &SubType, offset: u64) -> Result<(), R
     check_gc(features, !ty.is_final, "a type that is not final", offset)?;
     check_gc(features, ty.supertype.is_some(), "a supertype", offset)?;
     check_shared(features, ty.shared, "a shared type", offset)?;
-    check_form(features, &ty.inner, offset)
+    check_inner(features, &ty.inner, offset)
 }
 
 #[tactic(auto, using(crate::proofs::Closing::free_mapped))]

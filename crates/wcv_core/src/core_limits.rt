@@ -33,7 +33,7 @@ fn check_count(
 }
 
 #[tactic(auto, using(crate::proofs::Closing::caused_left, crate::proofs::Closing::caused_right, crate::proofs::Causes::free_both))]
-fn check_form(form: &CompositeInnerType, offset: u64) -> Result<(), Refusal<'static>>
+fn check_lists(form: &CompositeInnerType, offset: u64) -> Result<(), Refusal<'static>>
     ensures ok { OnOk result (IsFree (form_left (composite_form form.now))) }
     ensures err { IfErr result (CausedBy (form_left (composite_form form.now)) offset) }
 {
@@ -56,7 +56,7 @@ fn check_subs(types: &[SubType], offset: u64) -> Result<(), Refusal<'static>>
     ensures err { IfErr result (CausedBy (all_checks sub_left (map sub_form types.now)) offset) }
 {
     for ty in types {
-        check_form(&ty.inner, offset)?;
+        check_lists(&ty.inner, offset)?;
     }
     Ok(())
 }

@@ -27,6 +27,7 @@ mod primitive;
 mod rec_group;
 mod slip;
 mod text;
+mod text_set;
 
 pub use append_only::{IndexMapAppendOnly, IntoIter, Iter};
 pub use canonical::canonicalize_and_intern_rec_group;
@@ -59,3 +60,4 @@ pub use primitive::PrimitiveValType;
 pub use rec_group::InternRecGroup;
 pub use slip::Slip;
 pub use text::{Place, Text};
+pub use text_set::TextSet;
