@@ -5,7 +5,7 @@ use Rattle.std.specs.List.{list_any}
 use Rattle.std.proofs.lemmas.Bool.{and_parts}
 use Rattle.std.proofs.lemmas.Bool.Decides.{nat_tests}
 use Rattle.wcv_core.specs.Label.{is_label}
-use Rattle.wcv_syntax.specs.ExternName.{Text, Access, call, get, set, Form, item, constructor, method, static, interface, access_mark, constructor_mark, method_mark, static_mark, joined, dot, slash, colon, at_sign, with_version, written, is_lower_label, is_some_text, is_formed, Names}
+use Rattle.wcv_syntax.specs.ExternName.{Text, Access, call, get, set, Form, item, constructor, method, static, interface, access_mark, constructor_mark, method_mark, static_mark, joined, dot, slash, colon, at_sign, with_version, spelled, is_lower_label, is_some_text, is_formed, Names}
 use Rattle.wcv_syntax.specs.FormOf.{behind, around, choose, marked, used, if_formed, item_in, constructor_in, labels_of, member_in, versioned, interface_in, unmarked, form_of}
 use Rattle.wcv_syntax.proofs.Cuts.{behind-sound, around-sound, around-complete, around-none, lacks}
 use Rattle.wcv_syntax.proofs.LabelBytes.{label-lacks, label-first}
@@ -86,7 +86,7 @@ interface-back n p i v h =
     formed (interface n p i v) h
 
 -- the name of a form has this form
-pub complete : (f : Form) → is_formed f ≡ true → form_of (written f) ≡ Some f
+pub complete : (f : Form) → is_formed f ≡ true → form_of (spelled f) ≡ Some f
 complete (item a l) h =
     item-plainly a l h ∙
     ap (λ (o : Option (Text × Text)). choose o (λ (p : Text × Text). interface_in p.0 p.1) (item_in (access_mark a ++ l))) (around-none colon (access_mark a ++ l) (no_colon a l h)) ∙
@@ -115,10 +115,10 @@ if_formed-sound f x h = go (is_formed f) refl h
     go true e k = (some k, e)
     go false e k = cc k
 
-names : (t : Text) (f x : Form) → written f ≡ t → if_formed f ≡ Some x → Names t x
+names : (t : Text) (f x : Form) → spelled f ≡ t → if_formed f ≡ Some x → Names t x
 names t f x w h =
     let k = if_formed-sound f x h in
-    record { written_so = ap written (sym k.0) ∙ w; formed = ap is_formed (sym k.0) ∙ k.1 }
+    record { written_so = ap spelled (sym k.0) ∙ w; formed = ap is_formed (sym k.0) ∙ k.1 }
 
 marked-sound : (m : Text) (f g : Text → Option Form) (t : Text) → ((u : Text) (x : Form) → f u ≡ Some x → Names (m ++ u) x) → ((x : Form) → g t ≡ Some x → Names t x) → (x : Form) → marked m f g t ≡ Some x → Names t x
 marked-sound m f g t p q x h = go (behind m t) refl h
@@ -135,7 +135,7 @@ used-sound t = go (behind (access_mark get) t) refl (behind (access_mark set) t)
     go None e (Some u) f = sym (behind-sound (access_mark set) t u f)
     go None e None f = refl
 
-member-sound : (m : Text) (k : Access → Text → Text → Form) → ((a : Access) (r f : Text) → written (k a r f) ≡ m ++ (access_mark a ++ joined dot r f)) → ((a : Access) (r f : Text) → is_formed (k a r f) ≡ (is_label r && is_label f))
+member-sound : (m : Text) (k : Access → Text → Text → Form) → ((a : Access) (r f : Text) → spelled (k a r f) ≡ m ++ (access_mark a ++ joined dot r f)) → ((a : Access) (r f : Text) → is_formed (k a r f) ≡ (is_label r && is_label f))
     → (u : Text) (x : Form) → member_in k u ≡ Some x → Names (m ++ u) x
 member-sound m k w q u x h = go (around dot (used u).1) refl h
   where
@@ -144,7 +144,7 @@ member-sound m k w q u x h = go (around dot (used u).1) refl h
     made p e true f j =
         let same : k (used u).0 p.0 p.1 ≡ x = some j in
         record {
-          written_so = ap written (sym same) ∙ w (used u).0 p.0 p.1 ∙ ap (λ (s : Text). m ++ (access_mark (used u).0 ++ s)) (sym e) ∙ ap (λ (s : Text). m ++ s) (used-sound u);
+          written_so = ap spelled (sym same) ∙ w (used u).0 p.0 p.1 ∙ ap (λ (s : Text). m ++ (access_mark (used u).0 ++ s)) (sym e) ∙ ap (λ (s : Text). m ++ s) (used-sound u);
           formed = ap is_formed (sym same) ∙ q (used u).0 p.0 p.1 ∙ f;
         }
     made p e false f j = cc j

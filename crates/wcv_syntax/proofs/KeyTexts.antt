@@ -3,7 +3,7 @@ use Rattle.std.proofs.Common.{◌≡◌, Bool, true, false, cond, Some, None, re
 use Rattle.std.specs.Str.{bytes_eq}
 use Rattle.std.proofs.lemmas.Bool.{and_parts, and_from}
 use Rattle.wcv_core.specs.Label.{is_label, lower_case}
-use Rattle.wcv_syntax.specs.ExternName.{Text, Access, call, get, set, Form, item, constructor, method, static, interface, written, is_formed}
+use Rattle.wcv_syntax.specs.ExternName.{Text, Access, call, get, set, Form, item, constructor, method, static, interface, spelled, is_formed}
 use Rattle.wcv_syntax.specs.FormOf.{form_of}
 use Rattle.wcv_syntax.specs.Keys.{key_of, key_text, item_key, function_key}
 use Rattle.wcv_syntax.specs.declared.key.NameKey.{NameKey}
@@ -39,25 +39,25 @@ back (method call r f) = key.Member r f
 back (method get r f) = key.Member r f
 back (method set r f) = key.Setter (Some r) f
 back (static a r f) = key.Member r f
-back (interface n p i v) = key.Interface (written (interface n p i v))
+back (interface n p i v) = key.Interface (spelled (interface n p i v))
 
-member_written : (r f : Text) (b : Bool) → written (cond b (item call r) (method call r f)) ≡ key_text (cond b (key.Item r) (key.Member r f))
+member_written : (r f : Text) (b : Bool) → spelled (cond b (item call r) (method call r f)) ≡ key_text (cond b (key.Item r) (key.Member r f))
 member_written r f true = refl
 member_written r f false = refl
 
-item_written : (a : Access) (l : Text) → written (item_form a l) ≡ key_text (item_key a l)
+item_written : (a : Access) (l : Text) → spelled (item_form a l) ≡ key_text (item_key a l)
 unfolding item_form
 item_written call l = refl
 item_written get l = refl
 item_written set l = refl
 
-function_written : (a : Access) (r f : Text) → written (function_form a r f) ≡ key_text (function_key a r f)
+function_written : (a : Access) (r f : Text) → spelled (function_form a r f) ≡ key_text (function_key a r f)
 unfolding function_form
 function_written call r f = member_written r f (bytes_eq r f)
 function_written get r f = member_written r f (bytes_eq r f)
 function_written set r f = refl
 
-form_written : (f : Form) → written (key_form f) ≡ key_text (key_of f)
+form_written : (f : Form) → spelled (key_form f) ≡ key_text (key_of f)
 form_written (item a l) = item_written a (lower_case l)
 form_written (constructor l) = refl
 form_written (method a r f) = function_written a (lower_case r) (lower_case f)
@@ -119,6 +119,6 @@ some e = cc e
 
 pub one_key : (f g : Form) → is_formed f ≡ true → is_formed g ≡ true → key_text (key_of f) ≡ key_text (key_of g) → key_of f ≡ key_of g
 one_key f g hf hg e =
-    let same : written (key_form f) ≡ written (key_form g) = form_written f ∙ e ∙ sym (form_written g) in
+    let same : spelled (key_form f) ≡ spelled (key_form g) = form_written f ∙ e ∙ sym (form_written g) in
     let forms : Some (key_form f) ≡ Some (key_form g) = sym (complete (key_form f) (form_formed f hf)) ∙ ap form_of same ∙ complete (key_form g) (form_formed g hg) in
     sym (form_back f) ∙ ap back (some forms) ∙ form_back g

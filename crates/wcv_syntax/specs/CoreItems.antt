@@ -1,5 +1,5 @@
 -- The types of core imports and exports: what they come to in closed form, and why they are refused.
-use Rattle.std.specs.Prelude.{ℕ, ◌+◌, ◌*◌, ◌^◌, List, [], ◌∷◌, ◌++◌, length, map, Bool, true, false, ◌&&◌, ◌||◌, not, eqb, nat_lt, Option, Some, None, slice_get}
+use Rattle.std.specs.Prelude.{ℕ, ◌*◌, ◌^◌, List, [], ◌∷◌, ◌++◌, map, Bool, true, false, ◌&&◌, ◌||◌, not, eqb, nat_lt, Option, Some, None, slice_get}
 use Rattle.std.specs.Option.{option_map}
 use Rattle.wcv_core.specs.Checks.{Checks, is_none, missing}
 use Rattle.wcv_core.specs.CoreFeatures.{needs, exceptions, shared_everything, ref_needs, val_needs}

@@ -57,12 +57,12 @@ abbrev pub with_version : Text → Option Text → Text
 with_version i None = i
 with_version i (Some v) = joined at_sign i v
 
-abbrev pub written : Form → Text
-written (item a l) = access_mark a ++ l
-written (constructor l) = constructor_mark ++ l
-written (method a r f) = method_mark ++ (access_mark a ++ joined dot r f)
-written (static a r f) = static_mark ++ (access_mark a ++ joined dot r f)
-written (interface n p i v) = joined colon n (joined slash p (with_version i v))
+abbrev pub spelled : Form → Text
+spelled (item a l) = access_mark a ++ l
+spelled (constructor l) = constructor_mark ++ l
+spelled (method a r f) = method_mark ++ (access_mark a ++ joined dot r f)
+spelled (static a r f) = static_mark ++ (access_mark a ++ joined dot r f)
+spelled (interface n p i v) = joined colon n (joined slash p (with_version i v))
 
 -- ## Which forms there are
 
@@ -85,7 +85,7 @@ is_formed (interface n p i v) = is_lower_label n && (is_lower_label p && (is_lab
 
 -- the text is a name of that form
 pub record Names (t : Text) (f : Form) : Type 0 where
-  pub written_so : written f ≡ t
+  pub written_so : spelled f ≡ t
   pub formed : is_formed f ≡ true
 
 -- ## What a form needs

@@ -2,7 +2,7 @@
 use Rattle.std.specs.Prelude.{Some, None, if◌then◌else◌}
 use Rattle.std.specs.Str.{bytes_eq}
 use Rattle.wcv_core.specs.Label.{lower_case}
-use Rattle.wcv_syntax.specs.ExternName.{Text, Access, call, get, set, Form, item, constructor, method, static, interface, written}
+use Rattle.wcv_syntax.specs.ExternName.{Text, Access, call, get, set, Form, item, constructor, method, static, interface, spelled}
 use Rattle.wcv_syntax.specs.declared.key.NameKey.{NameKey}
 use Rattle.wcv_syntax.specs.declared.key.NameKey.TheVariants as key
 
@@ -26,13 +26,13 @@ key_of (item a l) = item_key a (lower_case l)
 key_of (constructor l) = key.Constructor (lower_case l)
 key_of (method a r f) = function_key a (lower_case r) (lower_case f)
 key_of (static a r f) = function_key a (lower_case r) (lower_case f)
-key_of (interface n p i v) = key.Interface (written (interface n p i v))
+key_of (interface n p i v) = key.Interface (spelled (interface n p i v))
 
 -- a key as a text: that of a name which has the key
 abbrev pub key_text : NameKey → Text
-key_text (key.Item l) = written (item call l)
-key_text (key.Constructor l) = written (constructor l)
-key_text (key.Member r f) = written (method call r f)
-key_text (key.Setter None l) = written (item set l)
-key_text (key.Setter (Some r) f) = written (method set r f)
+key_text (key.Item l) = spelled (item call l)
+key_text (key.Constructor l) = spelled (constructor l)
+key_text (key.Member r f) = spelled (method call r f)
+key_text (key.Setter None l) = spelled (item set l)
+key_text (key.Setter (Some r) f) = spelled (method set r f)
 key_text (key.Interface t) = t

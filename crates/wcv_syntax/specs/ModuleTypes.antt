@@ -1,11 +1,11 @@
 -- The type of a core module: what its declarations make of it, one after another, and why they are refused.
 use Rattle.wcv_core.specs.Limits.{max_entries, max_list, max_size, max_text}
-use Rattle.std.specs.Prelude.{ℕ, zero, suc, ◌+◌, List, [], ◌∷◌, ◌++◌, length, map, reverse, Bool, true, false, ◌&&◌, ◌||◌, Option, Some, None, slice_get}
+use Rattle.std.specs.Prelude.{ℕ, zero, suc, ◌+◌, List, [], ◌∷◌, ◌++◌, length, map, Bool, false, ◌&&◌, ◌||◌, Option, Some, None, slice_get}
 use Rattle.std.specs.Option.{option_map}
 use Rattle.std.specs.Str.{bytes_eq}
 use Rattle.wcv_core.specs.Checks.{Checks, all_checks, missing, too_many}
 use Rattle.wcv_core.specs.CoreFeatures.{group_left}
-use Rattle.wcv_core.specs.CoreForm.{CompositeForm, func_form, struct_form, array_form, SubForm, Group}
+use Rattle.wcv_core.specs.CoreForm.{Group}
 use Rattle.wcv_core.specs.CoreJoining.{group_checks, group_ids, grown, then_checks, with_types}
 use Rattle.wcv_core.specs.CoreWritten.{Core_entry, sub_entry, module_entry, entry_checks, closed_group}
 use Rattle.wcv_core.specs.Label.{is_among}
@@ -14,8 +14,7 @@ use Rattle.wcv_core.specs.declared.core_types.EntityType.{EntityType}
 use Rattle.wcv_core.specs.declared.error.ErrorKind.TheVariants as kind
 use Rattle.wcv_core.specs.declared.features.WasmFeatures.{WasmFeatures}
 use Rattle.wcv_syntax.specs.CoreItems.{type_entries, ref_checks, entity_of, entity_size}
-use Rattle.wcv_syntax.specs.Model.{Text, Composite_form, core_func, core_struct, core_array, Sub_form, Module_decl, module_type, module_import, module_export, module_outer}
-use Rattle.wcv_syntax.specs.declared.core_section.Import.{Import}
+use Rattle.wcv_syntax.specs.Model.{Text, Module_decl, module_type, module_import, module_export, module_outer}
 use Rattle.wcv_syntax.specs.declared.core_section.TypeRef.{TypeRef}
 
 -- ## The type of a module
@@ -120,18 +119,6 @@ aliased outers m k i = on_entry (at_index (space_at outers m k) i)
 
 -- ## Declarations
 
-abbrev pub core_form : Composite_form → CompositeForm
-core_form (core_func ps rs) = func_form ps rs
-core_form (core_struct fs) = struct_form fs
-core_form (core_array f) = array_form f
-
-abbrev pub core_sub : Sub_form → SubForm
-core_sub s = record { is_final = s.is_final; supertype = s.supertype; shared = s.shared; inner = core_form s.inner }
-
--- a group as it is written in a declaration
-abbrev pub written_group : List Sub_form → Group
-written_group w = map core_sub w
-
 abbrev pub if_entity : (EntityType → Checks) → Option EntityType → Checks
 if_entity f None = []
 if_entity f (Some e) = f e
@@ -150,7 +137,7 @@ abbrev pub alias_joins : List (List Core_entry) → Module_type → ℕ → ℕ 
 alias_joins outers m k i = alias_checks (space_at outers m k) i ++ types_checks m 1
 
 abbrev pub decl_checks : List (List Core_entry) → List Group → Module_type → Module_decl → Checks
-decl_checks outers gs m (module_type w) = group_joins gs m (written_group w)
+decl_checks outers gs m (module_type w) = group_joins gs m w
 decl_checks outers gs m (module_import i) = import_joins gs m i.ty
 decl_checks outers gs m (module_export n t) = export_joins gs m n t
 decl_checks outers gs m (module_outer k i) = alias_joins outers m k i
@@ -165,7 +152,7 @@ with_group_of gs m w =
 
 -- what a declaration makes of them. There is nothing where an index names no type
 abbrev pub declared : List (List Core_entry) → List Group → Module_type → Module_decl → Option Made
-declared outers gs m (module_type w) = Some (with_group_of gs m (written_group w))
+declared outers gs m (module_type w) = Some (with_group_of gs m w)
 declared outers gs m (module_import i) = option_map (λ e. (gs, with_import gs m (i.module, i.name) e)) (entity_of m.types i.ty)
 declared outers gs m (module_export n t) = option_map (λ e. (gs, with_export gs m n e)) (entity_of m.types t)
 declared outers gs m (module_outer k i) = option_map (λ t. (gs, with_type m t)) (aliased outers m k i)
@@ -192,7 +179,7 @@ module_checks outers gs m (d ∷ ds) = then_checks (decl_checks outers gs m d) (
 -- ## Limits on lists and texts, which the calls of a module leave to their caller
 
 abbrev pub decl_left : Module_decl → Checks
-decl_left (module_type w) = group_left (written_group w)
+decl_left (module_type w) = group_left w
 decl_left (module_import i) = too_many max_text (length i.module) ++ too_many max_text (length i.name)
 decl_left (module_export n t) = too_many max_text (length n)
 decl_left (module_outer k i) = []

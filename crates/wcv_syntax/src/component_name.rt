@@ -3,7 +3,7 @@ ghost use Rattle.std.specs.Prelude.{◌≡◌, ◌⊎◌, Some, None, IfOk, IfEr
 ghost use Rattle.wcv_core.specs.Refusal.{error_kind, error_offset};
 ghost use Rattle.wcv_core.specs.declared.error.ErrorKind.TheVariants as kind;
 ghost use Rattle.std.specs.Option.{option_map};
-ghost use Rattle.wcv_syntax.specs.ExternName.{set, access_of, getter_of, written};
+ghost use Rattle.wcv_syntax.specs.ExternName.{set, access_of, getter_of, spelled};
 ghost use Rattle.wcv_syntax.specs.FormOf.{form_of};
 ghost use Rattle.wcv_syntax.specs.Keys.{key_of};
 ghost use Rattle.wcv_syntax.specs.NameFaults.{form_fault, name_fault};
@@ -112,7 +112,7 @@ impl ComponentName {
     /// The name of the getter of a setter, of the same spelling.
     pub fn getter_for_setter(&self, alloc: Global) -> Result<Text, OutOfMemory>
         requires { option_map access_of (form_of self.now) ≡ Some set }
-        ensures { IfOk result (λ t. option_map (λ f. written (getter_of f)) (form_of self.now) ≡ Some t) }
+        ensures { IfOk result (λ t. option_map (λ f. spelled (getter_of f)) (form_of self.now) ≡ Some t) }
     {
         self.kind().getter_for_setter(alloc)
     }

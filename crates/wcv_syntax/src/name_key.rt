@@ -1,7 +1,7 @@
 // Keys of names.
 ghost use Rattle.std.specs.Prelude.{◌≡◌, ◌++◌, string_bytes, IfOk, Some, None};
 ghost use Rattle.wcv_core.specs.Label.{lower_case};
-ghost use Rattle.wcv_syntax.specs.ExternName.{joined, dot, set, access_of, getter_of, written};
+ghost use Rattle.wcv_syntax.specs.ExternName.{joined, dot, set, access_of, getter_of, spelled};
 ghost use Rattle.wcv_syntax.specs.Keys.{member_key as member_key_of, key_of, key_text as key_text_of};
 ghost use Rattle.wcv_syntax.specs.NameViews.{kind_view};
 ghost use Rattle.wcv_syntax.specs.declared.key.NameKey.TheVariants as key;
@@ -213,7 +213,7 @@ impl ComponentNameKind<'_> {
     /// The text of the name of the getter of a setter, of the same spelling.
     pub fn getter_text(&self, alloc: Global) -> Result<String, OutOfMemory>
         requires { access_of (kind_view self.now) ≡ set }
-        ensures { IfOk result (λ s. string_bytes s ≡ written (getter_of (kind_view self.now))) }
+        ensures { IfOk result (λ s. string_bytes s ≡ spelled (getter_of (kind_view self.now))) }
     {
         match self {
             ComponentNameKind::Setter(label) => marked_label(alloc, "[get]", label),
@@ -230,7 +230,7 @@ impl ComponentNameKind<'_> {
     /// The name of the getter of a setter, of the same spelling.
     pub fn getter_for_setter(&self, alloc: Global) -> Result<Text, OutOfMemory>
         requires { access_of (kind_view self.now) ≡ set }
-        ensures { IfOk result (λ t. t ≡ written (getter_of (kind_view self.now))) }
+        ensures { IfOk result (λ t. t ≡ spelled (getter_of (kind_view self.now))) }
     {
         let text = self.getter_text(alloc)?;
         Ok(Text::from(text))

@@ -3,7 +3,7 @@ use crate::built::{is_built_in_component, is_built_in_instance};
 use crate::component_type::{
     ComponentType, ComponentTypeDeclaration, ComponentTypeRef, InstanceTypeDeclaration,
 };
-use crate::instance::ComponentExternalKind;
+use crate::instance::{ComponentAlias, ComponentExternalKind};
 use crate::item::ItemForm;
 use crate::name::{ComponentExport, ComponentImport};
 use std::fmt;
@@ -24,17 +24,21 @@ pub struct ImportForm<'a>(pub &'a ComponentImport);
 #[derive(Clone, Copy)]
 pub struct ExportForm<'a>(pub &'a ComponentExport);
 
+/// Shows what of an alias is not built.
+#[derive(Clone, Copy)]
+pub struct AliasForm<'a>(pub &'a ComponentAlias);
+
 impl fmt::Display for UnreadForm {
     fn fmt<W: fmt::Write>(&self, f: &mut fmt::Formatter<W>) -> fmt::Result {
         f.write_str(match self.0 {
             ItemForm::Type => {
-                r#"the body of this "type" is none of {"func": {"params": [[NAME, TYPE], ..], "result": TYPE, "async": BOOL}}, {"defined": DEFINED}, {"resource": {"rep": CORE-TYPE}}, {"component": [DECLARATION, ..]} and {"instance": [DECLARATION, ..]}; no other is built yet"#
+                r#"the body of this "type" is none of {"func": {"params": [[NAME, TYPE], ..], "result": TYPE, "async": BOOL}}, {"defined": DEFINED}, {"resource": {"rep": CORE-TYPE, "dtor": INDEX}}, {"component": [DECLARATION, ..]} and {"instance": [DECLARATION, ..]}"#
             }
             ItemForm::Import => {
-                r#"the body of this "import" is not {"name": NAME, "type": TYPE} with a TYPE among {"module": INDEX}, {"func": INDEX}, {"eq": INDEX}, "sub-resource", {"instance": INDEX} and {"component": INDEX}; no other is built yet"#
+                r#"the body of this "import" is not {"name": NAME, "type": TYPE} with a TYPE among {"module": INDEX}, {"func": INDEX}, {"value": VALUE-TYPE}, {"eq": INDEX}, "sub-resource", {"instance": INDEX} and {"component": INDEX}"#
             }
             ItemForm::Export => {
-                r#"the body of this "export" is not {"name": NAME, "sort": SORT, "index": INDEX}; no other is built yet"#
+                r#"the body of this "export" is not {"name": NAME, "sort": SORT, "index": INDEX, "type": TYPE}"#
             }
             ItemForm::CoreType => {
                 r#"the body of this "core-type" is neither {"rec": [CORE-TYPE, ..]} nor {"module": [DECLARATION, ..]}"#
@@ -42,10 +46,16 @@ impl fmt::Display for UnreadForm {
             ItemForm::CoreModule => {
                 r#"the body of this "core-module" is no list of {"type": [CORE-TYPE, ..]}, {"import": [MODULE, NAME, ITEM]} and {"export": [NAME, ITEM]}"#
             }
-            ItemForm::CoreInstance => r#"items of the form "core-instance" are not built yet"#,
+            ItemForm::CoreInstance => {
+                r#"the body of this "core-instance" is neither {"module": INDEX, "args": [[NAME, INDEX], ..]} nor {"exports": [[NAME, CORE-SORT, INDEX], ..]}"#
+            }
             ItemForm::Component => r#"items of the form "component" are not built yet"#,
-            ItemForm::Instance => r#"items of the form "instance" are not built yet"#,
-            ItemForm::Alias => r#"items of the form "alias" are not built yet"#,
+            ItemForm::Instance => {
+                r#"the body of this "instance" is neither {"component": INDEX, "args": [[NAME, SORT, INDEX], ..]} nor {"exports": [EXPORT, ..]}"#
+            }
+            ItemForm::Alias => {
+                r#"the body of this "alias" is none of {"export": [INDEX, SORT, NAME]}, {"core-export": [INDEX, CORE-SORT, NAME]} and {"outer": [KIND, COUNT, INDEX]}"#
+            }
             ItemForm::Start => r#"items of the form "start" are not built yet"#,
             ItemForm::Canon => r#"items of the form "canon" are not built yet"#,
         })
@@ -61,7 +71,7 @@ fn write_type<W: fmt::Write>(f: &mut fmt::Formatter<W>, ty: &ComponentType) -> f
         ComponentType::Func(_) => f.write_str("this function type is not built yet"),
         ComponentType::Component(decls) => write_in_component(f, decls),
         ComponentType::Instance(decls) => write_in_instance(f, decls),
-        ComponentType::Resource { .. } => f.write_str("destructors of resources are not built yet"),
+        ComponentType::Resource { .. } => f.write_str("this resource type is not built yet"),
     }
 }
 
@@ -173,5 +183,17 @@ impl fmt::Display for ExportForm<'_> {
             return f.write_str("exports with a written type are not built yet");
         }
         write_entry(f, "exports", sort_word(self.0.kind))
+    }
+}
+
+impl fmt::Display for AliasForm<'_> {
+    fn fmt<W: fmt::Write>(&self, f: &mut fmt::Formatter<W>) -> fmt::Result {
+        f.write_str(match self.0 {
+            ComponentAlias::InstanceExport { .. } => {
+                "aliases of exports of instances are not built yet"
+            }
+            ComponentAlias::CoreInstanceExport { .. } => "this alias is not built yet",
+            ComponentAlias::Outer { .. } => "outer aliases are not built yet",
+        })
     }
 }
