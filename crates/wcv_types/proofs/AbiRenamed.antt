@@ -58,7 +58,7 @@ module _ {R S I J : Type 0} (f : R → S) (g : I → J) where
     contains-rename m (node (defined i k) ps) = ap (former_has m k) (any_contains-rename m ps)
     contains-rename m (node h ps) = refl
 
-    any_contains-rename : (m : Mark) (ps : Parts R I) → any_contains m (rename_parts f g ps) ≡ any_contains m ps
+    pub any_contains-rename : (m : Mark) (ps : Parts R I) → any_contains m (rename_parts f g ps) ≡ any_contains m ps
     any_contains-rename m none = refl
     any_contains-rename m (part r t ps) =
         let a : contains m (rename f g t) ≡ contains m t = contains-rename m t in

@@ -70,6 +70,7 @@ fits_again a k x f h =
       led = led_again x (length (trees a.nodes)) k ps (subst Led e old.led);
       within = items_within (cut a k) a (core_items x) (cut_extends a k) old.within;
       stated = stated_more (cut a k) a x (cut_extends a k) old.parts old.within old.stated;
+      apart = old.apart;
     }
 
 -- what a node of the arena owns is led to

@@ -11,7 +11,7 @@ use Rattle.wcv_types.specs.Given.{NamesGiven, AllNamesGiven}
 use Rattle.wcv_types.specs.Led.{HeadLed, Led}
 use Rattle.wcv_types.specs.Rebuild.{SameSorts, Fills, after, refill, anew, Refits, MadeAgain}
 use Rattle.wcv_types.specs.Resources.{owned_by}
-use Rattle.wcv_types.specs.Standing.{Stands, GaveResource, Fits, with_node}
+use Rattle.wcv_types.specs.Standing.{Stands, GaveResource, AreNamesApart, Fits, with_node}
 use Rattle.wcv_types.specs.Tree.{Extern_name, Role, import, export, component, node, head}
 use Rattle.wcv_types.specs.Unfold.{Type_tree, Slots, IsInfoOf, rank, head_of, resource_path, slots_of, slots_if, slot_parts, parts_in, parts_at, entry_slots, trees, tree_at, tree_of, unfolded}
 use Rattle.wcv_types.specs.declared.arena.Node.{Node}
@@ -27,14 +27,15 @@ use Rattle.wcv_types.proofs.Rebuilding.{fills_sorts, fills_both, refill_both, ma
 
 -- one that may be added to the arena
 pub component_fits : (a : Arena) (s : ComponentType) → All (Stands a) (parts_in (slots_of (n.Component s))) → All (GaveResource a) (owned_by (head_of 0 (n.Component s))) →
-    HeadLed (head_of 0 (n.Component s)) (slot_parts (trees a.nodes) (slots_of (n.Component s))) → IsInfoOf s.info (tree_of (trees a.nodes) (n.Component s)) → Fits a (n.Component s)
-component_fits a s parts owned led info = record {
+    HeadLed (head_of 0 (n.Component s)) (slot_parts (trees a.nodes) (slots_of (n.Component s))) → AreNamesApart (n.Component s) → IsInfoOf s.info (tree_of (trees a.nodes) (n.Component s)) → Fits a (n.Component s)
+component_fits a s parts owned led apart info = record {
   parts = parts;
   info = record { size = info.size; depth = info.depth };
   owned = owned;
   led = led;
   within = All-nil (IsEntityWithin (total a.core));
   stated = tt;
+  apart = apart;
 }
 
 -- its parts: those of its imports, and then those of its exports

@@ -138,6 +138,7 @@ fits_core a hs x f = record {
   led = f.led;
   within = entities_more (total a.core) (total (a.core ++ hs)) (core_items x) (total_more a.core hs (a.core ++ hs) refl) f.within;
   stated = stated_stays a.core hs (trees a.nodes) x f.within f.stated;
+  apart = f.apart;
 }
 
 -- each node still fits

@@ -38,6 +38,7 @@ made_fits a m i j s h large deep =
         led = tt;
         within = All-nil (IsEntityWithin (total a.core));
         stated = size_is;
+        apart = tt;
       },
       size_is,
     )

@@ -1,11 +1,12 @@
 -- Entries with other parts, one entry after another.
 use Rattle.std.proofs.Common.{◌≡◌, ℕ, suc, ◌+◌, ◌<◌, ◌≤◌, List, [], ◌∷◌, ◌++◌, length, drop, get_or, refl, sym, ◌∙◌, ap, subst, drop-cons, add-one, append-nil}
+use Rattle.std.specs.Map.{keys_of}
 use Rattle.std.specs.Prelude.{Option}
 use Rattle.std.proofs.Math.ListN.{drop_of_length-le}
 use Rattle.std.proofs.lemmas.List.{map-append}
 use Rattle.wcv_types.specs.Entities.{entry_parts}
 use Rattle.wcv_types.specs.Rebuild.{SameSorts, FillsSlot, Fills, refill_slot, after_slot, refill, after, Refilling}
-use Rattle.wcv_types.specs.Tree.{Text, Extern_name, Role}
+use Rattle.wcv_types.specs.Tree.{Text, Extern_name, Role, import, export}
 use Rattle.wcv_types.specs.Unfold.{Slot, Slots, entity_slot, entry_name, entry_slots}
 use Rattle.wcv_types.specs.declared.ids.Part.{Part}
 use Rattle.wcv_types.proofs.EntryLists.{Entry, entry_parts-are}
@@ -58,3 +59,19 @@ module _ (es : List Entry) (qs : List Part) where
   -- parts of the same sorts fill them
   pub entries_fill : SameSorts (entry_parts es) qs → (role : Extern_name → Role) → Fills (entry_slots role es) qs
   entries_fill h role = fills_sorts (entry_slots role es) qs (subst (λ (ps : List Part). SameSorts ps qs) (sym (entry_parts-are role es)) h)
+
+-- the name under which a slot stands, where it is one of an entry
+abbrev name_at : Slots → Text
+name_at ((import n, x) ∷ ss) = n.name
+name_at ((export n, x) ∷ ss) = n.name
+name_at ss = []
+
+-- entries with other parts have the same names
+pub names_again : (es made : List Entry) (qs : List Part) → entry_slots import made ≡ refill (entry_slots import es) qs → keys_of made ≡ keys_of es
+names_again [] [] qs h = refl
+names_again [] (y ∷ made) qs h = cc h
+names_again (e ∷ es) [] qs h = cc h
+names_again (e ∷ es) (y ∷ made) qs h =
+    let name : y.0 ≡ e.0 = ap name_at h in
+    let rest : entry_slots import made ≡ refill (entry_slots import es) (after_slot (entity_slot e.1.ty) qs) = cc h in
+    λ j. name j ∷ names_again es made (after_slot (entity_slot e.1.ty) qs) rest j

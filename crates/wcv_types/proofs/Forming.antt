@@ -1,12 +1,14 @@
 -- What is known of a defined type, from what is known of its parts.
-use Rattle.std.proofs.Common.{◌≡◌, ℕ, suc, refl, sym, ◌∙◌, ap, arith, List, [], ◌∷◌, length, false}
+use Rattle.std.proofs.Common.{◌≡◌, ℕ, suc, refl, sym, ◌∙◌, ap, arith, List, [], ◌∷◌, length, take, false}
 use Rattle.std.specs.Prelude.{Option}
 use Rattle.std.proofs.lemmas.Bool.{false≢true}
 use Rattle.wcv_core.specs.Names.{Name}
 use Rattle.wcv_types.specs.Abi.{former_size, former_align, former_has, greatest_align, greatest_size, end_of, count, pointer, handle, borrow, kept_size}
 use Rattle.wcv_types.specs.Facts.{is_plain, IsFactsOf}
+use Rattle.wcv_types.specs.Flat.{former_flat, flat_cases}
 use Rattle.wcv_types.specs.Measure.{former_weight, weigh, deepen, sizes, first_size, depths, first_depth}
 use Rattle.wcv_types.specs.Named.{named_by_itself, is_named}
+use Rattle.wcv_types.specs.Open.{open_words, open_all, listed}
 use Rattle.wcv_types.specs.Sums.{HasAlign, HasParts, IsExtentOf, IsSumOf}
 use Rattle.wcv_types.specs.Tree.{Former, named, variant_of, own_of, borrow_of, flags_of, enum_of, func, Role, Parts, node, sort, is_value}
 use Rattle.wcv_types.specs.Unfold.{Type_tree, capped, former_of, value_parts, value_slots, handles, defined_slots, head_of, slot_parts}
@@ -82,9 +84,9 @@ module _ (s : ComponentDefinedType) (x : Sum) (ts : List Type_tree) (k : ℕ) (h
       f.abi.size32 ≡ kept_size (former_size 4 (former_of s) x.narrow.end x.narrow.align x.narrow.greatest (length (value_parts s))) → f.abi.align32 ≡ former_align 4 (former_of s) x.narrow.align (length (value_parts s)) →
       f.abi.size64 ≡ kept_size (former_size 8 (former_of s) x.wide.end x.wide.align x.wide.greatest (length (value_parts s))) → f.abi.align64 ≡ former_align 8 (former_of s) x.wide.align (length (value_parts s)) →
       f.abi.contains_ptr ≡ former_has pointer (former_of s) x.contains_ptr → f.abi.contains_handle ≡ former_has handle (former_of s) x.contains_handle → f.abi.contains_borrow ≡ former_has borrow (former_of s) x.contains_borrow →
-      f.plain ≡ named_by_itself (former_of s) false x.plain → f.refers ≡ x.refers →
+      f.plain ≡ named_by_itself (former_of s) false x.plain → f.refers ≡ x.refers → listed f.flat ≡ take 17 (former_flat open_words (former_of s) (open_all ps) (flat_cases open_words [] ps)) →
       IsFactsOf f (node (head_of k (n.Defined s)) (slot_parts ts (defined_slots s)))
-  facts_are f i1 i2 a1 a2 a3 a4 m1 m2 m3 q w = record {
+  facts_are f i1 i2 a1 a2 a3 a4 m1 m2 m3 q w o = record {
     info = record {
       size = i1 ∙ ap (λ (m : ℕ). capped (weigh (former_weight (former_of s)) 0 m)) h.size ∙ weigh-capped (former_of s) (first_size ps) (sizes ps);
       depth = i2 ∙ ap (λ (m : ℕ). capped (weigh (former_weight (former_of s)) 0 m)) h.depth ∙ weigh-capped (former_of s) (first_depth ps) (depths ps) ∙
@@ -101,6 +103,7 @@ module _ (s : ComponentDefinedType) (x : Sum) (ts : List Type_tree) (k : ℕ) (h
     };
     plain = q ∙ ap (named_by_itself (former_of s) false) h.plain;
     refers = w ∙ h.refers;
+    flat = o;
   }
 
 -- ## Value types

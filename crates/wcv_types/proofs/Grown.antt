@@ -237,6 +237,7 @@ fits_more a b x e same f = record {
   led = subst (λ (xs : List Node). Led (tree_of (trees xs) x)) (sym same) f.led;
   within = items_within a b (core_items x) e f.within;
   stated = stated_more a b x e f.parts f.within f.stated;
+  apart = f.apart;
 }
 
 -- so an arena that only gave more of them is sound

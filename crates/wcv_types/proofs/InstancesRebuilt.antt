@@ -6,6 +6,7 @@ use Rattle.wcv_core.specs.CoreGroups.{total}
 use Rattle.wcv_core.specs.CoreSizes.{IsEntityWithin}
 use Rattle.wcv_core.specs.Names.{number}
 use Rattle.wcv_types.specs.Arena.{Arena}
+use Rattle.wcv_types.specs.ByName.{NamesDiffer}
 use Rattle.wcv_types.specs.Entities.{entry_parts}
 use Rattle.wcv_types.specs.Given.{NamesGiven, AllNamesGiven}
 use Rattle.wcv_types.specs.Led.{HasPath, Led}
@@ -25,14 +26,15 @@ use Rattle.wcv_types.proofs.Rebuilding.{made_again}
 
 -- one that may be added to the arena
 pub instance_fits : (a : Arena) (s : ComponentInstanceType) → All (Stands a) (parts_in (entry_slots export s.exports)) → All (GaveResource a) (resource_names s.defined_resources) →
-    All (HasPath (exports_in (slot_parts (trees a.nodes) (entry_slots export s.exports)))) (resource_names s.defined_resources) → IsInfoOf s.info (tree_of (trees a.nodes) (n.Instance s)) → Fits a (n.Instance s)
-instance_fits a s parts owned led info = record {
+    All (HasPath (exports_in (slot_parts (trees a.nodes) (entry_slots export s.exports)))) (resource_names s.defined_resources) → NamesDiffer s.exports → IsInfoOf s.info (tree_of (trees a.nodes) (n.Instance s)) → Fits a (n.Instance s)
+instance_fits a s parts owned led apart info = record {
   parts = parts;
   info = record { size = info.size; depth = info.depth };
   owned = owned;
   led = led;
   within = All-nil (IsEntityWithin (total a.core));
   stated = tt;
+  apart = apart;
 }
 
 pub instance_parts : (a : Arena) (i : ComponentInstanceTypeId) (s : ComponentInstanceType) → slice_get a.nodes i.index ≡ Some (n.Instance s) → parts_at a (p.Instance i) ≡ entry_parts s.exports

@@ -22,8 +22,9 @@ pub mod Grown
 pub mod Unfolding
 pub mod AddedAgain
 pub mod Slots
-pub mod Naming
+pub mod FirstPlaces
 pub mod Aligning
+pub mod Cutting
 pub mod Sums
 pub mod Forming
 pub mod Sharing
@@ -57,3 +58,5 @@ pub mod NamedExports
 pub mod Placed
 pub mod Needing
 pub mod NeedingValues
+pub mod SameItems
+pub mod SameSeen

@@ -71,7 +71,7 @@ module_parts a i s = ap (λ (x : Option Node). parts_in (slots_if x)) s.1 ∙ no
 pub module_fits : (a : Arena) (s t : ModuleType) → t.info ≡ s.info → t.imports ≡ s.imports → t.exports ≡ s.exports → Fits a (n.Module s) → Fits a (n.Module t)
 module_fits a s t i is es f =
     subst (λ (u : ModuleType). Fits a (n.Module u)) (λ j. record { info = sym i j; imports = sym is j; exports = sym es j; types = t.types })
-    (record { parts = f.parts; info = record { size = f.info.size; depth = f.info.depth }; owned = f.owned; led = f.led; within = f.within; stated = f.stated })
+    (record { parts = f.parts; info = record { size = f.info.size; depth = f.info.depth }; owned = f.owned; led = f.led; within = f.within; stated = f.stated; apart = tt })
 
 module _ (a b : Arena) (i made : ComponentCoreModuleTypeId) (s t : ModuleType) (qs : List Part) (found : slice_get a.nodes i.index ≡ Some (n.Module s)) (tree : tree_at a (p.Module i) ≡ unfolded a i.index (n.Module s)) where
   pub module_made : t.info ≡ s.info → t.imports ≡ s.imports → t.exports ≡ s.exports → t.types.items ≡ s.types.items → b ≡ with_node a (n.Module t) → rank (p.Module made) ≡ suc (length a.nodes) → Stands b (p.Module made) → MadeAgain a b (p.Module i) qs (p.Module made)

@@ -1,5 +1,5 @@
 -- Nodes that share what they are made of, and what is kept of it.
-use Rattle.std.proofs.Common.{◌≡◌, ℕ, zero, suc, ◌<◌, ◌≤◌, List, [], ◌∷◌, ◌++◌, length, map, get_or, refl, sym, ◌∙◌, ap, subst, arith, length-append, Bool, Some, ⊎_elim}
+use Rattle.std.proofs.Common.{◌≡◌, ℕ, zero, suc, ◌<◌, ◌≤◌, List, [], ◌∷◌, ◌++◌, length, map, take, get_or, refl, sym, ◌∙◌, ap, subst, arith, length-append, Bool, Some, ⊎_elim}
 use Rattle.std.specs.Prelude.{slice_get}
 use Rattle.std.specs.Option.{option_map}
 use Rattle.std.proofs.lemmas.Bool.{cases_lt}
@@ -10,13 +10,17 @@ use Rattle.wcv_core.specs.Names.{Name}
 use Rattle.wcv_types.specs.Abi.{abi_size, abi_align, contains, pointer, handle, borrow, kept_size}
 use Rattle.wcv_types.specs.Facts.{is_plain, IsFactsOf, IsKnown, AllKnown, no_node, nodes_at}
 use Rattle.wcv_types.specs.Measure.{size, depth}
+use Rattle.wcv_types.specs.Open.{open_flat}
 use Rattle.wcv_types.specs.Resources.{mentions}
+use Rattle.wcv_types.specs.ShapeNumbers.{Numbered}
 use Rattle.wcv_types.specs.Tree.{Parts, node}
 use Rattle.wcv_types.specs.Unfold.{Type_tree, capped, left_out, head_of, slots_of, slot_parts, tree_of, tree_in, trees}
 use Rattle.wcv_types.specs.declared.arena.Node.{Node}
 use Rattle.wcv_types.specs.declared.arena.Node.TheVariants as n
 use Rattle.wcv_types.specs.declared.facts.Facts.{Facts}
+use Rattle.wcv_types.specs.declared.flat_type.FlatType.{FlatType}
 use Rattle.wcv_types.specs.declared.nodes.Known.{Known}
+use Rattle.wcv_types.specs.declared.shape_numbers.ShapeNumbers.{ShapeNumbers}
 use Rattle.wcv_types.proofs.Each.{length-mapped}
 use Rattle.wcv_types.proofs.Grown.{last_node, node_before, length-trees, trees-push, tree_in_last}
 
@@ -119,6 +123,10 @@ module _ (ks ls : List Known) (ps : List ℕ) (p : ℕ) (y : Known) where
           let there' : slice_get ls q ≡ Some y = ap (slice_get ls) (sym (last_node ps p q k i s)) ∙ there in
           record { known = y; there = there'; facts = subst (IsFactsOf y.facts) (sym same) f }
 
+-- lists that stayed as they were
+pub stay : (ks ls : List Known) (ps qs : List ℕ) (t : ShapeNumbers) → ls ≡ ks → qs ≡ ps → AllKnown ks ps × Numbered (nodes_at ks ps) t → AllKnown ls qs × Numbered (nodes_at ls qs) t
+stay ks ls ps qs t e f h = subst (λ (ms : List Known). AllKnown ms qs × Numbered (nodes_at ms qs) t) (sym e) (subst (λ (rs : List ℕ). AllKnown ks rs × Numbered (nodes_at ks rs) t) (sym f) h)
+
 -- a new shape
 pub seen_push : (ks ls : List Known) (ps qs : List ℕ) (x : Known) (p : ℕ) (xs : List Node) → ls ≡ ks ++ x ∷ [] → qs ≡ ps ++ p ∷ [] → p ≡ length ks → nodes_at ks ps ≡ xs → AllKnown ks ps → nodes_at ls qs ≡ xs ++ x.node ∷ []
 seen_push ks ls ps qs x p xs e f i v a =
@@ -137,8 +145,8 @@ known_push ks ls ps qs x p xs e f i v a g =
 -- ## A node once more
 
 -- all that is kept of a tree
-abbrev kept : Type_tree → ℕ × ℕ × ℕ × ℕ × ℕ × ℕ × Bool × Bool × Bool × Bool × Bool
-kept t = (size t, depth t, abi_size 4 t, abi_align 4 t, abi_size 8 t, abi_align 8 t, contains pointer t, contains handle t, contains borrow t, is_plain t, mentions t)
+abbrev kept : Type_tree → ℕ × ℕ × ℕ × ℕ × ℕ × ℕ × Bool × Bool × Bool × Bool × Bool × List FlatType
+kept t = (size t, depth t, abi_size 4 t, abi_align 4 t, abi_size 8 t, abi_align 8 t, contains pointer t, contains handle t, contains borrow t, is_plain t, mentions t, open_flat t)
 
 facts_kept : (f : Facts) (s t : Type_tree) → kept s ≡ kept t → IsFactsOf f s → IsFactsOf f t
 facts_kept f s t e h = record {
@@ -154,6 +162,7 @@ facts_kept f s t e h = record {
   };
   plain = h.plain ∙ (λ j. (e j).9);
   refers = h.refers ∙ (λ j. (e j).10);
+  flat = h.flat ∙ (λ j. take 17 (e j).11);
 }
 
 -- it looks at no identity

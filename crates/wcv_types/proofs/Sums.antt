@@ -1,18 +1,22 @@
 -- One more part.
-use Rattle.std.proofs.Common.{◌≡◌, ℕ, ◌+◌, min, max, refl, sym, ◌∙◌, ap, arith, List, [], ◌∷◌, ◌++◌, Bool, true, false, ◌||◌, ◌&&◌}
+use Rattle.std.proofs.Common.{◌≡◌, ℕ, ◌+◌, min, max, refl, sym, ◌∙◌, ap, arith, List, [], ◌∷◌, ◌++◌, take, append-nil, append_assoc, Bool, true, false, ◌||◌, ◌&&◌}
 use Rattle.wcv_core.specs.Names.{Name}
 use Rattle.wcv_types.specs.Abi.{align_up, abi_align, abi_size, greatest_align, greatest_size, end_of, Mark, pointer, handle, borrow, contains, any_contains, kept_size}
 use Rattle.wcv_types.specs.Facts.{is_plain, IsFactsOf}
+use Rattle.wcv_types.specs.Flat.{joined, flat_cases}
 use Rattle.wcv_types.specs.Measure.{size, sizes, depth, depths}
 use Rattle.wcv_types.specs.Named.{is_named, are_named}
+use Rattle.wcv_types.specs.Open.{open_join, open_words, open_flat, open_all, listed}
 use Rattle.wcv_types.specs.Resources.{mentions, mentions_in}
 use Rattle.wcv_types.specs.Sums.{IsExtentOf, IsSumOf}
 use Rattle.wcv_types.specs.Tree.{Role, Parts}
 use Rattle.wcv_types.specs.Unfold.{Type_tree, Slot, Slots, slot_tree, slot_parts}
 use Rattle.wcv_types.specs.declared.facts.Facts.{Facts}
+use Rattle.wcv_types.specs.declared.flat_type.FlatType.{FlatType}
 use Rattle.wcv_types.specs.declared.sum.Extent.{Extent}
 use Rattle.wcv_types.specs.declared.sum.Sum.{Sum}
 use Rattle.wcv_types.proofs.Aligning.{behind-kept}
+use Rattle.wcv_types.proofs.Cutting.{cut_before, cut_behind, joined_cut}
 
 module _ (ts : List Type_tree) (s : Role × Slot) where
   abbrev t : Type_tree
@@ -57,6 +61,23 @@ module _ (ts : List Type_tree) (s : Role × Slot) where
   mentions-push [] = or_false (mentions t)
   mentions-push (x ∷ ss) = ap (λ (b : Bool). mentions (slot_tree ts x.1) || b) (mentions-push ss) ∙ or_assoc (mentions (slot_tree ts x.1)) (mentions_in (slot_parts ts ss)) (mentions t)
 
+  all-push : (ss : Slots) → open_all (more ss) ≡ open_all (slot_parts ts ss) ++ open_flat t
+  all-push [] = append-nil (open_flat t)
+  all-push (x ∷ ss) = ap (λ (ys : List FlatType). open_flat (slot_tree ts x.1) ++ ys) (all-push ss) ∙ sym (append_assoc (open_flat (slot_tree ts x.1)) (open_all (slot_parts ts ss)) (open_flat t))
+
+  cases-push : (before : List FlatType) (ss : Slots) → flat_cases open_words before (more ss) ≡ joined open_join (flat_cases open_words before (slot_parts ts ss)) (open_flat t)
+  cases-push before [] = refl
+  cases-push before (x ∷ ss) = cases-push (joined open_join before (open_flat (slot_tree ts x.1))) ss
+
+  -- as many as are kept
+  all-kept : (xs ys zs : List FlatType) (ss : Slots) → xs ≡ take 17 (open_all (slot_parts ts ss)) → ys ≡ take 17 (open_flat t) → zs ≡ take 17 (xs ++ ys) → zs ≡ take 17 (open_all (more ss))
+  all-kept xs ys zs ss h i e =
+      e ∙ (λ j. take 17 (h j ++ i j)) ∙ cut_before 17 (open_all (slot_parts ts ss)) (take 17 (open_flat t)) ∙ cut_behind 17 (open_all (slot_parts ts ss)) (open_flat t) ∙ ap (take 17) (sym (all-push ss))
+
+  cases-kept : (xs ys zs : List FlatType) (ss : Slots) → xs ≡ take 17 (flat_cases open_words [] (slot_parts ts ss)) → ys ≡ take 17 (open_flat t) → zs ≡ joined open_join xs ys → zs ≡ take 17 (flat_cases open_words [] (more ss))
+  cases-kept xs ys zs ss h i e =
+      e ∙ (λ j. joined open_join (h j) (i j)) ∙ sym (joined_cut open_join 17 (flat_cases open_words [] (slot_parts ts ss)) (open_flat t)) ∙ ap (take 17) (sym (cases-push [] ss))
+
   align-push : (p : ℕ) (ss : Slots) → greatest_align p (more ss) ≡ max (greatest_align p (slot_parts ts ss)) (abi_align p t)
   align-push p [] = omega arith
   align-push p (x ∷ ss) = omega (arith, align-push p ss)
@@ -86,8 +107,9 @@ pub sum_push : (old new : Sum) (x : Facts) (ts : List Type_tree) (ss : Slots) (s
     new.contains_ptr ≡ (old.contains_ptr || x.abi.contains_ptr) → new.contains_handle ≡ (old.contains_handle || x.abi.contains_handle) → new.contains_borrow ≡ (old.contains_borrow || x.abi.contains_borrow) →
     new.narrow ≡ record { end = min (align_up x.abi.align32 old.narrow.end + x.abi.size32) 18446744073709551615; align = max old.narrow.align x.abi.align32; greatest = max old.narrow.greatest x.abi.size32 } →
     new.wide ≡ record { end = min (align_up x.abi.align64 old.wide.end + x.abi.size64) 18446744073709551615; align = max old.wide.align x.abi.align64; greatest = max old.wide.greatest x.abi.size64 } →
+    listed new.all ≡ take 17 (listed old.all ++ listed x.flat) → listed new.cases ≡ joined open_join (listed old.cases) (listed x.flat) →
     IsSumOf new (slot_parts ts (ss ++ s ∷ []))
-sum_push old new x ts ss s h f v e1 e2 e3 e0 e4 e5 e6 e7 e8 = record {
+sum_push old new x ts ss s h f v e1 e2 e3 e0 e4 e5 e6 e7 e8 e9 e10 = record {
   size = omega (arith, e1, h.size, f.info.size, sizes-push ts s ss);
   depth = omega (arith, e2, h.depth, f.info.depth, depths-push ts s ss);
   plain = e3 ∙ (λ j. h.plain j && (f.plain ∙ v) j) ∙ sym (named-push ts s ss);
@@ -97,4 +119,6 @@ sum_push old new x ts ss s h f v e1 e2 e3 e0 e4 e5 e6 e7 e8 = record {
   contains_borrow = e6 ∙ (λ j. h.contains_borrow j || f.abi.contains_borrow j) ∙ sym (contains-push ts s borrow ss);
   narrow = extent-push ts s 4 old.narrow new.narrow x.abi.size32 x.abi.align32 ss h.narrow f.abi.size32 f.abi.align32 e7;
   wide = extent-push ts s 8 old.wide new.wide x.abi.size64 x.abi.align64 ss h.wide f.abi.size64 f.abi.align64 e8;
+  all = all-kept ts s (listed old.all) (listed x.flat) (listed new.all) ss h.all f.flat e9;
+  cases = cases-kept ts s (listed old.cases) (listed x.flat) (listed new.cases) ss h.cases f.flat e10;
 }

@@ -1,10 +1,11 @@
 -- What the arena keeps of a node, so that no call reads a type through.
-use Rattle.std.specs.Prelude.{ℕ, List, [], Bool, Some, slice_get, slice_index_or, map, ◌≡◌}
+use Rattle.std.specs.Prelude.{ℕ, List, [], Bool, Some, slice_get, slice_index_or, map, take, ◌≡◌}
 use Rattle.wcv_core.specs.Names.{Name}
 use Rattle.wcv_core.specs.declared.primitive.PrimitiveValType.TheVariants as prim
 use Rattle.wcv_types.specs.Tree.{Tree, func, node}
 use Rattle.wcv_types.specs.Abi.{IsAbiOf}
 use Rattle.wcv_types.specs.Named.{is_named, are_named}
+use Rattle.wcv_types.specs.Open.{open_flat, listed}
 use Rattle.wcv_types.specs.Resources.{mentions}
 use Rattle.wcv_types.specs.Unfold.{Type_tree, IsInfoOf, tree_in, trees}
 use Rattle.wcv_types.specs.declared.facts.Facts.{Facts}
@@ -23,6 +24,8 @@ pub record IsFactsOf (f : Facts) (t : Type_tree) : Type 0 where
   pub abi : IsAbiOf f.abi t
   pub plain : f.plain ≡ is_plain t
   pub refers : f.refers ≡ mentions t
+  -- of a value type, as many as are kept
+  pub flat : listed f.flat ≡ take 17 (open_flat t)
 
 -- what stands past them, where no node points
 abbrev pub no_node : Node

@@ -1,4 +1,5 @@
 pub mod Tree
+pub mod ByName
 pub mod Identity
 pub mod Positions
 pub mod Measure
@@ -20,6 +21,8 @@ pub mod Standing
 pub mod Entities
 pub mod ComponentTrees
 pub mod Abi
+pub mod Flat
+pub mod Open
 pub mod Facts
 pub mod Sums
 pub mod EntrySums
@@ -34,3 +37,5 @@ pub mod Alike
 pub mod ShapeNumbers
 pub mod CoreCalls
 pub mod ExplicitPaths
+pub mod SameItems
+pub mod SameSeen

@@ -1,7 +1,7 @@
 -- Which types are named by a list of identities.
 use Rattle.std.specs.Prelude.{List, ◌∷◌, Bool, true, ◌&&◌, Option, Some, None}
 use Rattle.wcv_core.specs.Names.{Name}
-use Rattle.wcv_types.specs.Tree.{resource, defined, func, instance, type_entity, Former, named, record_of, variant_of, flags_of, enum_of, Tree, node, Parts, none, part, head, created, referenced}
+use Rattle.wcv_types.specs.Tree.{resource, defined, func, instance, type_entity, Former, named, record_of, variant_of, flags_of, enum_of, Tree, node, Parts, none, part, head, created}
 use Rattle.wcv_types.specs.Identity.{Identity, of_node, of_reference, identity_at, same_identity}
 use Rattle.wcv_types.specs.Positions.{is_there}
 
@@ -56,9 +56,3 @@ abbrev mutual
   pub created_passes : List Identity → Parts Name Name → Bool
   created_passes ids none = true
   created_passes ids (part k t ps) = passes ids t
-
--- an import or an export is named: of a value its type, of a type what it refers to, of others what they are made of
-abbrev pub is_named_entry : List Identity → Tree Name Name → Bool
-is_named_entry ids (node (defined i k) ps) = is_named ids (node (defined i k) ps)
-is_named_entry ids (node type_entity ps) = passes ids (referenced (node type_entity ps))
-is_named_entry ids t = passes ids t

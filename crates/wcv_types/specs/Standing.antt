@@ -8,6 +8,7 @@ use Rattle.wcv_core.specs.declared.core_types.EntityType.{EntityType}
 use Rattle.wcv_types.specs.Tree.{node, head}
 use Rattle.wcv_types.specs.Identity.{Identity, of_node, of_reference, identity_at}
 use Rattle.wcv_types.specs.Arena.{Arena}
+use Rattle.wcv_types.specs.ByName.{NamesDiffer}
 use Rattle.wcv_types.specs.Led.{Led}
 use Rattle.wcv_types.specs.Measure.{size}
 use Rattle.wcv_types.specs.Resources.{owned_by}
@@ -78,6 +79,12 @@ IsStated gs ts (n.Module s) = s.info.size ≡ capped (suc (entity_sizes gs (core
 IsStated gs ts (n.CoreInstance s) = s.info.size ≡ capped (suc (kind_size gs ts s.kind))
 IsStated gs ts _ = Unit {0}
 
+-- in the imports and in the exports of a component type, and in the exports of an instance type, the names differ
+abbrev pub AreNamesApart : Node → Type 0
+AreNamesApart (n.Instance s) = NamesDiffer s.exports
+AreNamesApart (n.Component s) = NamesDiffer s.imports × NamesDiffer s.exports
+AreNamesApart _ = Unit {0}
+
 -- the node may be added to the arena
 pub record Fits (a : Arena) (x : Node) : Type 0 where
   pub parts : All (Stands a) (parts_of x)
@@ -88,6 +95,7 @@ pub record Fits (a : Arena) (x : Node) : Type 0 where
   -- the core types that it names are of the table
   pub within : All (IsEntityWithin (total a.core)) (core_items x)
   pub stated : IsStated a.core (trees a.nodes) x
+  pub apart : AreNamesApart x
 
 -- the arena with its first k nodes alone
 abbrev pub cut : Arena → ℕ → Arena

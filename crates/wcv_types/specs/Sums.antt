@@ -1,9 +1,11 @@
 -- What is known of the parts of a node, added up.
-use Rattle.std.specs.Prelude.{ℕ, [], ◌≡◌, ◌≤◌}
+use Rattle.std.specs.Prelude.{ℕ, [], take, ◌≡◌, ◌≤◌}
 use Rattle.wcv_core.specs.Names.{Name}
 use Rattle.wcv_types.specs.Abi.{greatest_align, end_of, greatest_size, pointer, handle, borrow, any_contains, kept_size}
+use Rattle.wcv_types.specs.Flat.{flat_cases}
 use Rattle.wcv_types.specs.Measure.{sizes, depths}
 use Rattle.wcv_types.specs.Named.{are_named}
+use Rattle.wcv_types.specs.Open.{open_words, open_all, listed}
 use Rattle.wcv_types.specs.Resources.{mentions_in}
 use Rattle.wcv_types.specs.Tree.{Parts}
 use Rattle.wcv_types.specs.Unfold.{capped}
@@ -32,6 +34,8 @@ pub record IsSumOf (s : Sum) (ps : Parts Name Name) : Type 0 where
   pub contains_borrow : s.contains_borrow ≡ any_contains borrow ps
   pub narrow : IsExtentOf 4 s.narrow ps
   pub wide : IsExtentOf 8 s.wide ps
+  pub all : listed s.all ≡ take 17 (open_all ps)
+  pub cases : listed s.cases ≡ take 17 (flat_cases open_words [] ps)
 
 -- the greatest alignment of parts is no zero
 pub record HasParts (s : Sum) : Type 0 where

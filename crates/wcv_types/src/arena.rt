@@ -1,13 +1,14 @@
 // The arena of types.
-ghost use Rattle.std.specs.Prelude.{◌≡◌, ℕ, suc, ◌+◌, ◌<◌, List, [], ◌∷◌, length, slice_get, Some, All, OnOk, OnErr, IfOk};
+ghost use Rattle.std.specs.Prelude.{◌≡◌, ℕ, suc, ◌+◌, ◌<◌, List, [], ◌∷◌, length, slice_get, take, Some, All, OnOk, OnErr, IfOk};
 ghost use Rattle.wcv_types.specs.Abi.{IsAbiOf};
 ghost use Rattle.wcv_types.specs.Entities.{SlotStands};
 ghost use Rattle.wcv_types.specs.Facts.{IsFactsOf};
 ghost use Rattle.wcv_types.specs.Given.{AllNamesGiven};
+ghost use Rattle.wcv_types.specs.Open.{open_flat, listed};
 ghost use Rattle.wcv_types.specs.Renewed.{NodeAgain, with_stamp};
 ghost use Rattle.wcv_types.specs.Resources.{mentions};
-ghost use Rattle.wcv_types.specs.Unfold.{place, rank, parts_of, slot_tree, tree_at, tree_in, tree_of, trees, unfolded, value_slot};
-ghost use Rattle.wcv_types.specs.Standing.{Stands, StandsBefore, Fits, KeepsTrees, with_node};
+ghost use Rattle.wcv_types.specs.Unfold.{option_slot, place, rank, parts_of, slot_tree, tree_at, tree_in, tree_of, trees, unfolded, value_slot};
+ghost use Rattle.wcv_types.specs.Standing.{AllFit, Stands, StandsBefore, Fits, KeepsTrees, with_node};
 
 use crate::abi::AbiInfo;
 use crate::component_type::ComponentType;
@@ -16,6 +17,7 @@ use crate::defined_facts::value_facts;
 use crate::facts::Facts;
 use crate::ids::{AliasableResourceId, ResourceId};
 use crate::instance_type::ComponentInstanceType;
+use crate::lowered_types::LoweredTypes;
 use crate::nodes::Nodes;
 use crate::shapes::{ComponentDefinedType, ComponentFuncType, ComponentValType};
 use crate::sorts::NodeSort;
@@ -111,9 +113,10 @@ impl TypeAlloc {
         let _ = &self.nodes;
     }
 
-    /// What is in the arena fits it: it could be added once more. It does nothing.
-    pub(crate) fn nodes_fit(&self)
-        ensures { (k : ℕ) (x : Node) → slice_get self.now.nodes k ≡ Some x → Fits self.now x }
+    /// Each node fits those before it, and could be added once more. It does nothing.
+    pub fn nodes_fit(&self)
+        ensures all { AllFit self.now }
+        ensures again { (k : ℕ) (x : Node) → slice_get self.now.nodes k ≡ Some x → Fits self.now x }
     {
         let _ = &self.nodes;
     }
@@ -168,6 +171,14 @@ impl TypeAlloc {
         ensures { IsAbiOf result (slot_tree (trees self.now.nodes) (value_slot ty.now)) }
     {
         value_facts(self, Some(*ty)).abi
+    }
+
+    /// The first 17 flat types of the value type, or of what is left out. It takes no memory.
+    pub fn flat_types(&self, ty: Option<ComponentValType>) -> LoweredTypes
+        requires { SlotStands self.now (option_slot ty) }
+        ensures { listed result ≡ take 17 (open_flat (slot_tree (trees self.now.nodes) (option_slot ty))) }
+    {
+        value_facts(self, ty).flat
     }
 
     /// The node.

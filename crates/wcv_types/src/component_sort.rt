@@ -1,12 +1,14 @@
 // Component types as nodes of the arena.
 ghost use Rattle.std.specs.Prelude.{◌≡◌, ◌++◌, map, All, IfOk};
+ghost use Rattle.std.specs.Map.{keys_of};
 ghost use Rattle.wcv_core.specs.Names.{number};
+ghost use Rattle.wcv_types.specs.ByName.{NamesDiffer};
 ghost use Rattle.wcv_types.specs.EntrySums.{IsTotalOfParts};
 ghost use Rattle.wcv_types.specs.Facts.{IsFactsOf};
 ghost use Rattle.wcv_types.specs.Led.{HeadLed};
 ghost use Rattle.wcv_types.specs.Rebuild.{SameSorts, refill};
 ghost use Rattle.wcv_types.specs.Resources.{owned_by};
-ghost use Rattle.wcv_types.specs.Standing.{Stands, GaveResource, Fits};
+ghost use Rattle.wcv_types.specs.Standing.{Stands, AreNamesApart, GaveResource, Fits};
 ghost use Rattle.wcv_types.specs.Tree.{component, export, firsts, import};
 ghost use Rattle.wcv_types.specs.Unfold.{entry_slots, head_of, parts_in, parts_of, resource_path, slot_parts, slots_of, tree_of, trees};
 ghost use Rattle.wcv_types.specs.declared.arena.Node.TheVariants as n;
@@ -47,6 +49,7 @@ impl ComponentType {
         requires stand { All (Stands types.now) (parts_in (entry_slots import imports ++ entry_slots export exports)) }
         requires owned { All (GaveResource types.now) (firsts (map resource_path imported_resources) ++ firsts (map resource_path defined_resources)) }
         requires led { HeadLed (component (number 0) (map resource_path imported_resources) (map resource_path defined_resources)) (slot_parts (trees types.now.nodes) (entry_slots import imports ++ entry_slots export exports)) }
+        requires apart { NamesDiffer imports × NamesDiffer exports }
         ensures fits { Fits types.now (n.Component result) }
         ensures imported { result.imported_resources ≡ imported_resources }
         ensures defined { result.defined_resources ≡ defined_resources }
@@ -70,7 +73,8 @@ fn sides_again(
     parts: &Parts,
 ) -> Result<(ItemMap, ItemMap), OutOfMemory>
     requires { SameSorts (parts_of (n.Component shape.now)) parts.now }
-    ensures { IfOk result (λ m. entry_slots import m.0 ++ entry_slots export m.1 ≡ refill (slots_of (n.Component shape.now)) parts.now) }
+    ensures slots { IfOk result (λ m. entry_slots import m.0 ++ entry_slots export m.1 ≡ refill (slots_of (n.Component shape.now)) parts.now) }
+    ensures names { IfOk result (λ m. (keys_of m.0 ≡ keys_of shape.now.imports) × (keys_of m.1 ≡ keys_of shape.now.exports)) }
 {
     let mut left = Refill::new(parts);
     let imports = entries_again(alloc, shape.imports.as_slice(), &mut left)?;
@@ -88,6 +92,7 @@ fn component_again(
     requires stand { All (Stands types.now) parts.now }
     requires owned { All (GaveResource types.now) (owned_by (head_of 0 (n.Component shape.now))) }
     requires led { HeadLed (head_of 0 (n.Component shape.now)) (slot_parts (trees types.now.nodes) (refill (slots_of (n.Component shape.now)) parts.now)) }
+    requires apart { AreNamesApart (n.Component shape.now) }
     ensures fits { IfOk result (λ s. Fits types.now (n.Component s)) }
     ensures slots { IfOk result (λ s. slots_of (n.Component s) ≡ refill (slots_of (n.Component shape.now)) parts.now) }
     ensures imported { IfOk result (λ s. s.imported_resources ≡ shape.now.imported_resources) }
@@ -140,6 +145,7 @@ impl TypeSort for ComponentTypeId {
 
     fn rebuild(self, types: &mut TypeAlloc, parts: &Parts) -> Result<Self, OutOfMemory> {
         types.names_given();
+        types.nodes_fit();
         let shape = component_again(types, Self::node(types, self), parts)?;
         let made = Self::store(types, shape)?;
         Ok(made)

@@ -24,7 +24,7 @@ use wcv_core::OutOfMemory;
 
 /// The type of a core instance that was made of the module.
 #[tactic(auto, using(crate::proofs::CoreInstancesRebuilt::made_fits))]
-fn instance_of(types: &TypeAlloc, id: ComponentCoreModuleTypeId) -> InstanceType
+pub fn core_instance_of(types: &TypeAlloc, id: ComponentCoreModuleTypeId) -> InstanceType
     requires { Stands types.now (p.Module id) }
     ensures fits { Fits types.now (n.CoreInstance result) }
     ensures kind { result.kind ≡ CoreInstanceTypeKind.Instantiated id }
@@ -70,7 +70,7 @@ fn instance_again(
     match &shape.kind {
         CoreInstanceTypeKind::Instantiated(module) => {
             let mut left = Refill::new(parts);
-            Ok(instance_of(types, left.module(*module)))
+            Ok(core_instance_of(types, left.module(*module)))
         }
         CoreInstanceTypeKind::Exports(exports) => {
             exporting_again(types.allocator(), shape.info, exports)

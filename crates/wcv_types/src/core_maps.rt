@@ -1,6 +1,8 @@
 // Imports and exports of a core module by name.
-ghost use Rattle.std.specs.Prelude.{◌≡◌, List, [], ◌∷◌, ◌++◌, length, take, slice_get, option_copied, IfOk, OnOk, OnErr};
+ghost use Rattle.std.specs.Prelude.{◌≡◌, List, [], ◌∷◌, ◌++◌, length, take, slice_get, option_copied, bytes_eq, IfOk, OnOk, OnErr};
+ghost use Rattle.std.specs.Map.{lookup};
 
+use crate::by_name::{ByName, walk};
 use std::alloc::Global;
 use std::marker::Model;
 use wcv_core::{EntityType, OutOfMemory, Text};
@@ -102,6 +104,13 @@ impl ExportMap {
         }
     }
 
+    /// A map of these pairs.
+    pub fn from_entries(entries: Vec<(Text, EntityType)>) -> ExportMap
+        ensures { result ≡ entries.items }
+    {
+        ExportMap { entries }
+    }
+
     /// Appends a pair.
     pub fn push(&mut self, entry: (Text, EntityType)) -> Result<(), OutOfMemory>
         ensures ok { OnOk result (self.new ≡ self.old ++ entry ∷ []) }
@@ -123,6 +132,20 @@ impl ExportMap {
         ensures { option_copied result ≡ slice_get self.now k }
     {
         self.entries.get(k)
+    }
+
+    /// The same pairs, by their names. Who will ask for many names asks there.
+    pub fn by_name(&self, alloc: Global) -> Result<ByName<'_, EntityType>, OutOfMemory>
+        ensures { IfOk result (λ m. m ≡ self.now) }
+    {
+        ByName::new(alloc, self.entries.as_slice())
+    }
+
+    /// What the first pair with this name exports, by a walk through the list.
+    pub fn get(&self, key: &Text) -> Option<&EntityType>
+        ensures { option_copied result ≡ lookup (bytes_eq key.now) self.now }
+    {
+        walk(self.entries.as_slice(), key)
     }
 
     /// An equal map.

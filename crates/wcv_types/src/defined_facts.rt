@@ -27,7 +27,7 @@ impl ComponentDefinedType {
     }
 
     /// How many value types it is made of.
-    pub(crate) fn value_count(&self) -> usize
+    pub fn value_count(&self) -> usize
         ensures { result ≡ length (value_parts self.now) }
     {
         match self {
@@ -50,7 +50,7 @@ impl ComponentDefinedType {
 
     /// The k-th of them, where it is not left out.
     #[tactic(auto, using(crate::proofs::Knowing::tuple_value))]
-    pub(crate) fn value_at(&self, k: usize) -> Option<ComponentValType>
+    pub fn value_at(&self, k: usize) -> Option<ComponentValType>
         requires { k < length (value_parts self.now) }
         ensures { option_map (λ p. p.1) (slice_get (value_parts self.now) k) ≡ Some result }
     {

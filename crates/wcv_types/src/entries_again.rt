@@ -1,5 +1,6 @@
 // Imports, exports and resources of a node, copied for a node with other parts.
 ghost use Rattle.std.specs.Prelude.{◌≡◌, [], ◌∷◌, ◌++◌, IfOk, OnOk};
+ghost use Rattle.std.specs.Map.{keys_of};
 ghost use Rattle.wcv_types.specs.Rebuild.{FillsSlot, Fills, after_slot, refill_slot, refill, after};
 ghost use Rattle.wcv_types.specs.Tree.{Role, Extern_name};
 ghost use Rattle.wcv_types.specs.Unfold.{entity_slot, entry_name, entry_slots};
@@ -68,6 +69,7 @@ pub fn entries_again(
 ) -> Result<ItemMap, OutOfMemory>
     requires { (role : Extern_name → Role) → Fills (entry_slots role entries.now) parts.old }
     ensures slots { IfOk result (λ es. (role : Extern_name → Role) → entry_slots role es ≡ refill (entry_slots role entries.now) parts.old) }
+    ensures names { IfOk result (λ es. keys_of es ≡ keys_of entries.now) }
     ensures left { OnOk result ((role : Extern_name → Role) → parts.new ≡ after (entry_slots role entries.now) parts.old) }
 {
     let mut again = ItemMap::new(alloc);

@@ -17,6 +17,7 @@ use crate::facts::{Facts, nothing_abi, reference_facts};
 use crate::ids::ComponentAnyTypeId;
 use crate::info::TypeInfo;
 use crate::item_map::ComponentItem;
+use crate::lowered_types::LoweredTypes;
 use crate::shapes::ComponentEntityType;
 use wcv_core::Text;
 
@@ -83,6 +84,7 @@ pub fn node_facts(info: TypeInfo, refers: bool) -> Facts
         abi: nothing_abi(),
         plain: true,
         refers,
+        flat: LoweredTypes::new(),
     }
 }
 

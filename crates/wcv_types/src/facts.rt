@@ -11,6 +11,8 @@ ghost use Rattle.wcv_types.specs.declared.ids.AliasableResourceId.{AliasableReso
 
 use crate::abi::AbiInfo;
 use crate::info::TypeInfo;
+use crate::lowered_types::LoweredTypes;
+use crate::shape_types::primitive_types;
 use wcv_core::PrimitiveValType;
 
 /// What the arena keeps of a node, so that no call reads a type through.
@@ -22,6 +24,8 @@ pub struct Facts {
     pub plain: bool,
     /// A reference to a resource stands in the type.
     pub refers: bool,
+    /// The flat types of a value type. Other types have none.
+    pub flat: LoweredTypes,
 }
 
 /// The size of a primitive in memory, where a pointer has that many bytes.
@@ -79,12 +83,14 @@ pub fn leaf_facts(ty: Option<PrimitiveValType>) -> Facts
             abi: primitive_abi(primitive),
             plain: true,
             refers: false,
+            flat: primitive_types(primitive),
         },
         None => Facts {
             info: TypeInfo { size: 0, depth: 0 },
             abi: nothing_abi(),
             plain: true,
             refers: false,
+            flat: LoweredTypes::new(),
         },
     }
 }
@@ -114,5 +120,6 @@ pub fn reference_facts() -> Facts
         abi: nothing_abi(),
         plain: false,
         refers: true,
+        flat: LoweredTypes::new(),
     }
 }

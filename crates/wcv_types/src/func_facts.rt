@@ -11,6 +11,7 @@ use crate::arena::TypeAlloc;
 use crate::defined_facts::value_facts;
 use crate::facts::{Facts, nothing_abi};
 use crate::info::TypeInfo;
+use crate::lowered_types::LoweredTypes;
 use crate::shapes::{ComponentFuncType, ComponentValType};
 use crate::sum::Sum;
 use wcv_core::Text;
@@ -70,5 +71,6 @@ pub fn func_facts(types: &TypeAlloc, shape: &ComponentFuncType) -> Facts
         abi: nothing_abi(),
         plain: sum.plain,
         refers: sum.refers,
+        flat: LoweredTypes::new(),
     }
 }

@@ -1,5 +1,6 @@
 // Instance types as nodes of the arena.
 ghost use Rattle.std.specs.Prelude.{◌≡◌, All, IfOk};
+ghost use Rattle.wcv_types.specs.ByName.{NamesDiffer};
 ghost use Rattle.wcv_types.specs.Facts.{IsFactsOf};
 ghost use Rattle.wcv_types.specs.Led.{HasPath};
 ghost use Rattle.wcv_types.specs.Rebuild.{SameSorts, refill};
@@ -33,6 +34,7 @@ impl ComponentInstanceType {
         requires stand { All (Stands types.now) (parts_in (entry_slots export exports)) }
         requires owned { All (GaveResource types.now) (resource_names defined_resources) }
         requires led { All (HasPath (exports_in (slot_parts (trees types.now.nodes) (entry_slots export exports)))) (resource_names defined_resources) }
+        requires apart { NamesDiffer exports }
         ensures fits { Fits types.now (n.Instance result) }
         ensures resources { result.defined_resources ≡ defined_resources }
         ensures exports { result.exports ≡ exports }
@@ -56,6 +58,7 @@ fn instance_again(
     requires stand { All (Stands types.now) parts.now }
     requires owned { All (GaveResource types.now) (resource_names shape.now.defined_resources) }
     requires led { All (HasPath (exports_in (slot_parts (trees types.now.nodes) (refill (slots_of (n.Instance shape.now)) parts.now)))) (resource_names shape.now.defined_resources) }
+    requires apart { NamesDiffer shape.now.exports }
     ensures fits { IfOk result (λ s. Fits types.now (n.Instance s)) }
     ensures slots { IfOk result (λ s. slots_of (n.Instance s) ≡ refill (slots_of (n.Instance shape.now)) parts.now) }
     ensures resources { IfOk result (λ s. s.defined_resources ≡ shape.now.defined_resources) }
@@ -106,6 +109,7 @@ impl TypeSort for ComponentInstanceTypeId {
 
     fn rebuild(self, types: &mut TypeAlloc, parts: &Parts) -> Result<Self, OutOfMemory> {
         types.names_given();
+        types.nodes_fit();
         let shape = instance_again(types, Self::node(types, self), parts)?;
         let made = Self::store(types, shape)?;
         Ok(made)

@@ -1,8 +1,9 @@
 // Imports and exports by name.
-ghost use Rattle.std.specs.Prelude.{◌≡◌, List, [], ◌∷◌, ◌++◌, length, slice_get, option_copied, bytes_eq, OnOk, OnErr, IfOk};
+ghost use Rattle.std.specs.Prelude.{◌≡◌, List, [], ◌∷◌, ◌++◌, length, slice_get, option_copied, bytes_eq, IfOk, OnOk, OnErr};
 ghost use Rattle.std.specs.Map.{lookup};
 
 use crate::again::copy_text;
+use crate::by_name::{ByName, walk};
 use crate::entries_again::copy_option;
 use crate::shapes::ComponentEntityType;
 use std::alloc::Global;
@@ -101,16 +102,17 @@ impl ItemMap {
         self.entries.get(k)
     }
 
-    /// The item of the first pair with this name.
-    #[tactic(auto, using(crate::proofs::Naming::next_entry, crate::proofs::Naming::no_entry))]
+    /// The same pairs, by their names. Who will ask for many names asks there.
+    pub fn by_name(&self, alloc: Global) -> Result<ByName<'_, ComponentItem>, OutOfMemory>
+        ensures { IfOk result (λ m. m ≡ self.now) }
+    {
+        ByName::new(alloc, self.entries.as_slice())
+    }
+
+    /// The item of the first pair with this name, by a walk through the list.
     pub fn get(&self, key: &Text) -> Option<&ComponentItem>
         ensures { option_copied result ≡ lookup (bytes_eq key.now) self.now }
     {
-        for entry in &self.entries {
-            if key.as_str() == entry.0.as_str() {
-                return Some(&entry.1);
-            }
-        }
-        None
+        walk(self.entries.as_slice(), key)
     }
 }

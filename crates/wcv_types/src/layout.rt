@@ -12,6 +12,7 @@ ghost use Rattle.wcv_types.specs.declared.arena.Node.TheVariants as n;
 use crate::abi::AbiInfo;
 use crate::facts::{Facts, primitive_align, primitive_size};
 use crate::info::TypeInfo;
+use crate::shape_types::shape_types;
 use crate::shapes::ComponentDefinedType;
 use crate::sum::{Extent, Sum, align_up};
 use wcv_core::PrimitiveValType;
@@ -186,5 +187,6 @@ pub fn facts(shape: &ComponentDefinedType, parts: &Sum) -> Facts
         },
         plain: plain(shape, parts.plain),
         refers: parts.refers,
+        flat: shape_types(shape, &parts.all, &parts.cases),
     }
 }

@@ -4,6 +4,7 @@
 mod abi;
 mod again;
 mod arena;
+mod by_name;
 mod component_sort;
 mod component_type;
 mod core_calls;
@@ -18,6 +19,7 @@ mod entry_facts;
 mod entry_parts;
 mod explicit_paths;
 mod facts;
+mod flat_type;
 mod free_sets;
 mod free_variables;
 mod func_facts;
@@ -28,6 +30,7 @@ mod instance_sort;
 mod instance_type;
 mod item_map;
 mod layout;
+mod lowered_types;
 mod module_sort;
 mod named_contents;
 mod named_types;
@@ -43,6 +46,7 @@ mod resource_set;
 mod same_types;
 mod shape_codes;
 mod shape_numbers;
+mod shape_types;
 mod shapes;
 mod sorts;
 mod store;
@@ -74,9 +78,12 @@ ghost use Rattle.wcv_types.specs.declared.ids.Part.{Part};
 
 pub use abi::AbiInfo;
 pub use arena::{Node, TypeAlloc};
+pub use by_name::ByName;
 pub use component_type::{ComponentType, Paths};
+pub use core_instance_sort::core_instance_of;
 pub use core_maps::{ExportMap, ImportMap};
 pub use core_shapes::{CoreInstanceTypeKind, InstanceType, ModuleType};
+pub use flat_type::FlatType;
 pub use ids::{
     AliasableResourceId, ComponentAnyTypeId, ComponentCoreInstanceTypeId,
     ComponentCoreModuleTypeId, ComponentCoreTypeId, ComponentDefinedTypeId, ComponentFuncTypeId,
@@ -85,6 +92,7 @@ pub use ids::{
 pub use info::TypeInfo;
 pub use instance_type::ComponentInstanceType;
 pub use item_map::{ComponentItem, ItemMap};
+pub use lowered_types::LoweredTypes;
 pub use parts::Parts;
 pub use resource_set::ResourceSet;
 pub use shapes::{ComponentDefinedType, ComponentEntityType, ComponentFuncType, ComponentValType};

@@ -26,7 +26,7 @@ impl ComponentDefinedType {
     }
 
     /// The reference to the resource of a handle.
-    pub(crate) fn handle(&self) -> Option<AliasableResourceId>
+    pub fn handle(&self) -> Option<AliasableResourceId>
         ensures { result ≡ handle_of self.now }
     {
         match self {

@@ -15,7 +15,7 @@ use wcv_core::{OutOfMemory, PrimitiveValType, Text};
 
 impl ComponentDefinedType {
     /// The form, as a number.
-    pub(crate) fn form(&self) -> u8
+    pub fn form(&self) -> u8
         ensures { result ≡ form_number (former_of self.now) }
     {
         match self {
@@ -38,7 +38,7 @@ impl ComponentDefinedType {
     }
 
     /// The primitive under the name.
-    pub(crate) fn primitive(&self) -> Option<PrimitiveValType>
+    pub fn primitive(&self) -> Option<PrimitiveValType>
         ensures { result ≡ form_primitive (former_of self.now) }
     {
         match self {
@@ -48,7 +48,7 @@ impl ComponentDefinedType {
     }
 
     /// How many elements a list of a fixed length has.
-    pub(crate) fn fixed_length(&self) -> u32
+    pub fn fixed_length(&self) -> u32
         ensures { result ≡ form_length (former_of self.now) }
     {
         match self {
@@ -58,7 +58,7 @@ impl ComponentDefinedType {
     }
 
     /// The names of flags or of an enum.
-    pub(crate) fn names(&self) -> &[Text]
+    pub fn names(&self) -> &[Text]
         ensures { result.now ≡ form_names (former_of self.now) }
     {
         match self {
@@ -69,7 +69,7 @@ impl ComponentDefinedType {
 
     /// The label of the k-th of the value types that it is made of, where they have labels.
     #[tactic(auto, using(crate::proofs::SameTypes::plain_role))]
-    pub(crate) fn label_at(&self, k: usize) -> Option<&Text>
+    pub fn label_at(&self, k: usize) -> Option<&Text>
         requires { k < length (value_parts self.now) }
         ensures { option_map (λ p. p.0) (slice_get (value_parts self.now) k) ≡ Some (role_of (option_copied result)) }
     {

@@ -8,6 +8,7 @@ ghost use Rattle.wcv_types.specs.Tree.{Role, none};
 ghost use Rattle.wcv_types.specs.Unfold.{Type_tree, Slot, Slots, slot_tree, slot_parts};
 
 use crate::facts::Facts;
+use crate::lowered_types::LoweredTypes;
 
 /// The least multiple of an alignment that is at least that size.
 pub fn align_up(size: u64, align: u64) -> u64
@@ -55,8 +56,8 @@ impl Extent {
 }
 
 /// What is known of the parts of a type, added up: their sizes, their greatest depth, whether none has to be
-/// named, whether one refers to a resource, what stands in them, and how they lie in memory with pointers of 4
-/// and of 8 bytes.
+/// named, whether one refers to a resource, what stands in them, how they lie in memory with pointers of 4 and
+/// of 8 bytes, and their flat types, one behind another and joined.
 #[derive(Clone, Copy)]
 pub struct Sum {
     pub size: u32,
@@ -68,6 +69,8 @@ pub struct Sum {
     pub contains_borrow: bool,
     pub narrow: Extent,
     pub wide: Extent,
+    pub all: LoweredTypes,
+    pub cases: LoweredTypes,
 }
 
 impl Sum {
@@ -85,6 +88,8 @@ impl Sum {
             contains_borrow: false,
             narrow: Extent::new(),
             wide: Extent::new(),
+            all: LoweredTypes::new(),
+            cases: LoweredTypes::new(),
         }
     }
 
@@ -102,5 +107,7 @@ impl Sum {
         self.contains_borrow = self.contains_borrow | part.abi.contains_borrow;
         self.narrow.add(part.abi.size32, part.abi.align32);
         self.wide.add(part.abi.size64, part.abi.align64);
+        self.all.append(&part.flat);
+        self.cases = self.cases.joined(&part.flat);
     }
 }

@@ -1,5 +1,5 @@
 // Sets of types, by their ids.
-ghost use Rattle.std.specs.Prelude.{◌≡◌, [], length, slice_get, option_copied, IfOk, OnOk, OnErr};
+ghost use Rattle.std.specs.Prelude.{◌≡◌, [], length, slice_get, option_copied, OnOk, OnErr};
 ghost use Rattle.wcv_types.specs.Sets.{has_type, with_type};
 
 use crate::ids::ComponentAnyTypeId;
@@ -63,15 +63,5 @@ impl TypeSet {
         ensures { result ≡ has_type self.now entry.now }
     {
         self.ids.contains(entry)
-    }
-
-    /// An equal set.
-    pub fn copy(&self) -> Result<TypeSet, OutOfMemory>
-        ensures { IfOk result (λ copied. copied ≡ self.now) }
-    {
-        match self.ids.clone() {
-            Ok(ids) => Ok(TypeSet { ids }),
-            Err(_) => Err(OutOfMemory),
-        }
     }
 }

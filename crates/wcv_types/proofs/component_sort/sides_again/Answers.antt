@@ -1,4 +1,5 @@
-use Rattle.std.proofs.Common.{◌≡◌, ◌∙◌, List, subst, sym}
+use Rattle.std.proofs.Common.{◌≡◌, ◌∙◌, List, ap, subst, sym}
+use Rattle.std.specs.Map.{keys_of}
 use Rattle.wcv_types.specs.Rebuild.{Fills, after}
 use Rattle.wcv_types.specs.Tree.{import, export}
 use Rattle.wcv_types.specs.Unfold.{entry_slots}
@@ -19,7 +20,10 @@ entries_again-requires-2 c role =
     subst (λ (es : List Entry). Fills (entry_slots role es) c.entries_again.new.parts) (sym c.as_slice-2.ensures)
     (subst (λ (rs : List Part). Fills (entry_slots role c.args.shape.now.exports) rs) (sym left) (component_fill c.args.shape.now c.args.parts.now c.requires import role).1)
 
-pub returns : goal.returns
-returns c =
+pub returns-clause-slots : goal.returns-clause-slots
+returns-clause-slots c =
     component_refilled c.args.shape.now c.args.parts.now c.new-left.result c.entries_again.new.parts c.in_ok-imports.imports c.in_ok-exports.exports c.as_slice.result.now c.as_slice-2.result.now
     c.as_slice.ensures c.as_slice-2.ensures c.new-left.ensures (c.in_ok-imports.ensures.left import) (c.in_ok-imports.ensures.slots import) (c.in_ok-exports.ensures.slots export)
+
+pub returns-clause-names : goal.returns-clause-names
+returns-clause-names c = (c.in_ok-imports.ensures.names ∙ ap keys_of c.as_slice.ensures, c.in_ok-exports.ensures.names ∙ ap keys_of c.as_slice-2.ensures)

@@ -7,8 +7,8 @@ use Rattle.wcv_types.specs.declared.core_shapes.InstanceType.{InstanceType}
 use Rattle.wcv_types.proofs.CoreInstancesRebuilt.{other_stands, exports_same, exports_stay}
 use Rattle.wcv_types.proofs.core_instance_sort.instance_again.Goals as goal
 
-pub instance_of-requires : goal.instance_of-requires
-instance_of-requires c =
+pub core_instance_of-requires : goal.core_instance_of-requires
+core_instance_of-requires c =
     other_stands c.args.types.now c.args.shape.now c.in-Instantiated.module c.module.result c.args.parts.now c.new-left.result c.in-Instantiated.is c.new-left.ensures c.module.ensures.slot c.requires.sorts c.requires.stand
 
 pub returns-in-Exports-clause-fits : goal.returns-in-Exports-clause-fits

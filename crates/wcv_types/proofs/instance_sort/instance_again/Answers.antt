@@ -1,5 +1,7 @@
-use Rattle.std.proofs.Common.{◌≡◌, ◌∙◌, List, subst, sym}
-use Rattle.std.specs.Prelude.{All}
+use Rattle.std.proofs.Common.{◌≡◌, ◌∙◌, List, ap, subst, sym}
+use Rattle.std.specs.List.{IsDistinct}
+use Rattle.std.specs.Map.{keys_of}
+use Rattle.std.specs.Prelude.{All, bytes_eq}
 use Rattle.wcv_types.specs.Led.{HasPath}
 use Rattle.wcv_types.specs.Rebuild.{SameSorts, Fills, refill}
 use Rattle.wcv_types.specs.Tree.{export, exports_in}
@@ -29,3 +31,6 @@ over-requires-clause-led c =
     c.in_ok-exports.ensures.slots export ∙ (λ j. refill (entry_slots export (c.as_slice.ensures j)) (c.new-left.ensures j)) in
     subst (λ (rs : List ResourceId). All (HasPath (exports_in (slot_parts (trees c.args.types.now.nodes) (entry_slots export c.in_ok-exports.exports)))) (resource_names rs)) (sym c.in_ok-resources.ensures)
     (subst (λ (ss : Slots). All (HasPath (exports_in (slot_parts (trees c.args.types.now.nodes) ss))) (resource_names c.args.shape.now.defined_resources)) (sym slots) c.requires.led)
+
+pub over-requires-clause-apart : goal.over-requires-clause-apart
+over-requires-clause-apart c = subst (IsDistinct bytes_eq) (sym (c.in_ok-exports.ensures.names ∙ ap keys_of c.as_slice.ensures)) c.requires.apart

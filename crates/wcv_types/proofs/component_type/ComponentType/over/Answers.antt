@@ -11,4 +11,4 @@ returns-clause-fits c =
     let info = c.info.ensures (component (number (length ts)) (map resource_path c.args.imported_resources) (map resource_path c.args.defined_resources))
     (slot_parts ts (entry_slots import c.args.imports ++ entry_slots export c.args.exports)) refl c.component_total.ensures in
     component_fits c.args.types.now (record { info = c.info.result; imports = c.args.imports; exports = c.args.exports; imported_resources = c.args.imported_resources; defined_resources = c.args.defined_resources })
-    c.requires.stand c.requires.owned c.requires.led (record { size = info.size; depth = info.depth })
+    c.requires.stand c.requires.owned c.requires.led c.requires.apart (record { size = info.size; depth = info.depth })

@@ -3,7 +3,7 @@ use Rattle.wcv_types.proofs.CoreInstancesRebuilt.{core_instance_sorts, core_inst
 use Rattle.wcv_types.proofs.core_instance_sort.ComponentCoreInstanceTypeIdTypeSort.rebuild.Goals as goal
 
 pub instance_again-requires-clause-fits : goal.instance_again-requires-clause-fits
-instance_again-requires-clause-fits c = c.nodes_fit.ensures c.args.self.index (n.CoreInstance c.node.result.now) c.node.ensures.found
+instance_again-requires-clause-fits c = c.nodes_fit.ensures.again c.args.self.index (n.CoreInstance c.node.result.now) c.node.ensures.found
 
 pub instance_again-requires-clause-sorts : goal.instance_again-requires-clause-sorts
 instance_again-requires-clause-sorts c = core_instance_sorts c.args.types.now c.args.self c.node.result.now c.args.parts.now c.node.ensures.found c.node.ensures.unfolds c.requires.refits

@@ -24,6 +24,7 @@ store-requires c =
       led = tt;
       within = All-nil (IsEntityWithin (total c.args.types.now.core));
       stated = tt;
+      apart = tt;
     }
 
 pub returns-clause-ok : goal.returns-clause-ok

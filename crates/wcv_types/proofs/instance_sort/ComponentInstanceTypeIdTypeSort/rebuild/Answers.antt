@@ -1,3 +1,4 @@
+use Rattle.wcv_types.specs.declared.arena.Node.TheVariants as n
 use Rattle.wcv_types.proofs.InstancesRebuilt.{instance_led, instance_owned, instance_sorts, instance_made}
 use Rattle.wcv_types.proofs.instance_sort.ComponentInstanceTypeIdTypeSort.rebuild.Goals as goal
 
@@ -9,6 +10,9 @@ instance_again-requires-clause-owned c = instance_owned c.args.types.now c.args.
 
 pub instance_again-requires-clause-led : goal.instance_again-requires-clause-led
 instance_again-requires-clause-led c = instance_led c.args.types.now c.args.self c.node.result.now c.args.parts.now c.node.ensures.found c.node.ensures.unfolds c.requires.refits
+
+pub instance_again-requires-clause-apart : goal.instance_again-requires-clause-apart
+instance_again-requires-clause-apart c = (c.nodes_fit.ensures.again c.args.self.index (n.Instance c.node.result.now) c.node.ensures.found).apart
 
 pub returns-clause-ok : goal.returns-clause-ok
 returns-clause-ok c =

@@ -19,5 +19,5 @@ returns-clause-fits c =
     let total : IsTotalOfParts c.entries_total-total.result (slot_parts ts (entry_slots export c.args.exports)) =
     subst (λ (es : List Entry). IsTotalOfParts c.entries_total-total.result (slot_parts ts (entry_slots export es))) c.as_slice.ensures (c.entries_total-total.ensures [] export c.new.ensures) in
     let info = c.info.ensures (instance (number (length ts)) (resource_names c.args.defined_resources)) (slot_parts ts (entry_slots export c.args.exports)) refl total in
-    instance_fits c.args.types.now (record { info = c.info.result; defined_resources = c.args.defined_resources; exports = c.args.exports }) c.requires.stand c.requires.owned c.requires.led
+    instance_fits c.args.types.now (record { info = c.info.result; defined_resources = c.args.defined_resources; exports = c.args.exports }) c.requires.stand c.requires.owned c.requires.led c.requires.apart
     (record { size = info.size; depth = info.depth })

@@ -5,7 +5,7 @@ use Rattle.wcv_types.proofs.module_sort.ComponentCoreModuleTypeIdTypeSort.rebuil
 pub store-requires : goal.store-requires
 store-requires c =
     module_fits c.args.types.now c.node.result.now c.in_ok-shape.shape c.in_ok-shape.ensures.info c.in_ok-shape.ensures.imports c.in_ok-shape.ensures.exports
-    (c.nodes_fit.ensures c.args.self.index (n.Module c.node.result.now) c.node.ensures.found)
+    (c.nodes_fit.ensures.again c.args.self.index (n.Module c.node.result.now) c.node.ensures.found)
 
 pub returns-clause-ok : goal.returns-clause-ok
 returns-clause-ok c =

@@ -1,9 +1,14 @@
-use Rattle.std.proofs.Common.{length, ◌<◌, List, refl, sym, subst}
+use Rattle.std.proofs.Common.{◌≡◌, rules, length, ◌<◌, List, refl, sym, subst}
 use Rattle.wcv_types.specs.Facts.{nodes_at}
 use Rattle.wcv_types.specs.declared.arena.Node.{Node}
 use Rattle.wcv_types.proofs.ShapeTables.{numbered_push}
-use Rattle.wcv_types.proofs.Sharing.{again_is, known_again}
+use Rattle.wcv_types.proofs.Sharing.{again_is, known_again, stay}
 use Rattle.wcv_types.proofs.nodes.Nodes.push_again.Goals as goal
+
+pub invariant_of-self : goal.invariant_of-self
+invariant_of-self c =
+    let same : c.push.new.self.items ≡ c.self.inside.positions.items = search rules in
+    stay c.self.inside.known.items c.self.inside.known.items c.self.inside.positions.items c.push.new.self.items c.self.inside.numbers refl same c.self.invariant
 
 pub invariant_of-self-2 : goal.invariant_of-self-2
 invariant_of-self-2 c =

@@ -1,0 +1,7 @@
+use Rattle.std.proofs.Common.{take}
+use Rattle.wcv_types.specs.ByName.{AreFirsts, texts_in}
+use Rattle.wcv_types.proofs.by_name.firsts_of.Given as goal
+
+-- those of the pairs so far
+abbrev pub invariant-loop-place : goal.invariant-loop-place
+invariant-loop-place g l = AreFirsts l.firsts.texts l.firsts.places.items (take l.place (texts_in l.entries))
