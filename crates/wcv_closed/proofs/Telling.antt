@@ -1,5 +1,5 @@
 -- Equal closed forms are of equal value types and items, and groups behind change none.
-use Rattle.std.proofs.Common.{◌≡◌, ℕ, ◌<◌, List, ◌++◌, Bool, Option, refl, ap, arith}
+use Rattle.std.proofs.Common.{◌≡◌, ℕ, ◌<◌, List, ◌++◌, refl, ap, arith}
 use Rattle.wcv_core.specs.CoreForm.{Group}
 use Rattle.wcv_core.specs.CoreGroups.{total, IsHeapWithin, IsValWithin}
 use Rattle.wcv_core.specs.CoreSizes.{IsEntityWithin}
