@@ -6,6 +6,7 @@ use Rattle.std.proofs.lemmas.List.Elements.{All-head, All-tail}
 use Rattle.std.proofs.lemmas.Map.Views.{lookup-from_Contains}
 use Rattle.wcv_core.specs.Names.{Name, base, member, same}
 use Rattle.wcv_core.proofs.Names.{same-true}
+use Rattle.wcv_types.specs.ByName.{NamesDiffer}
 use Rattle.wcv_types.specs.Led.{HeadLed}
 use Rattle.wcv_types.specs.Paths.{IsTypeOf, IsWayTo, PathLeadsTo}
 use Rattle.wcv_types.specs.Tree as tree
@@ -16,7 +17,7 @@ use Rattle.wcv_types.specs.Unfold.{Type_tree}
 use Rattle.wcv_closed.proofs.ModuleMatching.{texts_equiv}
 use Rattle.wcv_matching.specs.Matching.{Item_rule, Entries, Reading, outside, in_instance, Fresh, within, made, in_component, atoms, left, right, Matching, MatchAs, MatchBelow, named, named_exports, named_imports}
 use Rattle.wcv_matching.specs.NamedPaths.{entry, and_then, resource_at, follow}
-use Rattle.wcv_matching.specs.Orderly.{NamesDiffer, AllNamesDiffer, PartNamesDiffer, AllPathsLead, EachNodeIn, Orderly}
+use Rattle.wcv_matching.specs.Orderly.{AreNamedApart, AllNamesDiffer, AllPathsLead, EachNodeIn, Orderly}
 use Rattle.wcv_matching.specs.SameTypes.{made_at, Pairs, paired_imports, paired, SameAs, SameBelow}
 use Rattle.wcv_matching.proofs.Entries.{among}
 use Rattle.wcv_matching.proofs.NamedLists.{entry-contains, some-inj}
@@ -97,21 +98,21 @@ module _ (C : Item_rule) where
   type-met (suc d) A B f g f' g' x t r e m n =
       reference-met C d A B f g f' g' (referenced x) (referenced t) r e.1 (rule C d A f g x t is_type e.0 m).0 (rule C d B g' f' t x is_type (m.0 ∙ e.0) n).0
 
-each_named : (ps : Parts Name Name) → PartNamesDiffer ps → EachPart AllNamesDiffer ps
+each_named : (ps : Parts Name Name) → EachNodeIn (λ h qs. AreNamedApart qs) ps → EachPart AllNamesDiffer ps
 each_named none p = tt
 each_named (part k t ps) p = (p.0, each_named ps p.1)
 
 pub exports-differ : (t : Type_tree) → AllNamesDiffer t → NamesDiffer (named_exports t)
-exports-differ (node h ps) p = p.1
+exports-differ (node h ps) p = p.0.1
 
 pub imports-differ : (t : Type_tree) → AllNamesDiffer t → NamesDiffer (named_imports t)
-imports-differ (node h ps) p = p.0
+imports-differ (node h ps) p = p.0.0
 
 pub export-differs : (t : Type_tree) → AllNamesDiffer t → (n : Text) (x : Type_tree) → Contains (named_exports t) (n, x) → AllNamesDiffer x
-export-differs (node h ps) p = at_export AllNamesDiffer ps (each_named ps p.2)
+export-differs (node h ps) p = at_export AllNamesDiffer ps (each_named ps p.1)
 
 pub import-differs : (t : Type_tree) → AllNamesDiffer t → (n : Text) (x : Type_tree) → Contains (named_imports t) (n, x) → AllNamesDiffer x
-import-differs (node h ps) p = at_import AllNamesDiffer ps (each_named ps p.2)
+import-differs (node h ps) p = at_import AllNamesDiffer ps (each_named ps p.1)
 
 pub then-then : {X Y : Type 0} (o : Option X) (x : X) (u : Option Y) (k : X → Option Y) → o ≡ Some x → k x ≡ u → and_then o k ≡ u
 then-then o x u k e p = rw e p
@@ -262,25 +263,25 @@ module _ (C : Item_rule) where
         (w.0, w.1, z.0, z.1)
 
 -- ## From both directions to Same
-orderly-parts : (ps : Parts Name Name) → PartNamesDiffer ps → EachNodeIn HeadLed ps → EachPart Orderly ps
+orderly-parts : (ps : Parts Name Name) → EachNodeIn (λ h qs. AreNamedApart qs) ps → EachNodeIn HeadLed ps → EachPart Orderly ps
 orderly-parts none p l = tt
 orderly-parts (part k t ps) p l = ((p.0, l.0), orderly-parts ps p.1 l.1)
 
 pub orderly-export : (t : Type_tree) → Orderly t → (n : Text) (x : Type_tree) → Contains (named_exports t) (n, x) → Orderly x
-orderly-export (node h ps) o = at_export Orderly ps (orderly-parts ps o.0.2 o.1.1)
+orderly-export (node h ps) o = at_export Orderly ps (orderly-parts ps o.0.1 o.1.1)
 
 pub orderly-import : (t : Type_tree) → Orderly t → (n : Text) (x : Type_tree) → Contains (named_imports t) (n, x) → Orderly x
-orderly-import (node h ps) o = at_import Orderly ps (orderly-parts ps o.0.2 o.1.1)
+orderly-import (node h ps) o = at_import Orderly ps (orderly-parts ps o.0.1 o.1.1)
 
 no-names : IsDistinct bytes_eq []
 unfolding IsDistinct
 no-names = tt
 
 orderly-nothing : Orderly (node nothing none)
-orderly-nothing = ((no-names, no-names, tt), (tt, tt))
+orderly-nothing = (((no-names, no-names), tt), (tt, tt))
 
 pub orderly-referenced : (t : Type_tree) → Orderly t → Orderly (referenced t)
-orderly-referenced (node h ps) o = go ps (orderly-parts ps o.0.2 o.1.1)
+orderly-referenced (node h ps) o = go ps (orderly-parts ps o.0.1 o.1.1)
   where
     go : (ps : Parts Name Name) → EachPart Orderly ps → Orderly (first_part (rest_parts ps))
     go none e = orderly-nothing

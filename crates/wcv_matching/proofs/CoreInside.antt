@@ -1,5 +1,5 @@
 -- The core types that the types of an arena name are of its table.
-use Rattle.std.proofs.Common.{◌≡◌, List, [], ◌∷◌, ◌++◌, map, Some, Option, refl, sym, subst, ◌∙◌}
+use Rattle.std.proofs.Common.{◌≡◌, List, [], ◌∷◌, ◌++◌, refl, sym, subst, ◌∙◌}
 use Rattle.std.specs.Prelude.{All}
 use Rattle.std.proofs.lemmas.List.Elements.{All-nil}
 use Rattle.wcv_core.specs.CoreGroups.{total}
@@ -9,16 +9,13 @@ use Rattle.wcv_core.specs.declared.core_types.EntityType.{EntityType}
 use Rattle.wcv_types.specs.Arena.{Arena}
 use Rattle.wcv_types.specs.Standing.{Stands, AllFit, core_items, kind_items}
 use Rattle.wcv_types.specs.Tree.{Text, Role, here, label, import, export, core_import, core_export, Parts, part}
-use Rattle.wcv_types.specs.Unfold.{Type_tree, Slots, value_slots, field_slots, defined_slots, option_slot, entry_slots, kind_slots, slots_of, slot_parts, trees, tree_at}
+use Rattle.wcv_types.specs.Unfold.{Type_tree, Slots, entry_slots, kind_slots, slots_of, slot_parts, trees, tree_at}
 use Rattle.wcv_types.specs.declared.arena.Node.{Node}
 use Rattle.wcv_types.specs.declared.arena.Node.TheVariants as n
 use Rattle.wcv_types.specs.declared.core_shapes.CoreInstanceTypeKind.{CoreInstanceTypeKind}
 use Rattle.wcv_types.specs.declared.core_shapes.CoreInstanceTypeKind.TheVariants as kind
 use Rattle.wcv_types.specs.declared.item_map.ComponentItem.{ComponentItem}
 use Rattle.wcv_types.specs.declared.ids.Part.{Part}
-use Rattle.wcv_types.specs.declared.shapes.ComponentDefinedType.{ComponentDefinedType}
-use Rattle.wcv_types.specs.declared.shapes.ComponentDefinedType.TheVariants as d
-use Rattle.wcv_types.specs.declared.shapes.ComponentValType.{ComponentValType}
 use Rattle.wcv_types.proofs.AddedAgain.{fits_again}
 use Rattle.wcv_closed.specs.CoreModules.{EachItem}
 use Rattle.wcv_matching.specs.ModuleItems.{core_imports_in, core_exports_in}
@@ -26,6 +23,7 @@ use Rattle.wcv_matching.specs.Orderly.{items_in}
 use Rattle.wcv_matching.specs.TableMatching.{CoreWithin}
 use Rattle.wcv_matching.proofs.ArenaTypes.{HoldsOfLeaves, each_type}
 use Rattle.wcv_matching.proofs.ModuleTrees.{exports_alone, no_imports, imports_seen, exports_seen, all_mapped, module_imports_all, module_exports_all}
+use Rattle.wcv_matching.proofs.SlotRoles.{EachRole, defined_roles, params_roles}
 
 -- ## Roles of other parts
 
@@ -33,10 +31,6 @@ abbrev IsNoCore : Role → Type 0
 IsNoCore (core_import m n) = ⊥
 IsNoCore (core_export n) = ⊥
 IsNoCore r = Unit {0}
-
-abbrev HaveNoCore : Slots → Type 0
-HaveNoCore [] = Unit {0}
-HaveNoCore (s ∷ ss) = IsNoCore s.0 × HaveNoCore ss
 
 skipped : (r : Role) (t : Type_tree) (ps : Parts Name Name) → IsNoCore r → (core_imports_in (part r t ps) ≡ core_imports_in ps) × (core_exports_in (part r t ps) ≡ core_exports_in ps)
 skipped here t ps h = (refl, refl)
@@ -46,44 +40,11 @@ skipped (export l) t ps h = (refl, refl)
 skipped (core_import m l) t ps h = absurd h
 skipped (core_export l) t ps h = absurd h
 
-fields_plain : (fs : List (Text × ComponentValType)) → HaveNoCore (value_slots (map (λ f. (label f.0, Some f.1)) fs))
-fields_plain [] = tt
-fields_plain (f ∷ fs) = (tt, fields_plain fs)
-
-cases_plain : (cs : List (Text × Option ComponentValType)) → HaveNoCore (value_slots (map (λ c. (label c.0, c.1)) cs))
-cases_plain [] = tt
-cases_plain (c ∷ cs) = (tt, cases_plain cs)
-
-values_plain : (ts : List ComponentValType) → HaveNoCore (value_slots (map (λ t. (here, Some t)) ts))
-values_plain [] = tt
-values_plain (t ∷ ts) = (tt, values_plain ts)
-
-defined_plain : (s : ComponentDefinedType) → HaveNoCore (defined_slots s)
-defined_plain (d.Record fs) = fields_plain fs.items
-defined_plain (d.Variant cs) = cases_plain cs.items
-defined_plain (d.Tuple ts) = values_plain ts.items
-defined_plain (d.List t) = (tt, tt)
-defined_plain (d.Map k t) = (tt, (tt, tt))
-defined_plain (d.FixedLengthList t l) = (tt, tt)
-defined_plain (d.Option t) = (tt, tt)
-defined_plain (d.Result o e) = (tt, (tt, tt))
-defined_plain (d.Future o) = (tt, tt)
-defined_plain (d.Stream o) = (tt, tt)
-defined_plain (d.Primitive q) = tt
-defined_plain (d.Flags ns) = tt
-defined_plain (d.Enum ns) = tt
-defined_plain (d.Own r) = (tt, tt)
-defined_plain (d.Borrow r) = (tt, tt)
-
-params_plain : (fs : List (Text × ComponentValType)) (o : Option ComponentValType) → HaveNoCore (field_slots fs ((here, option_slot o) ∷ []))
-params_plain [] o = (tt, tt)
-params_plain (f ∷ fs) o = (tt, params_plain fs o)
-
-exports_plain : (es : List (Text × ComponentItem)) → HaveNoCore (entry_slots export es)
+exports_plain : (es : List (Text × ComponentItem)) → EachRole IsNoCore (entry_slots export es)
 exports_plain [] = tt
 exports_plain (e ∷ es) = (tt, exports_plain es)
 
-entries_plain : (is es : List (Text × ComponentItem)) → HaveNoCore (entry_slots import is ++ entry_slots export es)
+entries_plain : (is es : List (Text × ComponentItem)) → EachRole IsNoCore (entry_slots import is ++ entry_slots export es)
 entries_plain [] es = exports_plain es
 entries_plain (i ∷ is) es = (tt, entries_plain is es)
 
@@ -93,14 +54,14 @@ module _ (W : EntityType → Type 0) (ts : List Type_tree) where
   abbrev Within_items : Slots → Type 0
   Within_items ss = EachItem W (items_in (slot_parts ts ss))
 
-  no_core : (ss : Slots) → HaveNoCore ss → (core_imports_in (slot_parts ts ss) ≡ []) × (core_exports_in (slot_parts ts ss) ≡ [])
+  no_core : (ss : Slots) → EachRole IsNoCore ss → (core_imports_in (slot_parts ts ss) ≡ []) × (core_exports_in (slot_parts ts ss) ≡ [])
   no_core [] h = (refl, refl)
   no_core (s ∷ ss) h =
       let u = skipped s.0 _ (slot_parts ts ss) h.0 in
       let v = no_core ss h.1 in
       (u.0 ∙ v.0, u.1 ∙ v.1)
 
-  plain_within : (ss : Slots) → HaveNoCore ss → Within_items ss
+  plain_within : (ss : Slots) → EachRole IsNoCore ss → Within_items ss
   plain_within ss h =
       let e = no_core ss h in
       record {
@@ -116,8 +77,8 @@ module _ (W : EntityType → Type 0) (ts : List Type_tree) where
   }
 
   node_within : (x : Node) → All W (core_items x) → Within_items (slots_of x)
-  node_within (n.Defined s) w = plain_within (slots_of (n.Defined s)) (defined_plain s)
-  node_within (n.Func s) w = plain_within (slots_of (n.Func s)) (params_plain s.params.items s.result)
+  node_within (n.Defined s) w = plain_within (slots_of (n.Defined s)) (defined_roles IsNoCore tt (λ l. tt) s)
+  node_within (n.Func s) w = plain_within (slots_of (n.Func s)) (params_roles IsNoCore tt (λ l. tt) s.params.items s.result)
   node_within (n.Instance s) w = plain_within (slots_of (n.Instance s)) (exports_plain s.exports)
   node_within (n.Component s) w = plain_within (slots_of (n.Component s)) (entries_plain s.imports s.exports)
   node_within (n.Module s) w = record {

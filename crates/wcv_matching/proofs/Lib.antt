@@ -20,5 +20,7 @@ pub mod PassBound
 pub mod PassArguments
 pub mod ItemsInside
 pub mod ArenaTypes
+pub mod SlotRoles
+pub mod NamesInside
 pub mod CoreInside
 pub mod PassByIds

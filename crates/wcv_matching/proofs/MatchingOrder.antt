@@ -4,6 +4,7 @@ use Rattle.std.specs.Prelude.{Contains}
 use Rattle.std.proofs.lemmas.Map.Views.{lookup-from_Contains}
 use Rattle.wcv_core.specs.Names.{Name, member}
 use Rattle.wcv_core.specs.declared.core_types.EntityType.{EntityType}
+use Rattle.wcv_types.specs.ByName.{NamesDiffer}
 use Rattle.wcv_types.specs.Tree.{Text, node, nothing, first_part, rest_parts, parts, Parts, none, part, Sort, is_instance, is_component, is_type, is_module, sort, referenced, imported_at, head, Head}
 use Rattle.wcv_types.specs.Resources.{owns}
 use Rattle.wcv_types.specs.Seen.{Within, outer, inner}
@@ -12,7 +13,7 @@ use Rattle.wcv_closed.specs.CoreModules.{Module_items, ModuleMatches, same_pair}
 use Rattle.wcv_closed.proofs.ModuleMatching.{each_on, same_text, same_names, texts_equiv}
 use Rattle.wcv_matching.specs.Matching.{Item_rule, Entries, Reading, in_instance, Fresh, within, made, in_component, atoms, left, right, Matching, MatchAs, MatchBelow, Matches, named_exports, named_imports}
 use Rattle.wcv_matching.specs.ModuleItems.{module_items}
-use Rattle.wcv_matching.specs.Orderly.{NamesDiffer, AllNamesDiffer, PartNamesDiffer, EachModule, EachNodeIn, items_in, height, heights}
+use Rattle.wcv_matching.specs.Orderly.{AreNamedApart, AllNamesDiffer, EachModule, EachNodeIn, items_in, height, heights}
 use Rattle.wcv_matching.proofs.NamedLists.{entry-contains}
 use Rattle.wcv_matching.proofs.TreeParts.{two, EachPart, at_export, at_import}
 use Rattle.wcv_matching.proofs.MatchingKept.{MatchBelow-map}
@@ -122,7 +123,7 @@ module _ (C : Item_rule) where
   Plain d t = AllNamesDiffer t × EachModule (λ m. ModuleMatches C m m) t × (height t < d)
 
 module _ (C : Item_rule) where
-  Plain-parts : (d : ℕ) (ps : Parts Name Name) → PartNamesDiffer ps → EachNodeIn (λ h qs. ModuleMatches C (items_in qs) (items_in qs)) ps → heights ps < d → EachPart (Plain C d) ps
+  Plain-parts : (d : ℕ) (ps : Parts Name Name) → EachNodeIn (λ h qs. AreNamedApart qs) ps → EachNodeIn (λ h qs. ModuleMatches C (items_in qs) (items_in qs)) ps → heights ps < d → EachPart (Plain C d) ps
   Plain-parts d none p m h = tt
   Plain-parts d (part r t ps) p m h = ((p.0, m.0, omega arith), Plain-parts d ps p.1 m.1 (omega arith))
 
@@ -155,7 +156,7 @@ module _ (C : Item_rule) where
   MatchBelow-refl zero A f t p = absurd (omega (arith, p.2))
   MatchBelow-refl (suc d) A f (node h ps) p =
       let q : heights ps < d = omega (arith, p.2) in
-      (refl, MatchAs-refl C d (MatchBelow-refl d) (sort (node h ps)) A f (node h ps) p.0.0 p.0.1 p.1.0 (Plain-parts C d ps p.0.2 p.1.1 q) (omega arith))
+      (refl, MatchAs-refl C d (MatchBelow-refl d) (sort (node h ps)) A f (node h ps) p.0.0.0 p.0.0.1 p.1.0 (Plain-parts C d ps p.0.1 p.1.1 q) (omega arith))
 
 module _ (C : Item_rule) where
   pub Matches-refl : (t : Type_tree) → AllNamesDiffer t → EachModule (λ m. ModuleMatches C m m) t → Matches C t t

@@ -12,6 +12,7 @@ use Rattle.std.proofs.lemmas.Map.Views.{lookup-from_Contains}
 use Rattle.std.proofs.Math.Path.{fun_ext}
 use Rattle.wcv_core.specs.Names.{Name, member, same}
 use Rattle.wcv_core.proofs.Names.{same-true, same-refl}
+use Rattle.wcv_types.specs.ByName.{NamesDiffer}
 use Rattle.wcv_types.specs.Paths.{PathLeadsTo}
 use Rattle.wcv_types.specs.Tree as tree
 use Rattle.wcv_types.specs.Tree.{Text, Extern_name, Head, nothing, primitive, resource, defined, func, instance, component, type_entity, core_module, core_instance, core_type, core_item, Tree, node, Sort, is_nothing, is_value, is_resource, is_func, is_instance, is_component, is_type, is_module, is_core_instance, is_core_type, is_core_item, sort, head, referenced, imported, imported_at, firsts}
@@ -22,7 +23,7 @@ use Rattle.wcv_closed.proofs.ModuleMatching.{texts_equiv}
 use Rattle.wcv_matching.specs.Matching.{Item_rule, Entries, Reading, outside, in_instance, Fresh, within, made, in_component, right, MatchBelow, named, named_exports, named_imports}
 use Rattle.wcv_matching.specs.NamedPaths.{entry, follow}
 use Rattle.wcv_matching.specs.OnePass.{Atom, given, owned_in, made_in, IsAbove, under_at, component_at, imported_paths, made_paths, counterpart, imported_in, defined_in, goes, first_to, one_to_one, own_pair_up, found_in, pairs_pass, same_members, sort_number, Pass, Tests, AreRight, same_as, same_below}
-use Rattle.wcv_matching.specs.Orderly.{NamesDiffer, Orderly, AllPathsLead}
+use Rattle.wcv_matching.specs.Orderly.{Orderly, AllPathsLead}
 use Rattle.wcv_matching.specs.SameTypes.{made_at, defined_by, Pairs, Pairing, paired_imports, paired, SameAs, SameBelow}
 use Rattle.wcv_matching.proofs.NamedLists.{entry-contains, some-inj}
 use Rattle.wcv_matching.proofs.TreeParts.{two}

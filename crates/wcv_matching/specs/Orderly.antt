@@ -1,9 +1,8 @@
 -- What matching by one pass asks of trees, as items make them.
-use Rattle.std.specs.Prelude.{ℕ, suc, max, List, bytes_eq, Contains}
-use Rattle.std.specs.List.{IsDistinct}
-use Rattle.std.specs.Map.{keys_of}
+use Rattle.std.specs.Prelude.{ℕ, suc, max, List, Contains}
 use Rattle.wcv_core.specs.Names.{Name}
 use Rattle.wcv_core.specs.declared.core_types.EntityType.{EntityType}
+use Rattle.wcv_types.specs.ByName.{NamesDiffer}
 use Rattle.wcv_types.specs.Led.{HeadLed}
 use Rattle.wcv_types.specs.Tree.{Text, Head, node, Parts, none, part}
 use Rattle.wcv_types.specs.Unfold.{Type_tree}
@@ -24,17 +23,13 @@ abbrev mutual
 
 -- ## Names
 
-abbrev pub NamesDiffer : {X : Type 0} → List (Text × X) → Type 0
-NamesDiffer es = IsDistinct bytes_eq (keys_of es)
+-- no two imports, and no two exports among the parts have one name
+abbrev pub AreNamedApart : Parts Name Name → Type 0
+AreNamedApart ps = NamesDiffer (named_imports_in ps) × NamesDiffer (named_exports_in ps)
 
--- in each list of imports and of exports inside the tree the names differ
-abbrev mutual
-  pub AllNamesDiffer : Type_tree → Type 0
-  AllNamesDiffer (node h ps) = NamesDiffer (named_imports_in ps) × NamesDiffer (named_exports_in ps) × PartNamesDiffer ps
-
-  pub PartNamesDiffer : Parts Name Name → Type 0
-  PartNamesDiffer none = Unit {0}
-  PartNamesDiffer (part r t ps) = AllNamesDiffer t × PartNamesDiffer ps
+-- so it is at each node inside the tree
+abbrev pub AllNamesDiffer : Type_tree → Type 0
+AllNamesDiffer t = EachNode (λ h ps. AreNamedApart ps) t
 
 -- ## Paths
 

@@ -37,7 +37,8 @@ fn same_ref(a: RefType, b: RefType) -> bool
         && same_heap(a.heap, b.heap)
 }
 
-fn same_val(a: ValType, b: ValType) -> bool
+/// Whether two value types are equal.
+pub fn same_val(a: ValType, b: ValType) -> bool
     ensures { result ≡ same_val a b }
 {
     match (a, b) {

@@ -17,7 +17,7 @@ ghost use Rattle.wcv_matching.specs.IdTests.{tests_by_ids};
 ghost use Rattle.wcv_matching.specs.Matching.{Matches, OpensImports};
 ghost use Rattle.wcv_matching.specs.ModuleItems.{ItemsMatch};
 ghost use Rattle.wcv_matching.specs.OnePass.{AreRight, Seen_tree, Tests, argument_for, opens_pass, passes_match, passes_same};
-ghost use Rattle.wcv_matching.specs.Orderly.{AllNamesDiffer, AllPathsLead, EachOrderly, Orderly};
+ghost use Rattle.wcv_matching.specs.Orderly.{AllNamesDiffer, EachOrderly, Orderly};
 ghost use Rattle.wcv_matching.specs.TableMatching.{ByIds, CoreWithin, EachCoreWithin, MatchesByOnce, ModulesMatchThemselves, Opens, SameTypes, TypeMatches};
 
 /// Each type whose names differ matches itself.
@@ -66,9 +66,10 @@ pub fn matching_is_told_by_ids()
     ensures opened { (gs : List Group) (s : Name → Name) (args : List (Text × Type_tree)) (c : Type_tree) → IsTable gs → EachCoreWithin gs args → CoreWithin gs c → OpensImports (ByIds gs) s args c → Opens gs s args c }
 {}
 
-/// Inside each type of an arena the owned resources are led to, and the core types that are named are of its table.
+/// Each type of an arena is orderly: inside it the names of imports and of exports differ, and the owned resources are led to. The core
+/// types that are named inside it are of the arena's table.
 pub fn what_the_types_of_an_arena_keep()
-    ensures led { (a : Arena) (q : Part) → AllFit a → Stands a q → AllPathsLead (tree_at a q) }
+    ensures orderly { (a : Arena) (q : Part) → AllFit a → Stands a q → Orderly (tree_at a q) }
     ensures within { (a : Arena) (q : Part) → AllFit a → Stands a q → CoreWithin a.core (tree_at a q) }
 {}
 

@@ -8,7 +8,7 @@ mod laws;
 mod modules;
 
 pub use core_args::{core_arguments, core_exports};
-pub use core_items::{entity_type, memory_type, table_type};
+pub use core_items::{entity_type, memory_type, same_val, table_type};
 pub use laws::{
     a_type_matches_itself, at_most_one_substitution_opens, groups_behind_change_no_matching,
     matching_asks_once, matching_goes_on, matching_is_told_by_ids, one_pass_decides_matching,
