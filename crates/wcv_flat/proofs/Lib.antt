@@ -1,0 +1,4 @@
+pub mod Opening
+pub mod Signing
+pub mod Closing
+pub mod Renamed
