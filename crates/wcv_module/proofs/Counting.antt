@@ -28,7 +28,7 @@ use Rattle.wcv_module.proofs.Growing.{Grows, known_named}
 use Rattle.wcv_module.proofs.Indices.{known_at, none_past}
 use Rattle.wcv_syntax.specs.CoreItems.{type_entries, ref_checks, entity_of, element_checks, sharing_checks, closed_table, closed_global}
 use Rattle.wcv_syntax.specs.Model.{Text, Module_decl, module_type, module_import, module_export, module_outer}
-use Rattle.wcv_syntax.specs.ModuleTypes.{Module_type, module_entries, Core_import, Core_export, Made, with_type, with_import, with_export, with_group_of, written_group, on_entry, if_entity, import_checks, export_checks, aliased, decl_checks, declared}
+use Rattle.wcv_syntax.specs.ModuleTypes.{Module_type, module_entries, Core_import, Core_export, Made, with_type, with_import, with_export, with_group_of, on_entry, if_entity, import_checks, export_checks, aliased, decl_checks, declared}
 use Rattle.wcv_syntax.specs.declared.core_section.TypeRef.{TypeRef}
 use Rattle.wcv_syntax.specs.declared.core_section.TypeRef.TheVariants as ref
 
@@ -138,8 +138,8 @@ module _ (gs hs : List Group) (p : Module_type) where
 pub decl_counted : (outers : List (List Core_entry)) (gs hs : List Group) (m p : Module_type) (d : Module_decl)
     → All (IsKnown (total gs)) (module_entries m) → IsFree (decl_checks outers gs m d) → declared outers gs m d ≡ Some (hs, p) → IsCounted gs m → IsCounted hs p
 decl_counted outers gs hs m p (module_type w) known f e s =
-    let g : Group = closed_group (module_entries m) (written_group w) in
-    reached gs hs p (with_group_of gs m (written_group w)) e (counted_types (grown gs g) m (group_ids gs g) (counted_grows gs (grown gs g) m (grown_by gs g) s))
+    let g : Group = closed_group (module_entries m) w in
+    reached gs hs p (with_group_of gs m w) e (counted_types (grown gs g) m (group_ids gs g) (counted_grows gs (grown gs g) m (grown_by gs g) s))
 decl_counted outers gs hs m p (module_import i) known f e s =
     mapped gs hs p (with_import gs m (i.module, i.name)) (entity_of m.types i.ty)
     (λ t is. counted_import gs m (i.module, i.name) t (entity_within m.features gs m.types i.ty t known (free_left (ref_checks m.features gs m.types i.ty) (if_entity (import_checks gs m) (entity_of m.types i.ty)) f) is) s) e

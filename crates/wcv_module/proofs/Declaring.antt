@@ -1,50 +1,30 @@
 -- Declarations, one after another.
-use Rattle.std.proofs.Common.{arith, ◌≡◌, ℕ, List, [], ◌∷◌, map, refl, sym, ◌∙◌, ap, subst, Some, All, inl, inr}
+use Rattle.std.proofs.Common.{arith, ◌≡◌, ℕ, List, ◌∷◌, refl, sym, ◌∙◌, ap, subst, Some, All, inl, inr}
 use Rattle.wcv_core.proofs.Joining.{then_free, then_first, then_second}
 use Rattle.wcv_core.specs.Checks.{Checks, IsFree, MemoryOrCausedBy}
-use Rattle.wcv_core.specs.CoreForm.{Group, sub_form, group_form, composite_form}
+use Rattle.wcv_core.specs.CoreForm.{Group, group_form}
 use Rattle.wcv_core.specs.CoreGroups.{total}
 use Rattle.wcv_core.specs.CoreWritten.{Core_entry, IsKnown}
-use Rattle.wcv_core.specs.declared.core_types.CompositeInnerType.{CompositeInnerType}
-use Rattle.wcv_core.specs.declared.core_types.CompositeInnerType.TheVariants as inner
 use Rattle.wcv_core.specs.declared.core_types.RecGroup.{RecGroup}
-use Rattle.wcv_core.specs.declared.core_types.SubType.{SubType}
 use Rattle.wcv_core.specs.Refusal.{Told}
 use Rattle.wcv_core.specs.declared.features.WasmFeatures.{WasmFeatures}
 use Rattle.wcv_module.specs.Kept.{IsCounted}
 use Rattle.wcv_module.proofs.Counting.{decl_counted}
 use Rattle.wcv_module.proofs.Growing.{Grows, all_known_grows}
 use Rattle.wcv_syntax.specs.Model.{Module_decl}
-use Rattle.wcv_syntax.specs.ModuleTypes.{Module_type, module_entries, Made, and_then, on_made, core_form, core_sub, written_group, with_group_of, group_joins, empty_module, decl_checks, declared, all_declared, module_checks}
-use Rattle.wcv_syntax.specs.View.{composite_view, sub_view, rec_view, module_decl_view}
+use Rattle.wcv_syntax.specs.ModuleTypes.{Module_type, module_entries, Made, and_then, on_made, with_group_of, group_joins, empty_module, decl_checks, declared, all_declared, module_checks}
+use Rattle.wcv_syntax.specs.View.{module_decl_view}
 use Rattle.wcv_syntax.specs.declared.core_section.ModuleTypeDeclaration.{ModuleTypeDeclaration}
 use Rattle.wcv_syntax.specs.declared.core_section.ModuleTypeDeclaration.TheVariants as decl
-
--- ## Groups as they are written
-
-form_written : (c : CompositeInnerType) → core_form (composite_view c) ≡ composite_form c
-form_written (inner.Func f) = refl
-form_written (inner.Struct s) = refl
-form_written (inner.Array a) = refl
-
-sub_written : (s : SubType) → core_sub (sub_view s) ≡ sub_form s
-sub_written s = λ j. record { is_final = s.is_final; supertype = s.supertype; shared = s.shared; inner = form_written s.inner j }
-
-subs_written : (ss : List SubType) → written_group (map sub_view ss) ≡ map sub_form ss
-subs_written [] = refl
-subs_written (s ∷ ss) = λ j. sub_written s j ∷ subs_written ss j
-
-pub group_written : (r : RecGroup) → written_group (rec_view r) ≡ group_form r
-group_written r = subs_written r.types.items
 
 -- ## One declaration
 
 pub group_made : (outers : List (List Core_entry)) (gs hs : List Group) (m n : Module_type) (r : RecGroup) (d : ModuleTypeDeclaration) → d ≡ decl.Ty r → (hs, n) ≡ with_group_of gs m (group_form r) → declared outers gs m (module_decl_view d) ≡ Some (hs, n)
 group_made outers gs hs m n r d is e =
-    ap (λ (x : ModuleTypeDeclaration). declared outers gs m (module_decl_view x)) is ∙ (ap (λ (w : Group). Some (with_group_of gs m w)) (group_written r) ∙ ap (λ (s : Made). Some s) (sym e))
+    ap (λ (x : ModuleTypeDeclaration). declared outers gs m (module_decl_view x)) is ∙ ap (λ (s : Made). Some s) (sym e)
 
 pub group_causes : (outers : List (List Core_entry)) (gs : List Group) (m : Module_type) (r : RecGroup) (d : ModuleTypeDeclaration) → d ≡ decl.Ty r → group_joins gs m (group_form r) ≡ decl_checks outers gs m (module_decl_view d)
-group_causes outers gs m r d is = ap (group_joins gs m) (sym (group_written r)) ∙ ap (λ (x : ModuleTypeDeclaration). decl_checks outers gs m (module_decl_view x)) (sym is)
+group_causes outers gs m r d is = ap (λ (x : ModuleTypeDeclaration). decl_checks outers gs m (module_decl_view x)) (sym is)
 
 -- ## The declarations so far, and the others
 

@@ -1,9 +1,7 @@
 -- The type that a module is fits the arena.
 use Rattle.wcv_core.specs.Limits.{max_size}
-use Rattle.std.proofs.Common.{◌≡◌, ℕ, zero, suc, ◌+◌, ◌<◌, ◌≤◌, List, [], ◌∷◌, ◌++◌, length, map, min, max, refl, sym, ◌∙◌, ap, arith, subst, All}
+use Rattle.std.proofs.Common.{◌≡◌, ℕ, suc, ◌<◌, ◌≤◌, List, [], ◌∷◌, ◌++◌, length, map, refl, sym, ◌∙◌, ap, arith, subst, All}
 use Rattle.std.proofs.lemmas.List.Elements.{All-nil}
-use Rattle.std.proofs.lemmas.Grind.{common_steps}
-use Rattle.wcv_core.specs.CoreForm.{Group}
 use Rattle.wcv_core.specs.CoreGroups.{total}
 use Rattle.wcv_core.specs.CoreSizes.{IsEntityWithin}
 use Rattle.wcv_core.specs.declared.core_types.EntityType.{EntityType}
@@ -14,7 +12,6 @@ use Rattle.wcv_types.specs.Standing.{Stands, GaveResource, Fits, core_items, ent
 use Rattle.wcv_types.specs.Unfold.{Type_tree, capped, core_import_slots, core_export_slots, parts_in, slot_parts, trees}
 use Rattle.wcv_types.specs.declared.arena.Node.TheVariants as n
 use Rattle.wcv_types.specs.declared.core_shapes.ModuleType.{ModuleType}
-use Rattle.wcv_types.specs.declared.ids.Part.{Part}
 use Rattle.wcv_module.specs.Kept.{module_depth}
 
 -- ## Depths
@@ -42,12 +39,12 @@ imports_flat : (ts : List Type_tree) (is : List Core_import) (es : List Core_exp
 imports_flat ts [] es = exports_flat ts es
 imports_flat ts (i ∷ is) es = omega (arith, imports_flat ts is es)
 
-entries_depth : (ts : List Type_tree) (is : List Core_import) (es : List Core_export) → suc (depths (slot_parts ts (core_import_slots is ++ core_export_slots es))) ≡ module_depth is es
+pub entries_depth : (ts : List Type_tree) (is : List Core_import) (es : List Core_export) → suc (depths (slot_parts ts (core_import_slots is ++ core_export_slots es))) ≡ module_depth is es
 entries_depth ts [] [] = refl
 entries_depth ts [] (e ∷ es) = omega (arith, exports_flat ts es)
 entries_depth ts (i ∷ is) es = omega (arith, imports_flat ts is es)
 
-depth_small : (is : List Core_import) (es : List Core_export) → module_depth is es ≤ 2
+pub depth_small : (is : List Core_import) (es : List Core_export) → module_depth is es ≤ 2
 depth_small [] [] = omega arith
 depth_small [] (e ∷ es) = omega arith
 depth_small (i ∷ is) es = omega arith
@@ -81,6 +78,7 @@ module_fits a s small size depth within = record {
   led = tt;
   within = within;
   stated = uncapped s.info.size small ∙ ap capped size;
+  apart = tt;
 }
 
 -- its entries are those of the module

@@ -1,14 +1,12 @@
 -- Indices of the types of a module.
-use Rattle.std.proofs.Common.{◌≡◌, ℕ, zero, suc, ◌+◌, ◌-◌, ◌<◌, ◌≤◌, List, [], ◌∷◌, length, refl, ◌∙◌, ap, arith, subst, Option, Some, None, slice_get, true, false, not, nat_lt, All, inl, inr}
+use Rattle.std.proofs.Common.{◌≡◌, ℕ, zero, suc, ◌<◌, ◌≤◌, List, [], ◌∷◌, length, ◌∙◌, ap, arith, subst, Some, slice_get, true, All}
 use Rattle.std.specs.Option.{option_map}
 use Rattle.std.proofs.lemmas.Bool.{false≢true}
 use Rattle.std.proofs.lemmas.Option.{slice_get-map, slice_get_within, get_or_from_slice_get}
 use Rattle.std.proofs.lemmas.List.Elements.{All-get_or}
-use Rattle.wcv_core.specs.Checks.{IsFree, CausedBy, missing, is_none}
-use Rattle.wcv_core.specs.CoreWritten.{sub_entry, module_entry, is_module, IsKnown, heap_checks, closed_heap, closed_index}
+use Rattle.wcv_core.specs.Checks.{is_none}
+use Rattle.wcv_core.specs.CoreWritten.{sub_entry, module_entry, IsKnown}
 use Rattle.wcv_core.specs.declared.core_types.CoreTypeId.{CoreTypeId}
-use Rattle.wcv_core.specs.declared.core_types.HeapType.TheVariants as heap
-use Rattle.wcv_core.specs.declared.error.Error.{Error}
 use Rattle.wcv_syntax.specs.CoreItems.{type_entry, type_entries}
 
 pub entry_found : (ts : List CoreTypeId) (i : ℕ) (t : CoreTypeId) → slice_get ts i ≡ Some t → slice_get (type_entries ts) i ≡ Some (sub_entry t.index)

@@ -3,8 +3,8 @@ ghost use Rattle.wcv_core.specs.Limits.{max_list, max_text};
 ghost use Rattle.std.specs.Prelude.{length, map, ◌++◌, OnOk, IfErr};
 ghost use Rattle.wcv_core.specs.Checks.{IsFree, CausedBy, all_checks, too_many};
 ghost use Rattle.wcv_core.specs.CoreFeatures.{group_left};
-ghost use Rattle.wcv_syntax.specs.ModuleTypes.{decl_left, module_left, written_group};
-ghost use Rattle.wcv_syntax.specs.View.{rec_view};
+ghost use Rattle.wcv_core.specs.CoreForm.{group_form};
+ghost use Rattle.wcv_syntax.specs.ModuleTypes.{decl_left, module_left};
 
 use crate::declarations::ModuleDeclaration;
 use wcv_core::limits::{MAX_LIST, MAX_TEXT};
@@ -37,8 +37,8 @@ pub fn check_import_names(import: &Import, offset: u64) -> Result<(), Refusal<'s
 
 /// Whether the lists of a written group keep their limits.
 pub fn check_group(group: &RecGroup, offset: u64) -> Result<(), Refusal<'static>>
-    ensures ok { OnOk result (IsFree (group_left (written_group (rec_view group.now)))) }
-    ensures err { IfErr result (CausedBy (group_left (written_group (rec_view group.now))) offset) }
+    ensures ok { OnOk result (IsFree (group_left (group_form group.now))) }
+    ensures err { IfErr result (CausedBy (group_left (group_form group.now)) offset) }
 {
     check_group_limits(group, offset)
 }

@@ -116,8 +116,8 @@ fn size_of_type(core: &CoreTypes, id: CoreTypeId) -> u64
     }
 }
 
-/// How large the type of an import or export is as a part of the type of a module.
-fn size_of(core: &CoreTypes, ty: EntityType) -> u64
+/// How large the type of a core item is as a part of the type of a module, or of a core instance.
+pub fn core_item_size(core: &CoreTypes, ty: EntityType) -> u64
     requires known { IsEntityKnown (total core.now) ty }
     ensures { result ≡ entity_size core.now ty }
 {
@@ -301,7 +301,7 @@ impl Module {
         ensures err { IfErr result (CausedBy (too_many max_entries (len + 1) ++ size_checks core.now self.now ty) offset) }
     {
         check_room(len, 1, what, offset)?;
-        let size = size_of(core, ty);
+        let size = core_item_size(core, ty);
         if size > MAX_SIZE - self.size {
             let why = Why::new("the type of the module would have a size above %1");
             let why = why.numbers([MAX_SIZE, 0, 0]);

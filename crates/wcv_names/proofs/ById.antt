@@ -9,8 +9,8 @@ use Rattle.std.proofs.lemmas.List.Elements.{All-head, All-tail}
 use Rattle.wcv_types.specs.declared.ids.AliasableResourceId.{AliasableResourceId}
 use Rattle.wcv_types.specs.Tree.{Text}
 use Rattle.wcv_names.specs.ResourceNames.{same_reference, reference_of, references_of, name_at, named_by, AllNamed}
-use Rattle.wcv_names.specs.TextSet.{with_text}
-use Rattle.wcv_names.proofs.Texts.{stays}
+use Rattle.wcv_core.specs.TextSet.{with_text}
+use Rattle.wcv_core.proofs.Texts.{stays}
 
 abbrev pub same_id : AliasableResourceId → AliasableResourceId → Bool
 same_id q r = eqb q.resource.index r.resource.index && eqb q.stamp r.stamp

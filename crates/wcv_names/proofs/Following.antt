@@ -3,7 +3,7 @@ use Rattle.std.proofs.Common.{◌≡◌, List, Bool, true, false, ◌&&◌, Opti
 use Rattle.std.proofs.lemmas.Bool.Decides.{same_from_decides}
 use Rattle.std.specs.Prelude.{bytes_eq, option_map}
 use Rattle.std.specs.Map.{lookup}
-use Rattle.wcv_syntax.specs.ExternName.{Access, call, get, set, Form, access_of, getter_of, written}
+use Rattle.wcv_syntax.specs.ExternName.{Access, call, get, set, Form, access_of, getter_of, spelled}
 use Rattle.wcv_types.specs.Alike.{Alike}
 use Rattle.wcv_types.specs.Arena.{Arena}
 use Rattle.wcv_types.specs.Entities.{entity_tree, entry_trees, EntityStands}
@@ -23,8 +23,8 @@ use Rattle.wcv_names.specs.ResourceNames.{Resource_names}
 use Rattle.wcv_names.specs.Rules.{Entries, function_fits, is_free, fits, gotten, taken, getter_in, is_given, is_paired_by, is_paired, follows}
 use Rattle.wcv_names.specs.Shapes.{option_tree, param_trees}
 use Rattle.wcv_names.proofs.FuncTrees.{function_looks, function_pairs, other_looks, other_pairs, entity_is_func}
-use Rattle.wcv_names.specs.SameValues.{alike}
-use Rattle.wcv_names.proofs.SameTrees.{alike-decides}
+use Rattle.wcv_types.specs.SameSeen.{alike}
+use Rattle.wcv_types.proofs.SameSeen.{alike-decides}
 use Rattle.wcv_names.proofs.Firsts.{first_tree}
 
 -- ## Getters and setters
@@ -35,13 +35,13 @@ is_setter-set get h = cc h
 is_setter-set set h = refl
 
 module _ (ts : List Type_tree) (f : Form) (sets : access_of f ≡ set) (es : List (Text × ComponentItem)) where
-  pair_is : (t : Type_tree) (o : Option ComponentItem) → o ≡ lookup (bytes_eq (written (getter_of f))) es → is_paired_by (access_of f) t (getter_in f (entry_trees ts es)) ≡ is_given t (option_map (λ (x : ComponentItem). entity_tree ts x.ty) o)
-  pair_is t o h = ap (λ (a : Access). is_paired_by a t (getter_in f (entry_trees ts es))) sets ∙ ap (is_given t) (first_tree ts (written (getter_of f)) es ∙ ap (option_map (λ (x : ComponentItem). entity_tree ts x.ty)) (sym h))
+  pair_is : (t : Type_tree) (o : Option ComponentItem) → o ≡ lookup (bytes_eq (spelled (getter_of f))) es → is_paired_by (access_of f) t (getter_in f (entry_trees ts es)) ≡ is_given t (option_map (λ (x : ComponentItem). entity_tree ts x.ty) o)
+  pair_is t o h = ap (λ (a : Access). is_paired_by a t (getter_in f (entry_trees ts es))) sets ∙ ap (is_given t) (first_tree ts (spelled (getter_of f)) es ∙ ap (option_map (λ (x : ComponentItem). entity_tree ts x.ty)) (sym h))
 
-  pub pair_none : (t : Type_tree) → None ≡ lookup (bytes_eq (written (getter_of f))) es → false ≡ is_paired_by (access_of f) t (getter_in f (entry_trees ts es))
+  pub pair_none : (t : Type_tree) → None ≡ lookup (bytes_eq (spelled (getter_of f))) es → false ≡ is_paired_by (access_of f) t (getter_in f (entry_trees ts es))
   pair_none t h = sym (pair_is t None h)
 
-  pub pair_some : (x : ComponentItem) (w g t : Type_tree) (b : Bool) → Some x ≡ lookup (bytes_eq (written (getter_of f))) es → g ≡ gotten (entity_tree ts x.ty) → w ≡ t → Decides b (Alike w g)
+  pub pair_some : (x : ComponentItem) (w g t : Type_tree) (b : Bool) → Some x ≡ lookup (bytes_eq (spelled (getter_of f))) es → g ≡ gotten (entity_tree ts x.ty) → w ≡ t → Decides b (Alike w g)
       → b ≡ is_paired_by (access_of f) t (getter_in f (entry_trees ts es))
   pair_some x w g t b h gives takes d = same_from_decides b (alike w g) d (alike-decides w g) ∙ (λ j. alike (takes j) (gives j)) ∙ sym (pair_is t (Some x) h)
 

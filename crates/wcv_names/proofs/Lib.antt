@@ -1,12 +1,9 @@
-pub mod Texts
 pub mod ById
 pub mod ByNames
 pub mod Shaping
 pub mod NameRules
 pub mod KeySets
 pub mod FuncTrees
-pub mod SameItems
-pub mod SameTrees
 pub mod Renamed
 pub mod Firsts
 pub mod Following

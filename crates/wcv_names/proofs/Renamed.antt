@@ -11,8 +11,8 @@ use Rattle.wcv_types.specs.Unfold.{Type_tree}
 use Rattle.wcv_types.proofs.Commute.{owns-renamed}
 use Rattle.wcv_types.proofs.Lists.{map-map}
 use Rattle.wcv_types.proofs.Renaming.{each-always, rename-id, rename-twice}
-use Rattle.wcv_names.specs.SameValues.{alike}
-use Rattle.wcv_names.proofs.SameTrees.{alike-decides}
+use Rattle.wcv_types.specs.SameSeen.{alike}
+use Rattle.wcv_types.proofs.SameSeen.{alike-decides}
 
 -- resources renamed, whether they are seen from outside or inside their owner
 abbrev within : (Name → Name) → Within Name → Within Name

@@ -1,7 +1,4 @@
-pub mod TextSet
 pub mod ResourceNames
-pub mod SameItems
-pub mod SameValues
 pub mod Rules
 pub mod Shapes
 pub mod WholeNames

@@ -6,7 +6,7 @@ use Rattle.wcv_core.specs.Names.{Name, same, number, stamp}
 use Rattle.wcv_types.specs.Tree.{Text, resource, node}
 use Rattle.wcv_types.specs.Unfold.{Type_tree}
 use Rattle.wcv_types.specs.declared.ids.AliasableResourceId.{AliasableResourceId}
-use Rattle.wcv_names.specs.TextSet.{is_text}
+use Rattle.wcv_core.specs.TextSet.{is_text}
 
 -- a resource and a stamp
 abbrev pub Reference : Type 0

@@ -3,11 +3,11 @@ use Rattle.std.specs.Prelude.{List, [], ◌∷◌, map, Bool, true, false, not, 
 use Rattle.std.specs.Map.{lookup}
 use Rattle.wcv_core.specs.Names.{Name}
 use Rattle.wcv_core.specs.Label.{is_among}
-use Rattle.wcv_syntax.specs.ExternName.{Access, call, get, set, Form, item, constructor, method, static, interface, access_of, getter_of, written}
+use Rattle.wcv_syntax.specs.ExternName.{Access, call, get, set, Form, item, constructor, method, static, interface, access_of, getter_of, spelled}
 use Rattle.wcv_types.specs.Tree.{Text, Extern_name, nothing, defined, func, own_of, borrow_of, result_of, label, node, Parts, none, part, first_part}
 use Rattle.wcv_types.specs.Unfold.{Type_tree, left_out}
 use Rattle.wcv_names.specs.ResourceNames.{Resource_names, is_named_so}
-use Rattle.wcv_names.specs.SameValues.{alike}
+use Rattle.wcv_types.specs.SameSeen.{alike}
 
 -- ## Types of values
 
@@ -97,7 +97,7 @@ by_name es = map (λ e. (e.0.name, e.1)) es
 
 -- the first entry with the name of the getter of the same spelling
 abbrev pub getter_in : Form → Entries → Option Type_tree
-getter_in f es = lookup (bytes_eq (written (getter_of f))) (by_name es)
+getter_in f es = lookup (bytes_eq (spelled (getter_of f))) (by_name es)
 
 -- the value that a getter gives
 abbrev pub gotten : Type_tree → Type_tree

@@ -4,10 +4,9 @@ ghost use Rattle.wcv_core.specs.Label.{is_among};
 ghost use Rattle.wcv_types.specs.Unfold.{reference};
 ghost use Rattle.wcv_names.specs.ResourceNames.{is_named_so, name_of, names_of, reference_of};
 
-use crate::text_set::TextSet;
 use std::alloc::Global;
 use std::marker::Model;
-use wcv_core::{IndexMapAppendOnly, OutOfMemory};
+use wcv_core::{IndexMapAppendOnly, OutOfMemory, TextSet};
 use wcv_types::AliasableResourceId;
 
 /// The names of resources in a list of imports or of exports, each once, and of each reference the position of

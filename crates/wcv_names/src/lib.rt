@@ -9,7 +9,6 @@ mod follows;
 mod functions;
 mod name_set;
 mod shapes;
-mod text_set;
 mod values;
 mod wanted;
 mod whole_name;

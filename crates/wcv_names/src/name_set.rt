@@ -3,12 +3,11 @@ ghost use Rattle.std.specs.Prelude.{◌≡◌, [], ◌∷◌, ◌++◌, false, l
 ghost use Rattle.std.specs.List.{IsDistinct};
 ghost use Rattle.wcv_core.specs.Label.{is_among};
 ghost use Rattle.wcv_names.specs.KeySet.{HasKeys};
-ghost use Rattle.wcv_names.specs.TextSet.{with_text};
+ghost use Rattle.wcv_core.specs.TextSet.{with_text};
 
-use crate::text_set::TextSet;
 use std::alloc::Global;
 use std::marker::Model;
-use wcv_core::OutOfMemory;
+use wcv_core::{OutOfMemory, TextSet};
 
 /// The keys of the names of one list, each once, in the order in which they came. Contracts see it as the list
 /// of their texts.

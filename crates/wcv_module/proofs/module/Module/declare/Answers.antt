@@ -1,4 +1,4 @@
-use Rattle.std.proofs.Common.{◌≡◌, List, map, Some, subst}
+use Rattle.std.proofs.Common.{◌≡◌, map, Some, subst}
 use Rattle.wcv_core.specs.Checks.{IsFree, MemoryOrCausedBy}
 use Rattle.wcv_syntax.specs.ModuleTypes.{Module_type, all_declared, module_checks}
 use Rattle.wcv_types.proofs.Grown.{keeps_trees}

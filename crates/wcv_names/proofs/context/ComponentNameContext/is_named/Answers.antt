@@ -1,6 +1,6 @@
 use Rattle.std.proofs.Common.{option_copied, sym, ◌∙◌, ap}
 use Rattle.wcv_names.specs.ResourceNames.{Named_ids, name_of, names_of, reference_of}
-use Rattle.wcv_names.specs.TextSet.{is_text}
+use Rattle.wcv_core.specs.TextSet.{is_text}
 use Rattle.wcv_names.proofs.ById.{named_at, not_named}
 use Rattle.wcv_names.proofs.context.ComponentNameContext.is_named.Goals as goal
 

@@ -3,7 +3,7 @@ use Rattle.std.proofs.lemmas.Result.{on_ok_weaker, on_err_weaker}
 use Rattle.wcv_core.specs.Label.{is_among}
 use Rattle.wcv_names.specs.ResourceNames.{Named_ids, name_of, names_of, named_by, reference_of}
 use Rattle.wcv_names.proofs.ById.{no_place, names_stay, name_joins}
-use Rattle.wcv_names.proofs.Texts.{among_with}
+use Rattle.wcv_core.proofs.Texts.{among_with}
 use Rattle.wcv_names.proofs.context.ComponentNameContext.register.Goals as goal
 
 pub insert-requires : goal.insert-requires
