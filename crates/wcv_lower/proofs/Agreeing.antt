@@ -1,18 +1,14 @@
--- Growth and causes look at the names of an item's own places alone.
-use Rattle.std.proofs.Common.{◌≡◌, List, [], map, refl, sym, ap, subst, cond, true, Some, None}
-use Rattle.wcv_core.specs.Names.{Name, Place, member, under}
-use Rattle.wcv_core.specs.declared.features.WasmFeatures.{WasmFeatures}
-use Rattle.wcv_core.proofs.Places.{under-refl}
-use Rattle.wcv_syntax.specs.Model.{Form}
+-- What is made at a place looks at the names of that place alone.
+use Rattle.std.proofs.Common.{◌≡◌, List, [], map, refl, ap, cond, Some, None}
+use Rattle.wcv_core.specs.Names.{Name, Place, member}
 use Rattle.wcv_types.specs.FirstPath.{first_path}
 use Rattle.wcv_types.specs.Rebuild.{anew}
 use Rattle.wcv_types.specs.Replacing.{Replacement, replaced}
 use Rattle.wcv_types.specs.Tree.{Head, nothing, primitive, resource, defined, func, instance, component, type_entity, core_module, core_instance, core_type, core_item, node, type_of, resource_type, exports, owned}
 use Rattle.wcv_types.specs.Unfold.{Type_tree}
-use Rattle.wcv_lower.specs.Growth.{grow, checks}
-use Rattle.wcv_lower.specs.Names.{Origin, introduced, again, stamp_at, place_of, Names, Under}
+use Rattle.wcv_lower.specs.Names.{Origin, introduced, again, stamp_at, place_of, Names}
 use Rattle.wcv_lower.specs.NewTypes.{renewed_head, renewed, owned_anew, instance_tree, path_or_none}
-use Rattle.wcv_lower.specs.Trees.{Tree_stack, type_entry, node_tree, tree_maker}
+use Rattle.wcv_lower.specs.Trees.{type_entry, node_tree, tree_maker}
 
 -- names that are the same there
 pub record SameNames (In : Place → Type 0) (n m : Names) : Type 0 where
@@ -73,16 +69,3 @@ module _ (n m : Names) (p : Place) (s : SameNames (λ q. q ≡ p) n m) where
     build = node_tree (id_same j);
     build_type = λ x. type_entry (node_tree (id_same j) x);
   }
-
-module _ (n m : Names) (p : Place) (s : SameNames (Under p) n m) where
-  at_place : SameNames (λ q. q ≡ p) n m
-  at_place = record {
-    resource = λ o e. s.resource o (subst (λ (q : Place). under p q ≡ true) (sym e) (under-refl p));
-    identity = λ o e. s.identity o (subst (λ (q : Place). under p q ≡ true) (sym e) (under-refl p));
-  }
-
-  pub grow-agrees : (fs : WasmFeatures) (t : Tree_stack) (f : Form) → grow fs (tree_maker m p) t f ≡ grow fs (tree_maker n p) t f
-  grow-agrees fs t f = ap (λ k. grow fs k t f) (maker_same n m p at_place)
-
-  pub checks-agree : (fs : WasmFeatures) (t : Tree_stack) (f : Form) → checks fs (tree_maker m p) t f ≡ checks fs (tree_maker n p) t f
-  checks-agree fs t f = ap (λ k. checks fs k t f) (maker_same n m p at_place)

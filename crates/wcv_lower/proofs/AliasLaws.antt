@@ -12,14 +12,16 @@ use Rattle.wcv_syntax.specs.declared.instance.ComponentExternalKind.{ComponentEx
 use Rattle.wcv_syntax.specs.declared.instance.ComponentOuterAliasKind.{ComponentOuterAliasKind}
 use Rattle.wcv_syntax.specs.declared.instance.ComponentOuterAliasKind.TheVariants as outer
 use Rattle.wcv_types.specs.Tree.{Text, Extern_name, Sort}
-use Rattle.wcv_lower.specs.Aliases.{sort_named, is_admitted, instance_at, export_of, joining, export_alias_step, named_checks, export_alias_checks, outer_items, outer_at, outer_joins, is_charged, is_concrete_one, concrete_at, aliased_one, aliased_at, outer_room, charged, escapes, outer_alias_step, outer_admitted, outer_alias_checks, alias_step, alias_checks, is_read}
+use Rattle.wcv_lower.specs.Aliases.{sort_named, is_admitted, instance_at, export_of, joining, export_alias_step, named_checks, export_alias_checks, outer_items, outer_at, outer_joins, is_charged, is_concrete_one, concrete_at, aliased_one, aliased_at, outer_room, charged, escapes, outer_alias_step, outer_admitted, outer_alias_checks, alias_step, alias_checks}
 use Rattle.wcv_core.specs.Limits.{max_size}
+use Rattle.wcv_core.specs.declared.features.WasmFeatures.{WasmFeatures}
 use Rattle.wcv_lower.specs.Checks.{Checks, IsFree, if_found, is_none, missing, is_other, no_room, same_sort}
 use Rattle.wcv_lower.specs.Context.{Context, Stack, in_types, in_instances, in_components, core_types, core_modules, is_concrete, at_distance, counts}
 use Rattle.wcv_lower.specs.Mapped.{Map, Commutes, IsKnown, map_entries, map_context, map_stack, map_change, map_step}
 use Rattle.wcv_lower.specs.Readers.{Reader, sort_of, if_sort, first_named}
 use Rattle.wcv_lower.specs.Step.{Step, charges}
 use Rattle.wcv_lower.proofs.Causes.{free_left, free_right}
+use Rattle.wcv_lower.proofs.CoreInstanceLaws.{core_alias_step-mapped, core_alias_checks-mapped, some_there, core_alias_does}
 use Rattle.wcv_lower.proofs.Mapping.{mapped-square, missing-mapped, joining-mapped, get-mapped, sorts-mapped, sorted-mapped, sorted_known, counts-mapped}
 use Rattle.wcv_lower.proofs.EndingLaws.{none-mapped}
 use Rattle.wcv_lower.proofs.ValueLaws.{mapped, not-false}
@@ -148,13 +150,13 @@ module _ {X Y : Reader} (m : Map X Y) {Known : X.Entry → Type 0} (law : Commut
 
   pub alias_step-mapped : (s : Stack X) → IsKnown Known s.top → (a : ComponentAlias) → alias_step (map_stack m s) a ≡ option_map (map_step m) (alias_step s a)
   alias_step-mapped s h (alias.InstanceExport w i n) = export_alias_step-mapped s.top h w i n
-  alias_step-mapped s h (alias.CoreInstanceExport w i n) = refl
+  alias_step-mapped s h (alias.CoreInstanceExport w i n) = core_alias_step-mapped m law s.top w i n
   alias_step-mapped s h (alias.Outer w n i) = outer_step-mapped s w n i
 
-  pub alias_checks-mapped : (s : Stack X) → IsKnown Known s.top → (a : ComponentAlias) → alias_checks (map_stack m s) a ≡ alias_checks s a
-  alias_checks-mapped s h (alias.InstanceExport w i n) = export_alias_checks-mapped s.top h w i n
-  alias_checks-mapped s h (alias.CoreInstanceExport w i n) = refl
-  alias_checks-mapped s h (alias.Outer w n i) = outer_checks-mapped s w n i
+  pub alias_checks-mapped : (fs : WasmFeatures) (s : Stack X) → IsKnown Known s.top → (a : ComponentAlias) → alias_checks fs (map_stack m s) a ≡ alias_checks fs s a
+  alias_checks-mapped fs s h (alias.InstanceExport w i n) = export_alias_checks-mapped s.top h w i n
+  alias_checks-mapped fs s h (alias.CoreInstanceExport w i n) = core_alias_checks-mapped m law fs s.top w i n
+  alias_checks-mapped fs s h (alias.Outer w n i) = outer_checks-mapped s w n i
 
 -- ## Without a cause
 
@@ -168,17 +170,12 @@ module _ (X : Reader) where
   export_there s n None h k = absurd (false≢true (sym h.0))
   export_there s n (Some x) h k = sorted_there s (export_of X n x) (k.0, k.1.0)
 
-  outer_there : (o : Option X.Entry) → is_none o ≡ false → (x : X.Entry) × (o ≡ Some x)
-  outer_there None h = absurd (false≢true (sym h))
-  outer_there (Some x) h = (x, refl)
-
-  -- so where the form is built
-  pub alias_does : (s : Stack X) (a : ComponentAlias) → is_read a ≡ true → IsFree (alias_checks s a) → (p : Step X) × (alias_step s a ≡ Some p)
-  alias_does s (alias.InstanceExport w i n) b h =
+  pub alias_does : (fs : WasmFeatures) (s : Stack X) (a : ComponentAlias) → IsFree (alias_checks fs s a) → (p : Step X) × (alias_step s a ≡ Some p)
+  alias_does fs s (alias.InstanceExport w i n) h =
       let o : Option X.Entry = instance_at s.top i in
       let found : Checks = if_found (λ x. named_checks X (sort_named w) (export_of X n x)) o in
       let room : Checks = no_room (counts s.top) (sort_named w) in
       mapped joining (option_and_then (if_sort X (sort_named w)) (option_and_then (export_of X n) o))
       (export_there (sort_named w) n o (free_left (missing o) (found ++ room) h.1) (free_left found room (free_right (missing o) (found ++ room) h.1)))
-  alias_does s (alias.CoreInstanceExport w i n) b h = absurd (false≢true b)
-  alias_does s (alias.Outer w n i) b h = mapped (λ x. charged s w n x ++ outer_joins w x) (outer_at s w n i) (outer_there (outer_at s w n i) h.1.0)
+  alias_does fs s (alias.CoreInstanceExport w i n) h = core_alias_does X fs s.top w i n h
+  alias_does fs s (alias.Outer w n i) h = mapped (λ x. charged s w n x ++ outer_joins w x) (outer_at s w n i) (some_there (outer_at s w n i) h.1.0)

@@ -1,6 +1,7 @@
 -- What the steps of items bring: entries that have what those of the context have, and resources by the names of their place.
 use Rattle.std.proofs.Common.{◌≡◌, ℕ, List, [], ◌∷◌, map, refl, subst, Bool, true, false, cond, Some, None}
-use Rattle.std.specs.Prelude.{Option, All, slice_get}
+use Rattle.std.specs.Prelude.{Option, All, not, slice_get}
+use Rattle.std.specs.List.{list_all}
 use Rattle.std.specs.Option.{option_map, option_and_then}
 use Rattle.std.proofs.lemmas.List.Elements.{All-nil, All-cons, All-get_or}
 use Rattle.std.proofs.lemmas.Option.{slice_get_within, get_or_from_slice_get}
@@ -8,23 +9,29 @@ use Rattle.wcv_core.specs.CoreForm.{Group}
 use Rattle.wcv_core.specs.CoreJoining.{group_ids, grown}
 use Rattle.wcv_core.specs.CoreWritten.{closed_group}
 use Rattle.wcv_core.specs.Names.{Name, Place}
+use Rattle.wcv_core.specs.declared.core_types.EntityType.{EntityType}
 use Rattle.wcv_core.specs.declared.features.WasmFeatures.{WasmFeatures}
-use Rattle.wcv_syntax.specs.Model.{Form, core_type_item, core_module_item, core_instance_item, type_item, import_item, export_item, component_item, instance_item, alias_item, start_item, canon_item, unread, Type_form, defined_type, func_type, component_type, instance_type, resource_type, Defined_form, Func_form, Core_type_form, core_rec, core_module_type, Module_decl}
-use Rattle.wcv_syntax.specs.ModuleTypes.{Made, written_group}
+use Rattle.wcv_syntax.specs.Model.{Form, core_type_item, core_module_item, core_instance_item, type_item, import_item, export_item, component_item, instance_item, alias_item, start_item, canon_item, unread, Type_form, defined_type, func_type, component_type, instance_type, resource_type, Defined_form, Func_form, Core_type_form, core_rec, core_module_type, Core_instance_form, core_instantiate, core_bag, Module_decl}
+use Rattle.wcv_syntax.specs.ModuleTypes.{Made}
 use Rattle.wcv_syntax.specs.declared.component_type.ComponentTypeRef.{ComponentTypeRef}
 use Rattle.wcv_syntax.specs.declared.component_type.ComponentTypeRef.TheVariants as ref
 use Rattle.wcv_syntax.specs.declared.component_type.ComponentValType.{ComponentValType}
 use Rattle.wcv_syntax.specs.declared.component_type.ComponentValType.TheVariants.{Primitive, Ty}
 use Rattle.wcv_syntax.specs.declared.component_type.TypeBounds.TheVariants as bounds
+use Rattle.wcv_syntax.specs.declared.core_section.Export.{Export}
+use Rattle.wcv_syntax.specs.declared.core_section.ExternalKind.{ExternalKind}
+use Rattle.wcv_syntax.specs.declared.core_section.InstantiationArg.{InstantiationArg}
+use Rattle.wcv_syntax.specs.declared.instance.ComponentAlias.TheVariants as alias
 use Rattle.wcv_syntax.specs.declared.instance.ComponentExternalKind.{ComponentExternalKind}
 use Rattle.wcv_syntax.specs.declared.instance.ComponentExternalKind.TheVariants as kind
 use Rattle.wcv_syntax.specs.declared.name.ComponentExport.{ComponentExport}
 use Rattle.wcv_syntax.specs.declared.name.ComponentImport.{ComponentImport}
-use Rattle.wcv_types.specs.Tree.{Extern_name, Role, Sort, is_nothing, is_value, is_resource, is_func, is_instance, is_component, is_type, is_module, is_core_instance, is_core_type, is_core_item, sort, owned, exports, nothing, primitive, core_type, here, Parts}
+use Rattle.wcv_types.specs.Tree.{Text, Extern_name, Role, Sort, is_nothing, is_value, is_resource, is_func, is_instance, is_component, is_type, is_module, is_core_instance, is_core_type, is_core_item, sort, owned, exports, nothing, primitive, core_type, core_item, here, Parts}
 use Rattle.wcv_types.specs.FirstPath.{first_path}
 use Rattle.wcv_types.specs.Unfold.{Type_tree}
-use Rattle.wcv_lower.specs.Checks.{same_sort}
-use Rattle.wcv_lower.specs.Context.{Side, importing, exporting, in_types, in_funcs, in_values, in_instances, in_components, Core_space, core_types, core_modules, is_concrete, type_at}
+use Rattle.wcv_lower.specs.Checks.{is_none, same_sort}
+use Rattle.wcv_lower.specs.Context.{Side, importing, exporting, in_types, in_funcs, in_values, in_instances, in_components, Core_space, core_types, core_modules, core_instances, is_concrete, type_at}
+use Rattle.wcv_lower.specs.CoreInstances.{space_of, core_module_at, core_instance_at, item_listed, items_listed, listed_size, core_instance_made, instance_joins, core_instance_step, core_export_of, if_of, item_joins, core_alias_step}
 use Rattle.wcv_lower.specs.CoreItems.{core_entries, is_closable, types_join, closed_step, module_joins, core_type_made, core_type_step, core_module_made, core_module_step}
 use Rattle.wcv_lower.specs.Defined.{former, written_parts, handle_index, made_of, defined_made}
 use Rattle.wcv_lower.specs.Entries.{extern_name, module_type_at, again_brought, written, items_of, exported_at, exported_as, exported, import_step, export_step}
@@ -32,9 +39,9 @@ use Rattle.wcv_lower.specs.Growth.{step}
 use Rattle.wcv_lower.specs.Names.{Names, Origin, introduced, again}
 use Rattle.wcv_lower.specs.NewTypes.{path_or_none}
 use Rattle.wcv_lower.specs.Owned.{AllEntries}
-use Rattle.wcv_lower.specs.Readers.{New_node, func_node, defined_node, module_node, if_sort, Maker}
+use Rattle.wcv_lower.specs.Readers.{New_node, func_node, defined_node, module_node, core_instance_node, core_exports_node, if_sort, Maker}
 use Rattle.wcv_lower.specs.Step.{Change, appends, lists, introduces, defines, creates, core_appends, interns, charges, Step, Brought, bare, joins, enters, joins_types}
-use Rattle.wcv_lower.specs.Trees.{tree_reader, Tree_context, Tree_stack, tree_maker, referenced, created}
+use Rattle.wcv_lower.specs.Trees.{tree_reader, Tree_context, Tree_stack, node_tree, tree_maker, referenced, created}
 use Rattle.wcv_lower.specs.Types.{func_parts, func_made, added, type_step}
 use Rattle.wcv_lower.specs.Values.{type_of_sort, resource_at, value_entry, option_entry, Written_parts, behind, parts_entries}
 use Rattle.wcv_lower.proofs.Owning.{Inherited, leaf_has, entry_has, created_has, referenced_has, again_has, reference_has, instance_has, MadeOf, node_has}
@@ -239,6 +246,36 @@ module _ {P : Type_tree → Type 0} {In : Parts Name Name → Type 0} (law : Inh
       module_brings : (k : Core_space) (m : Made) → Unit {0} → AllBring P New (module_joins mk k m)
       module_brings k m w = brings_more P New (interns m.0) (core_appends k (mk.build (module_node m.1)) ∷ []) tt (brings_one P New (core_appends k (mk.build (module_node m.1))) (node_has law (names.identity (introduced p)) (module_node m.1) tt))
 
+  module _ (names : Names) (p : Place) (s : Tree_stack) (all : AllEntries P s.top) where
+    -- where a test holds too
+    any_if : (b : Bool) (o : Option (New_node tree_reader)) → OfAny (MadeOf law) o → OfAny (MadeOf law) (cond b o None)
+    any_if true o w = w
+    any_if false o w = tt
+
+    core_instance_has : (i : Core_instance_form) → OfAny (MadeOf law) (core_instance_made s i)
+    core_instance_has (core_instantiate i args) =
+        any_if (list_all (λ (a : InstantiationArg). not (is_none (core_instance_at s.top a.index))) args) (option_map core_instance_node (core_module_at s.top i))
+        (any_mapped P (MadeOf law) core_instance_node (λ x w. w) (core_module_at s.top i) (any_at P (s.top.core core_modules) i (all.core core_modules)))
+    core_instance_has (core_bag es) =
+        any_cond (MadeOf law) (list_all (λ (e : Export). not (is_none (item_listed s.top e))) es) (core_exports_node (listed_size s.groups (items_listed s.top es)) (items_listed s.top es)) tt
+
+    pub core_instances_bring : (i : Core_instance_form) → OfAny (AllBring P New) (core_instance_step (tree_maker names p) s i)
+    core_instances_bring i =
+        any_mapped (MadeOf law) (AllBring P New) (instance_joins (tree_maker names p)) (λ n w. brings_one P New (core_appends core_instances (node_tree (names.identity (introduced p)) n)) (node_has law (names.identity (introduced p)) n w)) (core_instance_made s i)
+        (core_instance_has i)
+
+  core_item_brings : (k : ExternalKind) (e : EntityType) → Unit {0} → AllBring P New (item_joins tree_reader k e)
+  core_item_brings k e w = brings_one P New (core_appends (space_of k) (tree_reader.core_item e)) (leaf_has law (core_item e) (λ r. refl))
+
+  any_item : (o : Option EntityType) → OfAny (λ e. Unit {0}) o
+  any_item None = tt
+  any_item (Some e) = tt
+
+  pub core_aliases_bring : (c : Tree_context) (k : ExternalKind) (i : ℕ) (n : Text) → OfAny (AllBring P New) (core_alias_step c k i n)
+  core_aliases_bring c k i n =
+      let o : Option EntityType = option_and_then (if_of k) (option_and_then (core_export_of tree_reader n) (core_instance_at c i)) in
+      any_mapped (λ (e : EntityType). Unit {0}) (AllBring P New) (item_joins tree_reader k) (core_item_brings k) o (any_item o)
+
   any_made : (o : Option Made) → OfAny (λ m. Unit {0}) o
   any_made None = tt
   any_made (Some m) = tt
@@ -246,8 +283,8 @@ module _ {P : Type_tree → Type 0} {In : Parts Name Name → Type 0} (law : Inh
   module _ (fs : WasmFeatures) (names : Names) (p : Place) (fresh : (o : Origin) → New (names.resource o)) (s : Tree_stack) (all : AllEntries P s.top) where
     core_types_bring : (t : Core_type_form) → OfAny (AllBring P New) (core_type_step fs (tree_maker names p) s t)
     core_types_bring (core_rec w) =
-        let g : Group = closed_group (core_entries s.top) (written_group w) in
-        any_cond (AllBring P New) (is_closable s.groups (core_entries s.top) (written_group w)) (closed_step tree_reader s.groups g)
+        let g : Group = closed_group (core_entries s.top) w in
+        any_cond (AllBring P New) (is_closable s.groups (core_entries s.top) w) (closed_step tree_reader s.groups g)
         (brings_more P New (interns (grown s.groups g)) (types_join tree_reader (group_ids s.groups g)) tt (core_types_join s.top all names p fresh (group_ids s.groups g)))
     core_types_bring (core_module_type ds) =
         any_mapped (λ m. Unit {0}) (AllBring P New) (module_joins (tree_maker names p) core_types) (module_brings s.top all names p fresh core_types) (core_type_made fs s (core_module_type ds)) (any_made (core_type_made fs s (core_module_type ds)))
@@ -261,10 +298,12 @@ module _ {P : Type_tree → Type 0} {In : Parts Name Name → Type 0} (law : Inh
     items_bring (export_item e) = exports_bring s.top all names p fresh e
     items_bring (core_type_item t) = core_types_bring t
     items_bring (core_module_item ds) = core_modules_bring ds
-    items_bring (core_instance_item i) = tt
+    items_bring (core_instance_item i) = core_instances_bring names p s all i
     items_bring (component_item is n) = tt
     items_bring (instance_item i) = tt
-    items_bring (alias_item a) = tt
+    items_bring (alias_item (alias.InstanceExport k i n)) = tt
+    items_bring (alias_item (alias.CoreInstanceExport k i n)) = core_aliases_bring s.top k i n
+    items_bring (alias_item (alias.Outer k n i)) = tt
     items_bring (start_item a b c) = tt
     items_bring (canon_item c) = tt
     items_bring unread = tt

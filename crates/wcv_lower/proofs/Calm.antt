@@ -8,14 +8,14 @@ use Rattle.wcv_core.specs.CoreForm.{Group}
 use Rattle.wcv_core.specs.Names.{Name, number, stamp, base, at, stamped, aside}
 use Rattle.wcv_types.specs.Unfold.{Type_tree}
 use Rattle.wcv_types.proofs.Lists.{some-inj}
-use Rattle.wcv_lower.specs.Context.{Kind, Space, in_types, at_distance, empty, type_at}
+use Rattle.wcv_lower.specs.Context.{Kind, at_distance, empty, type_at}
 use Rattle.wcv_lower.specs.Declared.{inside, stack_of, around}
 use Rattle.wcv_lower.specs.Given.{Numbers, AtMost}
 use Rattle.wcv_lower.specs.Owned.{OwnsNot, OwnsApart, OwnApart, AllEntries, Everywhere, own_resources, IsOwn, IsGiven, AllOwn, IsCalm}
 use Rattle.wcv_lower.specs.Step.{Step, apply}
 use Rattle.wcv_lower.specs.Trees.{tree_reader, Tree_context, Tree_stack}
 use Rattle.wcv_lower.proofs.Applied.{applied_has, StoodAt, applied_own}
-use Rattle.wcv_lower.proofs.Bringing.{AllBring, all_at, of_some, type_has}
+use Rattle.wcv_lower.proofs.Bringing.{AllBring, of_some, type_has}
 use Rattle.wcv_lower.proofs.Members.{all_member, all_from_members}
 use Rattle.wcv_lower.proofs.Owning.{apart_outside, own_apart_inherited}
 
@@ -47,12 +47,6 @@ not_both a (aside x) h l = h
 module _ (a : Numbers) (s : Tree_stack) (h : IsCalm a s) where
   pub own_given : (j : ℕ) (c : Tree_context) (r : Name) → at_distance j s ≡ Some c → IsOwn c r → IsGiven a r
   own_given j c r e o = all_member (IsGiven a) (own_resources c) (h.given j c e) r o
-
-  pub calm_space : (j : Space) (k : ℕ) (t : Type_tree) → slice_get (s.top.space j) k ≡ Some t → OwnsApart t
-  calm_space j k t e = apart_outside t (all_at OwnApart (s.top.space j) k t ((h.apart zero s.top refl).space j) e)
-
-  pub calm_opens_entry : (k : ℕ) (t : Type_tree) → slice_get (s.top.space in_types) k ≡ Some t → OwnsApart t
-  calm_opens_entry k t e = calm_space in_types k t e
 
   pub calm_opens : (k : ℕ) (t : Type_tree) → type_at s.top k ≡ Some t → OwnsApart t
   calm_opens k t e = apart_outside t (of_some OwnApart (type_at s.top k) t (type_has own_apart_inherited (λ r. ⊥) s.top (h.apart zero s.top refl) k) e)

@@ -14,7 +14,7 @@ use Rattle.wcv_lower.specs.Ending.{is_free_among, any_free, keep, kept, componen
 use Rattle.wcv_lower.specs.Given.{Numbers}
 use Rattle.wcv_lower.specs.Names.{Names, introduced}
 use Rattle.wcv_lower.specs.Owned.{OwnsNot, OwnApart, AllEntries, IsOwn, IsCalm}
-use Rattle.wcv_lower.specs.Readers.{Named, New_node, func_node, defined_node, module_node, instance_node, component_node}
+use Rattle.wcv_lower.specs.Readers.{Named, New_node, func_node, defined_node, module_node, core_instance_node, core_exports_node, instance_node, component_node}
 use Rattle.wcv_lower.specs.Step.{appends, apply}
 use Rattle.wcv_lower.specs.Trees.{tree_reader, Tree_context, Tree_stack, tree_maker, node_tree, type_entry}
 use Rattle.wcv_lower.specs.Types.{added}
@@ -35,6 +35,8 @@ Ends c (component_node ins outs es es') = ((r : Name) → (member r (firsts ins)
 Ends c (func_node b ps) = ⊥
 Ends c (defined_node k ps) = ⊥
 Ends c (module_node m) = ⊥
+Ends c (core_instance_node t) = ⊥
+Ends c (core_exports_node n es) = ⊥
 
 -- the kept resources are some of the defined ones
 abbrev AreSomeOf : List (Name × Option ValType) → List (Name × List ℕ) → Type 0
@@ -92,6 +94,8 @@ module _ (c : Tree_context) (i : Name) where
   end_spares r foreign all (func_node b ps) w = absurd w
   end_spares r foreign all (defined_node k ps) w = absurd w
   end_spares r foreign all (module_node m) w = absurd w
+  end_spares r foreign all (core_instance_node t) w = absurd w
+  end_spares r foreign all (core_exports_node n es) w = absurd w
 
   end_apart : ((r : Name) → IsOwn c r → AllEntries (OwnsNot r) c) → AllEntries OwnApart c → (n : New_node tree_reader) → Ends c n → OwnApart (node_tree i n)
   end_apart spared all (instance_node own es) w = ((λ r e. exports_in_it (owns_not_inherited r) c (spared r (w.0 r e)) es w.1), exports_in_it own_apart_inherited c all es w.1)
@@ -100,6 +104,8 @@ module _ (c : Tree_context) (i : Name) where
   end_apart spared all (func_node b ps) w = absurd w
   end_apart spared all (defined_node k ps) w = absurd w
   end_apart spared all (module_node m) w = absurd w
+  end_apart spared all (core_instance_node t) w = absurd w
+  end_apart spared all (core_exports_node n es) w = absurd w
 
 -- ## The end
 

@@ -72,9 +72,6 @@ module _ (In : Place → Type 0) (a b : Numbers) (n : GivenNames) (p : Place) (s
       (λ all. enters_bring own_apart_inherited (IsLate a) d x e (of_some (BroughtOf own_apart_inherited (IsLate a)) (written (tree_maker (names_of n) p) s.top r) e (written_has own_apart_inherited (IsLate a) s.top (all zero s.top refl) (names_of n) p fresh r) q))
       (λ y all. enters_bring (owns_not_inherited y) (IsLate a) d x e (of_some (BroughtOf (owns_not_inherited y) (IsLate a)) (written (tree_maker (names_of n) p) s.top r) e (written_has (owns_not_inherited y) (IsLate a) s.top (all zero s.top refl) (names_of n) p fresh r) q))
 
-  pub calm_enters : (d : Side) (x : Extern_name) (r : ComponentTypeRef) (e : Brought tree_reader) → written (tree_maker (names_of n) p) s.top r ≡ Some e → AllOwn b (apply (enters d x e) s).top → IsCalm b (apply (enters d x e) s)
-  calm_enters d x r e q own = calm_applied a b s (enters d x e) l h (entering d x r e q) own
-
   -- a step that leads to a stack
   step_calm : (q : Step tree_reader) (t : Tree_stack) → IsGentle a s q → Some (apply q s) ≡ Some t → AllOwn b t.top → IsCalm b t
   step_calm q t w e own =

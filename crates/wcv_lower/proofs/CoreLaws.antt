@@ -8,7 +8,7 @@ use Rattle.wcv_core.specs.CoreJoining.{group_checks, group_ids, grown}
 use Rattle.wcv_core.specs.CoreWritten.{Core_entry, closed_group}
 use Rattle.wcv_core.specs.declared.features.WasmFeatures.{WasmFeatures}
 use Rattle.wcv_syntax.specs.Model.{Module_decl, Core_type_form, core_rec, core_module_type}
-use Rattle.wcv_syntax.specs.ModuleTypes.{Made, empty_module, written_group, module_checks, module_left}
+use Rattle.wcv_syntax.specs.ModuleTypes.{Made, empty_module, module_checks, module_left}
 use Rattle.wcv_lower.specs.Checks.{IsFree, no_type_room, no_core_type_room, full}
 use Rattle.wcv_lower.specs.Context.{Context, Stack, Core_space, core_types, core_modules, counts}
 use Rattle.wcv_lower.specs.CoreItems.{core_entries, outer_entries, is_closable, types_join, closed_step, group_step, module_made, module_joins, core_type_made, core_type_step, core_type_checks, core_module_made, core_module_step, core_module_checks, core_module_left}
@@ -62,7 +62,7 @@ module _ {X Y : Reader} (m : Map X Y) {Known : X.Entry → Type 0} (law : Commut
         go (Some s) u = ap (λ y. Some (interns s.0 ∷ core_appends d y ∷ [])) (u (module_node s.1) refl)
 
     pub core_type_step-mapped : (fs : WasmFeatures) (s : Stack X) (t : Core_type_form) → MakesSame m Known k l (core_type_uses fs s t) → core_type_step fs l (map_stack m s) t ≡ option_map (map_step m) (core_type_step fs k s t)
-    core_type_step-mapped fs s (core_rec w) u = group_step-mapped s (written_group w)
+    core_type_step-mapped fs s (core_rec w) u = group_step-mapped s w
     core_type_step-mapped fs s (core_module_type ds) u =
         made-mapped core_types (core_type_made fs s (core_module_type ds)) _ (ap (λ (es : List (List Core_entry)). module_made es s.groups (empty_module fs) ds) (outer_entries-mapped s)) u.build
 
@@ -70,7 +70,7 @@ module _ {X Y : Reader} (m : Map X Y) {Known : X.Entry → Type 0} (law : Commut
     core_module_step-mapped fs s ds u = made-mapped core_modules (core_module_made fs s ds) _ refl u.build
 
   pub core_type_checks-mapped : (fs : WasmFeatures) (s : Stack X) (t : Core_type_form) → core_type_checks fs (map_stack m s) t ≡ core_type_checks fs s t
-  core_type_checks-mapped fs s (core_rec w) = λ j. group_checks fs s.groups (core_entries-mapped s.top j) (written_group w) ++ no_core_type_room (length w) (counts-mapped m law s.top j)
+  core_type_checks-mapped fs s (core_rec w) = λ j. group_checks fs s.groups (core_entries-mapped s.top j) w ++ no_core_type_room (length w) (counts-mapped m law s.top j)
   core_type_checks-mapped fs s (core_module_type ds) = λ j. module_checks (outer_entries-mapped s j) s.groups (empty_module fs) ds ++ no_type_room true (counts-mapped m law s.top j)
 
   pub core_module_left-mapped : (c : Context X) (ds : List Module_decl) → core_module_left (map_context m c) ds ≡ core_module_left c ds
@@ -81,7 +81,7 @@ module _ {X Y : Reader} (m : Map X Y) {Known : X.Entry → Type 0} (law : Commut
 module _ (X : Reader) (fs : WasmFeatures) (mk : Maker X) (s : Stack X) where
   pub core_type_does : (t : Core_type_form) → IsFree (core_type_checks fs s t) → (p : Step X) × (core_type_step fs mk s t ≡ Some p)
   core_type_does (core_rec w) h =
-      let g : Group = written_group w in
+      let g : Group = w in
       let p : Step X = closed_step X s.groups (closed_group (core_entries s.top) g) in
       (p, ap (λ (b : Bool). cond b (Some p) None) (closable fs s.groups (core_entries s.top) g (free_left (group_checks fs s.groups (core_entries s.top) g) (no_core_type_room (length w) (counts s.top)) h)))
   core_type_does (core_module_type ds) h =

@@ -144,9 +144,9 @@ module _ (X : Reader) (fs : WasmFeatures) (mk : Makers X) where
         declared_there declares_component p s ds (decls_there p 0 declares_component (inside declares_component s) ds b (free_left _ (no_type_room limited (counts s.top)) (free_right (full_stack s) _ h)))
     type_there limited p s (instance_type ds) b h =
         declared_there declares_instance p s ds (decls_there p 0 declares_instance (inside declares_instance s) ds (inside_built ds b) (free_left _ (no_type_room limited (counts s.top)) (free_right (full_stack s) _ h)))
-    type_there limited p s (defined_type d) b h = applied_there s (type_step (mk p) s.top (defined_type d)) (type_does X fs (mk p) s.top limited (defined_type d) b h)
-    type_there limited p s (func_type f) b h = applied_there s (type_step (mk p) s.top (func_type f)) (type_does X fs (mk p) s.top limited (func_type f) b h)
-    type_there limited p s (resource_type rep dtor) b h = applied_there s (type_step (mk p) s.top (resource_type rep dtor)) (type_does X fs (mk p) s.top limited (resource_type rep dtor) b h)
+    type_there limited p s (defined_type d) b h = applied_there s (type_step (mk p) s.top (defined_type d)) (type_does X fs (mk p) s limited (defined_type d) b h)
+    type_there limited p s (func_type f) b h = applied_there s (type_step (mk p) s.top (func_type f)) (type_does X fs (mk p) s limited (func_type f) b h)
+    type_there limited p s (resource_type rep dtor) b h = applied_there s (type_step (mk p) s.top (resource_type rep dtor)) (type_does X fs (mk p) s limited (resource_type rep dtor) b h)
 
     decl_there : (p : Place) (s : Stack X) (d : Decl) → is_built_decl d ≡ true → IsFree (decl_checks fs mk p s d) → (u : Stack X) × (read_decl fs mk p s d ≡ Some u)
     decl_there p s (core_type_decl t) b h = applied_there s (core_type_step fs (mk p) s t) (core_type_does X fs (mk p) s t h)

@@ -123,14 +123,14 @@ module _ {X Y : Reader} (m : Map X Y) {Known : X.Entry → Type 0} (law : Commut
     pub declared_checks-mapped : (limited : Bool) (p : Place) (s : Stack X) (t : Type_form) → TypeAlike m Known fs k l p s t → declared_checks limited fs l p (map_stack m s) t ≡ declared_checks limited fs k p s t
     declared_checks-mapped limited p s (component_type ds) h = λ j. full-mapped s j ++ (decls_checks-mapped p 0 declares_component (inside declares_component s) ds h j ++ no_type_room limited (counts-mapped m law s.top j))
     declared_checks-mapped limited p s (instance_type ds) h = λ j. full-mapped s j ++ (decls_checks-mapped p 0 declares_instance (inside declares_instance s) ds h j ++ no_type_room limited (counts-mapped m law s.top j))
-    declared_checks-mapped limited p s (defined_type d) h = type_checks-mapped m law (k p) (l p) s.top h.known limited fs (defined_type d) h.same
-    declared_checks-mapped limited p s (func_type f) h = type_checks-mapped m law (k p) (l p) s.top h.known limited fs (func_type f) h.same
-    declared_checks-mapped limited p s (resource_type rep dtor) h = type_checks-mapped m law (k p) (l p) s.top h.known limited fs (resource_type rep dtor) h.same
+    declared_checks-mapped limited p s (defined_type d) h = type_checks-mapped m law (k p) (l p) s h.known limited fs (defined_type d) h.same
+    declared_checks-mapped limited p s (func_type f) h = type_checks-mapped m law (k p) (l p) s h.known limited fs (func_type f) h.same
+    declared_checks-mapped limited p s (resource_type rep dtor) h = type_checks-mapped m law (k p) (l p) s h.known limited fs (resource_type rep dtor) h.same
 
     decl_checks-mapped : (p : Place) (s : Stack X) (d : Decl) → DeclAlike m Known fs k l p s d → decl_checks fs l p (map_stack m s) d ≡ decl_checks fs k p s d
     decl_checks-mapped p s (core_type_decl t) h = core_type_checks-mapped m law fs s t
     decl_checks-mapped p s (type_decl t) h = declared_checks-mapped true p s t h
-    decl_checks-mapped p s (alias_decl a) h = alias_checks-mapped m law s h a
+    decl_checks-mapped p s (alias_decl a) h = alias_checks-mapped m law fs s h a
     decl_checks-mapped p s (export_decl n r) h = export_checks-mapped p s.top h.known n r h.same
     decl_checks-mapped p s (import_decl i) h = import_checks-mapped m law (k p) (l p) fs s.top h.known i h.same
 

@@ -67,9 +67,9 @@ module _ {X : Reader} (fs : WasmFeatures) (k l : Makers X) where
     pub declared_checks-agree : (limited : Bool) (p : Place) (s : Stack X) (t : Type_form) → MakeSame k l (Under p) → declared_checks limited fs l p s t ≡ declared_checks limited fs k p s t
     declared_checks-agree limited p s (component_type ds) h = λ j. full_stack s ++ (decls_checks-agree p 0 declares_component (inside declares_component s) ds (same_inside k l p 0 h) j ++ no_type_room limited (counts s.top))
     declared_checks-agree limited p s (instance_type ds) h = λ j. full_stack s ++ (decls_checks-agree p 0 declares_instance (inside declares_instance s) ds (same_inside k l p 0 h) j ++ no_type_room limited (counts s.top))
-    declared_checks-agree limited p s (defined_type d) h = λ j. type_checks limited fs (h p (under-refl p) j) s.top (defined_type d)
-    declared_checks-agree limited p s (func_type f) h = λ j. type_checks limited fs (h p (under-refl p) j) s.top (func_type f)
-    declared_checks-agree limited p s (resource_type rep dtor) h = λ j. type_checks limited fs (h p (under-refl p) j) s.top (resource_type rep dtor)
+    declared_checks-agree limited p s (defined_type d) h = λ j. type_checks limited fs (h p (under-refl p) j) s (defined_type d)
+    declared_checks-agree limited p s (func_type f) h = λ j. type_checks limited fs (h p (under-refl p) j) s (func_type f)
+    declared_checks-agree limited p s (resource_type rep dtor) h = λ j. type_checks limited fs (h p (under-refl p) j) s (resource_type rep dtor)
 
     pub decl_checks-agree : (p : Place) (s : Stack X) (d : Decl) → MakeSame k l (Under p) → decl_checks fs l p s d ≡ decl_checks fs k p s d
     decl_checks-agree p s (core_type_decl t) h = refl

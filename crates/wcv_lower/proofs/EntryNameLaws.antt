@@ -8,7 +8,7 @@ use Rattle.wcv_core.specs.Label.{is_among}
 use Rattle.wcv_core.specs.Names.{Name, same}
 use Rattle.wcv_core.specs.declared.error.ErrorKind.TheVariants as kind
 use Rattle.wcv_core.specs.declared.features.WasmFeatures.{WasmFeatures}
-use Rattle.wcv_syntax.specs.ExternName.{Access, call, get, set, Form, item, constructor, method, static, interface, access_of, getter_of, written}
+use Rattle.wcv_syntax.specs.ExternName.{Access, call, get, set, Form, item, constructor, method, static, interface, access_of, getter_of, spelled}
 use Rattle.wcv_syntax.specs.FormOf.{form_of}
 use Rattle.wcv_types.specs.Identity.{Identity, of_node, of_reference, identity_at, rename_identity}
 use Rattle.wcv_types.specs.Rename.{rename, rename_parts}
@@ -17,9 +17,9 @@ use Rattle.wcv_types.proofs.Identity.{same_under, identity-same}
 use Rattle.wcv_types.proofs.Lists.{map-map}
 use Rattle.wcv_names.specs.Externs as externs
 use Rattle.wcv_names.specs.ResourceNames.{Reference, Resource_names, same_reference, is_named_so}
-use Rattle.wcv_names.specs.TextSet.{is_text}
+use Rattle.wcv_core.specs.TextSet.{is_text}
 use Rattle.wcv_names.specs.Rules.{is_own, is_borrow, if_ok, is_left_out, Params, params, gives, takes_self, rest, is_empty, is_single, is_used_so, function_fits, fits, by_name, getter_in, gotten, first_type, taken, is_given, is_paired_by, is_paired, follows}
-use Rattle.wcv_names.specs.SameValues.{alike}
+use Rattle.wcv_types.specs.SameSeen.{alike}
 use Rattle.wcv_names.specs.WholeNames.{is_bad_name, lacks_feature}
 use Rattle.wcv_names.proofs.Renamed.{alike-renamed}
 use Rattle.wcv_types.specs.Unfold.{Type_tree}
@@ -166,7 +166,7 @@ module _ (w : Renaming) where
 
   paired : (es : Entries) (n : Form) (t : Type_tree) → is_paired (map_entries to es) n (to t) ≡ is_paired es n t
   paired es n (node (func i async) ps) =
-      let l : Text = written (getter_of n) in
+      let l : Text = spelled (getter_of n) in
       let a : taken n (params (rename_parts f g ps)) ≡ to (taken n (params ps)) = ap (taken n) (params-same ps) ∙ taken-same n (params ps) in
       let b : getter_in n (map_entries to es) ≡ option_map to (getter_in n es) = ap (lookup (bytes_eq l)) (by_name-same es) ∙ first-same l (by_name es) in
       (λ j. is_paired_by (access_of n) (a j) (b j)) ∙ paired_by (access_of n) (taken n (params ps)) (getter_in n es)

@@ -1,15 +1,16 @@
 -- What is made under renamed names is what was made, renamed.
-use Rattle.std.proofs.Common.{◌≡◌, List, [], ◌∷◌, map, refl, sym, ◌∙◌, ap}
+use Rattle.std.proofs.Common.{◌≡◌, ℕ, suc, List, [], ◌∷◌, map, refl, sym, ◌∙◌, ap}
 use Rattle.wcv_core.specs.Names.{Name, Place}
 use Rattle.wcv_core.specs.declared.core_types.EntityType.{EntityType}
 use Rattle.wcv_core.proofs.Places.{under-refl}
 use Rattle.wcv_types.specs.Rename.{rename, rename_parts, rename_head, rename_paths}
-use Rattle.wcv_types.specs.Tree.{Text, Extern_name, Head, resource, defined, func, instance, component, core_module, core_instance, core_item, Role, import, export, core_import, core_export, node, Parts, none, part, type_of, resource_type, entries, core_imports, core_exports}
+use Rattle.wcv_types.specs.Tree.{Text, Extern_name, Head, resource, defined, func, instance, component, core_module, core_instance, core_item, Role, here, import, export, core_import, core_export, node, Parts, none, part, type_of, resource_type, entries, core_imports, core_exports}
 use Rattle.wcv_types.specs.Unfold.{Type_tree, capped}
+use Rattle.wcv_types.proofs.Measure.{size-rename}
 use Rattle.wcv_lower.specs.Mapped.{MakesSame, map_entries, map_parts, map_node}
 use Rattle.wcv_lower.specs.Names.{Names, introduced, stamp_at, Under, AreRenamed}
 use Rattle.wcv_lower.specs.NewTypes.{renewed_head, renewed}
-use Rattle.wcv_lower.specs.Readers.{New_node, func_node, defined_node, module_node, instance_node, component_node}
+use Rattle.wcv_lower.specs.Readers.{New_node, func_node, defined_node, module_node, core_instance_node, core_exports_node, instance_node, component_node}
 use Rattle.wcv_lower.specs.Renamed.{Renaming, renaming}
 use Rattle.wcv_lower.specs.Trees.{Entries, type_entry, tree_reader, tree_parts, node_tree, tree_maker}
 use Rattle.wcv_lower.specs.Uses.{Uses}
@@ -47,6 +48,8 @@ module _ (w : Renaming) where
   node_tree-renamed i (defined_node k ps) = ap (node (defined (g i) k)) (parts-made ps)
   node_tree-renamed i (module_node t) =
       ap (node (core_module (g i) (capped t.size))) (sym (core_imports-renamed t.imports (core_exports t.exports none) ∙ ap (core_imports t.imports) (core_exports-renamed t.exports none)))
+  node_tree-renamed i (core_instance_node t) = ap (λ (n : ℕ). node (core_instance (g i) (capped (suc n))) (part here (to t) none)) (size-rename f g t)
+  node_tree-renamed i (core_exports_node n es) = ap (node (core_instance (g i) (capped n))) (sym (core_exports-renamed es none))
   node_tree-renamed i (instance_node own es) = ap (node (instance (g i) (map f own))) (sym (entries-renamed export es none))
   node_tree-renamed i (component_node ins outs es es') =
       ap (node (component (g i) (rename_paths f ins) (rename_paths f outs)))

@@ -16,7 +16,7 @@ use Rattle.wcv_core.specs.declared.features.WasmFeatures.{WasmFeatures}
 use Rattle.wcv_syntax.specs.CoreItems as core
 use Rattle.wcv_syntax.specs.CoreItems.{func_checks, ref_checks, entity_of, is_no_func, gives, type_entries, closed_table, closed_global, table_sizes, element_checks, sharing_checks}
 use Rattle.wcv_syntax.specs.Model.{Module_decl, module_type, module_import, module_export, module_outer}
-use Rattle.wcv_syntax.specs.ModuleTypes.{Module_type, Made, module_entries, space_at, at_index, alias_checks, on_entry, written_group, if_entity, import_checks, export_checks, types_checks, decl_checks, with_group_of, with_import, with_export, with_type, declared, and_then, all_declared, on_made, module_checks}
+use Rattle.wcv_syntax.specs.ModuleTypes.{Module_type, Made, module_entries, space_at, at_index, alias_checks, on_entry, if_entity, import_checks, export_checks, types_checks, decl_checks, with_group_of, with_import, with_export, with_type, declared, and_then, all_declared, on_made, module_checks}
 use Rattle.wcv_syntax.specs.declared.core_section.TypeRef.{TypeRef}
 use Rattle.wcv_syntax.specs.declared.core_section.TypeRef.TheVariants as ref
 use Rattle.wcv_lower.specs.Checks.{Checks, IsFree, missing}
@@ -80,7 +80,7 @@ entry_there (Some module_entry) h = absurd (false≢true (sym (free_right (missi
 -- ## Declarations
 
 declarable : (outers : List (List Core_entry)) (gs : List Group) (m : Module_type) (d : Module_decl) → IsFree (decl_checks outers gs m d) → is_declarable gs m d ≡ true
-declarable outers gs m (module_type w) h = closable m.features gs (module_entries m) (written_group w) (free_right (types_checks m (length (written_group w))) (group_checks m.features gs (module_entries m) (written_group w)) h)
+declarable outers gs m (module_type w) h = closable m.features gs (module_entries m) w (free_right (types_checks m (length w)) (group_checks m.features gs (module_entries m) w) h)
 declarable outers gs m (module_import i) h = found m.features gs m.types i.ty (free_left (ref_checks m.features gs m.types i.ty) (if_entity (import_checks gs m) (entity_of m.types i.ty)) h)
 declarable outers gs m (module_export n t) h = found m.features gs m.types t (free_left (ref_checks m.features gs m.types t) (if_entity (export_checks gs m n) (entity_of m.types t)) h)
 declarable outers gs m (module_outer k i) h = refl
@@ -90,7 +90,7 @@ declared_same : (outers : List (List Core_entry)) (gs : List Group) (m : Module_
 declared_same outers gs m d h = ap (λ (b : Bool). cond b (declared outers gs m d) None) (declarable outers gs m d h)
 
 decl_made : (outers : List (List Core_entry)) (gs : List Group) (m : Module_type) (d : Module_decl) → IsFree (decl_checks outers gs m d) → (s : Made) × (declared outers gs m d ≡ Some s)
-decl_made outers gs m (module_type w) h = (with_group_of gs m (written_group w), refl)
+decl_made outers gs m (module_type w) h = (with_group_of gs m w, refl)
 decl_made outers gs m (module_import i) h =
     mapped (λ e. (gs, with_import gs m (i.module, i.name) e)) (entity_of m.types i.ty)
     (entity_there m.features gs m.types i.ty (free_left (ref_checks m.features gs m.types i.ty) (if_entity (import_checks gs m) (entity_of m.types i.ty)) h))

@@ -7,10 +7,10 @@ use Rattle.wcv_core.specs.CoreForm.{Group}
 use Rattle.wcv_core.specs.CoreJoining.{group_ids}
 use Rattle.wcv_core.specs.CoreWritten.{closed_group}
 use Rattle.wcv_core.specs.Names.{Name, Place, base, at, same, member}
+use Rattle.wcv_core.specs.declared.core_types.EntityType.{EntityType}
 use Rattle.wcv_core.specs.declared.features.WasmFeatures.{WasmFeatures}
 use Rattle.wcv_core.proofs.Names.{and_right, same-true}
 use Rattle.wcv_syntax.specs.Model.{Type_form, defined_type, func_type, component_type, instance_type, resource_type, Core_type_form, core_rec, core_module_type}
-use Rattle.wcv_syntax.specs.ModuleTypes.{written_group}
 use Rattle.wcv_syntax.specs.declared.component_type.ComponentTypeRef.{ComponentTypeRef}
 use Rattle.wcv_syntax.specs.declared.component_type.ComponentTypeRef.TheVariants as ref
 use Rattle.wcv_syntax.specs.declared.component_type.TypeBounds.TheVariants as bounds
@@ -23,6 +23,7 @@ use Rattle.wcv_types.specs.Tree.{Extern_name, Sort, is_nothing, is_value, is_res
 use Rattle.wcv_types.specs.Unfold.{Type_tree}
 use Rattle.wcv_lower.specs.Aliases.{sort_named, instance_at, export_of, joining, outer_at, outer_joins, is_charged, concrete_at, charged, alias_step}
 use Rattle.wcv_lower.specs.Context.{Side, is_concrete, core_types, type_at}
+use Rattle.wcv_lower.specs.CoreInstances.{core_instance_at, core_export_of, if_of, item_joins}
 use Rattle.wcv_lower.specs.CoreItems.{core_entries, is_closable, types_join, closed_step, module_joins, core_type_made, core_type_step}
 use Rattle.wcv_lower.specs.Defined.{defined_made}
 use Rattle.wcv_lower.specs.Entries.{module_type_at, again_brought, written}
@@ -150,8 +151,8 @@ module _ (q : Place) where
 
   pub core_types_once : (fs : WasmFeatures) (s : Tree_stack) (t : Core_type_form) → OfAny StepOnce (core_type_step fs mk s t)
   core_types_once fs s (core_rec w) =
-      let g : Group = closed_group (core_entries s.top) (written_group w) in
-      any_cond StepOnce (is_closable s.groups (core_entries s.top) (written_group w)) (closed_step tree_reader s.groups g) (quiet (closed_step tree_reader s.groups g) (types_quiet (group_ids s.groups g)))
+      let g : Group = closed_group (core_entries s.top) w in
+      any_cond StepOnce (is_closable s.groups (core_entries s.top) w) (closed_step tree_reader s.groups g) (quiet (closed_step tree_reader s.groups g) (types_quiet (group_ids s.groups g)))
   core_types_once fs s (core_module_type ds) = any_mapped (λ x. Unit {0}) StepOnce (module_joins mk core_types) (λ x w. none_made q) (core_type_made fs s (core_module_type ds)) (any_is (core_type_made fs s (core_module_type ds)))
 
   outer_quiet : (w : ComponentOuterAliasKind) (x : Type_tree) → new_names (outer_joins w x) ≡ []
@@ -172,5 +173,7 @@ module _ (q : Place) where
   aliases_once s (alias.InstanceExport w i n) =
       let o : Option Type_tree = option_and_then (if_sort tree_reader (sort_named w)) (option_and_then (export_of tree_reader n) (instance_at s.top i)) in
       any_mapped (λ x. Unit {0}) StepOnce joining (λ x v. quiet (joining x) (joins_quiet (sort x) x)) o (any_is o)
-  aliases_once s (alias.CoreInstanceExport w i n) = tt
+  aliases_once s (alias.CoreInstanceExport w i n) =
+      let o : Option EntityType = option_and_then (if_of w) (option_and_then (core_export_of tree_reader n) (core_instance_at s.top i)) in
+      any_mapped (λ (e : EntityType). Unit {0}) StepOnce (item_joins tree_reader w) (λ e v. none_made q) o (any_is o)
   aliases_once s (alias.Outer w n i) = any_mapped (λ x. Unit {0}) StepOnce (λ x. charged s w n x ++ outer_joins w x) (λ x v. quiet (charged s w n x ++ outer_joins w x) (charged_quiet s w n x)) (outer_at s w n i) (any_is (outer_at s w n i))

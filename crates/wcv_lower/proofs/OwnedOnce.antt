@@ -25,7 +25,7 @@ use Rattle.wcv_lower.specs.Types.{added}
 use Rattle.wcv_lower.proofs.Applied.{change_at_cases, applied_has}
 use Rattle.wcv_lower.proofs.Bringing.{OfAny, of_some, any_mapped, AllBring, brings_one, enters_bring, BroughtOf, written_has, items_bring}
 use Rattle.wcv_lower.proofs.Calm.{inside_has, stood, around_has}
-use Rattle.wcv_lower.proofs.CalmAliases.{aliases_bring}
+use Rattle.wcv_lower.proofs.BroughtByAliases.{aliases_bring}
 use Rattle.wcv_lower.proofs.CalmEnds.{exports_in_it, sides_in_it}
 use Rattle.wcv_lower.proofs.CalmGrowth.{map-some}
 use Rattle.wcv_lower.proofs.DeclaredLaws.{then-some}

@@ -1,5 +1,5 @@
 -- What a type owns, inside and out, and what it becomes when it is made again: a property of trees that goes down to parts.
-use Rattle.std.proofs.Common.{◌≡◌, List, [], ◌∷◌, refl, sym, ◌∙◌, ap, subst, Bool, true, false, ◌||◌, Some, None}
+use Rattle.std.proofs.Common.{◌≡◌, suc, List, [], ◌∷◌, refl, sym, ◌∙◌, ap, subst, Bool, true, false, ◌||◌, Some, None}
 use Rattle.std.specs.Prelude.{Option, All}
 use Rattle.std.proofs.lemmas.Bool.{false≢true}
 use Rattle.std.proofs.lemmas.List.Elements.{All-head, All-tail}
@@ -8,6 +8,7 @@ use Rattle.wcv_core.proofs.Names.{same-refl}
 use Rattle.wcv_core.specs.declared.core_types.EntityType.{EntityType}
 use Rattle.wcv_syntax.specs.ModuleTypes.{Module_type}
 use Rattle.wcv_types.specs.Identity.{Identity, identity_at}
+use Rattle.wcv_types.specs.Measure.{size}
 use Rattle.wcv_types.specs.Replacing.{Replacement, given_at, given_or, moves, changed_in, new_head, replaced, replaced_in}
 use Rattle.wcv_types.specs.Resources.{owns}
 use Rattle.wcv_types.specs.Tree as tree
@@ -16,7 +17,7 @@ use Rattle.wcv_types.specs.Unfold.{Type_tree, capped}
 use Rattle.wcv_lower.specs.Names.{Names, introduced, stamp_at}
 use Rattle.wcv_lower.specs.NewTypes.{type_entry, renewed_head, renewed, new_reference, owned_anew, instance_tree}
 use Rattle.wcv_lower.specs.Owned.{OwnsNot, OwnsNotIn, OwnsApart, OwnApart, OwnApartIn, IsOnce, OwnsOnce, OwnsOnceIn}
-use Rattle.wcv_lower.specs.Readers.{New_node, func_node, defined_node, module_node, instance_node, component_node}
+use Rattle.wcv_lower.specs.Readers.{New_node, func_node, defined_node, module_node, core_instance_node, core_exports_node, instance_node, component_node}
 use Rattle.wcv_lower.proofs.Given.{or_left}
 use Rattle.wcv_lower.specs.Trees.{created, referenced, tree_parts, module_tree, node_tree, tree_reader}
 
@@ -309,6 +310,8 @@ module _ {P : Type_tree → Type 0} {In : Parts Name Name → Type 0} (law : Inh
   MadeOf (func_node b ps) = All (λ p. P p.1) ps
   MadeOf (defined_node k ps) = All (λ p. P p.1) ps
   MadeOf (module_node m) = Unit {0}
+  MadeOf (core_instance_node t) = P t
+  MadeOf (core_exports_node n es) = Unit {0}
   MadeOf (instance_node own es) = ⊥
   MadeOf (component_node ins outs es es') = ⊥
 
@@ -316,5 +319,7 @@ module _ {P : Type_tree → Type 0} {In : Parts Name Name → Type 0} (law : Inh
   node_has i (func_node b ps) w = law.bare (func i b) (tree_parts ps) (λ r. refl) (parts_have ps w)
   node_has i (defined_node k ps) w = law.bare (defined i k) (tree_parts ps) (λ r. refl) (parts_have ps w)
   node_has i (module_node m) w = module_has i m
+  node_has i (core_instance_node t) w = law.bare (core_instance i (capped (suc (size t)))) (part here t none) (λ r. refl) (law.part_in here t none w law.none_in)
+  node_has i (core_exports_node n es) w = law.bare (core_instance i (capped n)) (core_exports es none) (λ r. refl) (core_exports_have es none law.none_in)
   node_has i (instance_node own es) w = absurd w
   node_has i (component_node ins outs es es') w = absurd w

@@ -25,6 +25,7 @@ use Rattle.wcv_lower.specs.Context.{Side, importing, exporting, joined, names_fo
 use Rattle.wcv_lower.specs.Mapped.{Commutes, map_entries, map_paths}
 use Rattle.wcv_lower.specs.Renamed.{Renaming, renaming}
 use Rattle.wcv_lower.specs.Trees.{Entries, created, referenced, introduced_by, own_resources, creates, all_created, named_after, is_known, is_export_alone, entry_passes, exports_pass, refers_outside, has_free, any_free, core_entry, head_entry, primitive_of, type_entry}
+use Rattle.wcv_lower.proofs.CoreItemsRenamed.{item-renamed, core_imports-renamed, core_exports-renamed}
 use Rattle.wcv_lower.proofs.EntryNameLaws.{name_checks-renamed}
 use Rattle.wcv_lower.proofs.Joined.{map-joined}
 use Rattle.wcv_lower.proofs.TreeLaws.{sort-renamed, created-renamed, referenced-renamed, kept, all_kept}
@@ -254,6 +255,10 @@ module _ (w : Renaming) where
     first_path = first_path-renamed;
     core_entry = core_entry-renamed;
     core_type = λ i. refl;
+    core_imports = core_imports-renamed f g;
+    core_exports = core_exports-renamed f g;
+    item = item-renamed f g;
+    core_item = λ e. refl;
     primitive = λ p. refl;
     left_out = refl;
     primitive_of = primitive_of-renamed;

@@ -190,6 +190,10 @@ module _ (a : Arena) where
     first_path = λ r es. refl;
     core_entry = λ x. refl;
     core_type = λ i. refl;
+    core_imports = λ x. refl;
+    core_exports = λ x. refl;
+    item = λ x. refl;
+    core_item = λ e. refl;
     primitive = λ q. refl;
     left_out = refl;
     primitive_of = λ x. refl;

@@ -1,8 +1,9 @@
--- Aliases of an instance's export and of what stands further out, over any kind of entry.
+-- Aliases of an instance's export, of a core instance's, and of what stands further out, over any kind of entry.
 use Rattle.std.specs.Prelude.{ℕ, ◌+◌, nat_lt, zero, suc, List, [], ◌∷◌, ◌++◌, Bool, true, false, not, ◌&&◌, cond, Option, Some, None, slice_get}
 use Rattle.std.specs.Option.{option_map, option_and_then}
 use Rattle.wcv_core.specs.Limits.{max_size}
 use Rattle.wcv_core.specs.declared.error.ErrorKind.TheVariants as error
+use Rattle.wcv_core.specs.declared.features.WasmFeatures.{WasmFeatures}
 use Rattle.wcv_syntax.specs.declared.instance.ComponentAlias.{ComponentAlias}
 use Rattle.wcv_syntax.specs.declared.instance.ComponentAlias.TheVariants as alias
 use Rattle.wcv_syntax.specs.declared.instance.ComponentExternalKind.{ComponentExternalKind}
@@ -12,6 +13,7 @@ use Rattle.wcv_syntax.specs.declared.instance.ComponentOuterAliasKind.TheVariant
 use Rattle.wcv_types.specs.Tree.{Text, Sort, is_value, is_func, is_instance, is_component, is_type, is_module}
 use Rattle.wcv_lower.specs.Checks.{Checks, Counts, too_long, no_type_room, no_core_type_room, if_found, is_none, missing, is_other, no_room}
 use Rattle.wcv_lower.specs.Context.{Context, Stack, in_types, in_instances, in_components, core_types, core_modules, is_concrete, at_distance, counts}
+use Rattle.wcv_lower.specs.CoreInstances.{core_alias_step, core_alias_checks}
 use Rattle.wcv_lower.specs.Readers.{Reader, sort_of, if_sort, first_named}
 use Rattle.wcv_lower.specs.Step.{Step, charges, appends, core_appends, joins}
 
@@ -128,21 +130,16 @@ outer_alias_checks s w n i =
 
 abbrev pub alias_step : {X : Reader} → Stack X → ComponentAlias → Option (Step X)
 alias_step s (alias.InstanceExport w i n) = export_alias_step s.top w i n
-alias_step s (alias.CoreInstanceExport w i n) = None
+alias_step s (alias.CoreInstanceExport w i n) = core_alias_step s.top w i n
 alias_step s (alias.Outer w n i) = outer_alias_step s w n i
 
-abbrev pub alias_checks : {X : Reader} → Stack X → ComponentAlias → Checks
-alias_checks s (alias.InstanceExport w i n) = export_alias_checks s.top w i n
-alias_checks s (alias.CoreInstanceExport w i n) = []
-alias_checks s (alias.Outer w n i) = outer_alias_checks s w n i
+abbrev pub alias_checks : {X : Reader} → WasmFeatures → Stack X → ComponentAlias → Checks
+alias_checks fs s (alias.InstanceExport w i n) = export_alias_checks s.top w i n
+alias_checks fs s (alias.CoreInstanceExport w i n) = core_alias_checks fs s.top w i n
+alias_checks fs s (alias.Outer w n i) = outer_alias_checks s w n i
 
 -- the limits that are left to the caller
 abbrev pub alias_left : ComponentAlias → Checks
 alias_left (alias.InstanceExport w i n) = too_long n
 alias_left (alias.CoreInstanceExport w i n) = too_long n
 alias_left (alias.Outer w n i) = []
-
--- an alias of a core instance's export is not read yet
-abbrev pub is_read : ComponentAlias → Bool
-is_read (alias.CoreInstanceExport w i n) = false
-is_read _ = true

@@ -12,7 +12,7 @@ use Rattle.wcv_core.specs.declared.core_types.CoreTypeId.{CoreTypeId}
 use Rattle.wcv_core.specs.declared.features.WasmFeatures.{WasmFeatures}
 use Rattle.wcv_syntax.specs.CoreItems.{type_entries, func_checks}
 use Rattle.wcv_syntax.specs.Model.{Module_decl, module_type, module_import, module_export, module_outer, Core_type_form, core_rec, core_module_type}
-use Rattle.wcv_syntax.specs.ModuleTypes.{Module_type, Made, module_entries, empty_module, written_group, declared, and_then, module_checks, module_left}
+use Rattle.wcv_syntax.specs.ModuleTypes.{Module_type, Made, module_entries, empty_module, declared, and_then, module_checks, module_left}
 use Rattle.wcv_syntax.specs.declared.core_section.TypeRef.{TypeRef}
 use Rattle.wcv_syntax.specs.declared.core_section.TypeRef.TheVariants as ref
 use Rattle.wcv_lower.specs.Checks.{Checks, full, no_type_room, no_core_type_room}
@@ -59,7 +59,7 @@ is_found gs ts (ref.Global g) = is_free (val_checks (total gs) (type_entries ts)
 
 -- so in a declaration. What an outer alias names is looked up where it is made
 abbrev pub is_declarable : List Group → Module_type → Module_decl → Bool
-is_declarable gs m (module_type w) = is_closable gs (module_entries m) (written_group w)
+is_declarable gs m (module_type w) = is_closable gs (module_entries m) w
 is_declarable gs m (module_import i) = is_found gs m.types i.ty
 is_declarable gs m (module_export n t) = is_found gs m.types t
 is_declarable gs m (module_outer k i) = true
@@ -84,15 +84,15 @@ core_type_made fs s (core_rec w) = None
 core_type_made fs s (core_module_type ds) = module_made (outer_entries s) s.groups (empty_module fs) ds
 
 abbrev pub core_type_step : {X : Reader} → WasmFeatures → Maker X → Stack X → Core_type_form → Option (Step X)
-core_type_step fs mk s (core_rec w) = group_step s (written_group w)
+core_type_step fs mk s (core_rec w) = group_step s w
 core_type_step fs mk s (core_module_type ds) = option_map (module_joins mk core_types) (core_type_made fs s (core_module_type ds))
 
 abbrev pub core_type_checks : {X : Reader} → WasmFeatures → Stack X → Core_type_form → Checks
-core_type_checks fs s (core_rec w) = group_checks fs s.groups (core_entries s.top) (written_group w) ++ no_core_type_room (length w) (counts s.top)
+core_type_checks fs s (core_rec w) = group_checks fs s.groups (core_entries s.top) w ++ no_core_type_room (length w) (counts s.top)
 core_type_checks fs s (core_module_type ds) = module_checks (outer_entries s) s.groups (empty_module fs) ds ++ no_type_room true (counts s.top)
 
 abbrev pub core_type_left : Core_type_form → Checks
-core_type_left (core_rec w) = group_left (written_group w)
+core_type_left (core_rec w) = group_left w
 core_type_left (core_module_type ds) = module_left ds
 
 -- a core module names no type around it

@@ -88,12 +88,12 @@ abbrev mutual
   pub declared_checks : {X : Reader} → Bool → WasmFeatures → Makers X → Place → Stack X → Type_form → Checks
   declared_checks limited fs mk p s (component_type ds) = full_stack s ++ (decls_checks fs mk p 0 declares_component (inside declares_component s) ds ++ no_type_room limited (counts s.top))
   declared_checks limited fs mk p s (instance_type ds) = full_stack s ++ (decls_checks fs mk p 0 declares_instance (inside declares_instance s) ds ++ no_type_room limited (counts s.top))
-  declared_checks limited fs mk p s t = type_checks limited fs (mk p) s.top t
+  declared_checks limited fs mk p s t = type_checks limited fs (mk p) s t
 
   pub decl_checks : {X : Reader} → WasmFeatures → Makers X → Place → Stack X → Decl → Checks
   decl_checks fs mk p s (core_type_decl t) = core_type_checks fs s t
   decl_checks fs mk p s (type_decl t) = declared_checks true fs mk p s t
-  decl_checks fs mk p s (alias_decl a) = alias_checks s a
+  decl_checks fs mk p s (alias_decl a) = alias_checks fs s a
   decl_checks fs mk p s (export_decl n r) = declared_export_checks fs (mk p) s.top n r
   decl_checks fs mk p s (import_decl i) = import_checks fs (mk p) s.top i
 

@@ -1,12 +1,13 @@
 -- Entries of one kind read as entries of another, and contexts and steps with them.
 use Rattle.std.specs.Prelude.{ℕ, List, map, slice_get, true, Option, Some, ◌≡◌}
+use Rattle.wcv_core.specs.declared.core_types.EntityType.{EntityType}
 use Rattle.wcv_core.specs.declared.core_types.ValType.{ValType}
 use Rattle.wcv_core.specs.declared.features.WasmFeatures.{WasmFeatures}
 use Rattle.wcv_core.specs.declared.primitive.PrimitiveValType.{PrimitiveValType}
 use Rattle.wcv_types.specs.Abi.{Mark}
 use Rattle.wcv_types.specs.Tree.{Text, Extern_name, Role}
 use Rattle.wcv_lower.specs.Context.{Context, Stack, Side, Space, Core_space}
-use Rattle.wcv_lower.specs.Readers.{Reader, Maker, Named, New_node, func_node, defined_node, module_node, instance_node, component_node, Brought, first_named}
+use Rattle.wcv_lower.specs.Readers.{Reader, Maker, Named, New_node, func_node, defined_node, module_node, core_instance_node, core_exports_node, instance_node, component_node, Brought, first_named}
 use Rattle.wcv_lower.specs.Step.{Change, appends, lists, introduces, defines, creates, core_appends, interns, charges, Step}
 use Rattle.wcv_lower.specs.Uses.{Uses}
 
@@ -44,6 +45,10 @@ pub record Commutes {X Y : Reader} (m : Map X Y) (Known : X.Entry → Type 0) : 
   pub first_path : (r : X.Resource) (es : Named X) → Y.first_path (m.resource r) (map_entries m.entry es) ≡ X.first_path r es
   pub core_entry : (x : X.Entry) → Y.core_entry (m.entry x) ≡ X.core_entry x
   pub core_type : (i : ℕ) → Y.core_type i ≡ m.entry (X.core_type i)
+  pub core_imports : (x : X.Entry) → Y.core_imports (m.entry x) ≡ X.core_imports x
+  pub core_exports : (x : X.Entry) → Y.core_exports (m.entry x) ≡ X.core_exports x
+  pub item : (x : X.Entry) → Y.item (m.entry x) ≡ X.item x
+  pub core_item : (e : EntityType) → Y.core_item e ≡ m.entry (X.core_item e)
   pub primitive : (p : PrimitiveValType) → Y.primitive p ≡ m.entry (X.primitive p)
   pub left_out : Y.left_out ≡ m.entry X.left_out
   pub primitive_of : (x : X.Entry) → Y.primitive_of (m.entry x) ≡ X.primitive_of x
@@ -96,6 +101,8 @@ module _ {X Y : Reader} (m : Map X Y) where
   map_node (func_node b ps) = func_node b (map_parts m.entry ps)
   map_node (defined_node k ps) = defined_node k (map_parts m.entry ps)
   map_node (module_node t) = module_node t
+  map_node (core_instance_node x) = core_instance_node (m.entry x)
+  map_node (core_exports_node n es) = core_exports_node n es
   map_node (instance_node own es) = instance_node (map m.resource own) (map_entries m.entry es)
   map_node (component_node ins outs es es') = component_node (map_paths m.resource ins) (map_paths m.resource outs) (map_entries m.entry es) (map_entries m.entry es')
 

@@ -1,9 +1,10 @@
 -- What the rules read of an entry, and what they make. Entries are trees in the statements, ids in the code, values in a machine.
 use Rattle.std.specs.Prelude.{ℕ, List, [], ◌∷◌, Bool, cond, Option, Some, None, bytes_eq}
 use Rattle.wcv_core.specs.CoreWritten.{Core_entry}
+use Rattle.wcv_core.specs.declared.core_types.EntityType.{EntityType}
 use Rattle.wcv_core.specs.declared.features.WasmFeatures.{WasmFeatures}
 use Rattle.wcv_core.specs.declared.primitive.PrimitiveValType.{PrimitiveValType}
-use Rattle.wcv_syntax.specs.ModuleTypes.{Module_type}
+use Rattle.wcv_syntax.specs.ModuleTypes.{Module_type, Core_import, Core_export}
 use Rattle.wcv_types.specs.Abi.{Mark}
 use Rattle.wcv_types.specs.Tree.{Text, Extern_name, Former, Role, Sort}
 use Rattle.wcv_lower.specs.Checks.{Checks, Weight, same_sort}
@@ -42,6 +43,12 @@ pub record Reader : Type 1 where
   pub core_entry : Entry → Core_entry
   -- the core type with that id
   pub core_type : ℕ → Entry
+  -- what a core module imports, and what a core instance exports
+  pub core_imports : Entry → List Core_import
+  pub core_exports : Entry → List Core_export
+  -- what a core item is, if it is one, and the core item that is that
+  pub item : Entry → Option EntityType
+  pub core_item : EntityType → Entry
   -- a primitive value type, and what stands where a value type is left out
   pub primitive : PrimitiveValType → Entry
   pub left_out : Entry
@@ -83,6 +90,10 @@ pub data New_node (X : Reader) : Type 0 where
   func_node : Bool → Made_parts X → New_node X
   defined_node : Former → Made_parts X → New_node X
   module_node : Module_type → New_node X
+  -- a core instance of a core module
+  core_instance_node : X.Entry → New_node X
+  -- one that lists its exports, with what it counts
+  core_exports_node : ℕ → List Core_export → New_node X
   -- the resources that an instance type owns, and the exports
   instance_node : List X.Resource → Named X → New_node X
   -- the resources that are imported and those that are defined, and the imports and the exports

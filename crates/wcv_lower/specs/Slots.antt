@@ -8,7 +8,7 @@ use Rattle.wcv_types.specs.Unfold.{Slot, leaf, core, at, both, Slots, slots_at, 
 use Rattle.wcv_types.specs.declared.ids.Part.{Part}
 use Rattle.wcv_types.specs.declared.ids.Part.TheVariants as p
 use Rattle.wcv_lower.specs.Mapped.{Map, map_entries}
-use Rattle.wcv_lower.specs.Readers.{Reader, New_node, func_node, defined_node, module_node, instance_node, component_node, Brought, Maker}
+use Rattle.wcv_lower.specs.Readers.{Reader, New_node, func_node, defined_node, module_node, core_instance_node, core_exports_node, instance_node, component_node, Brought, Maker}
 use Rattle.wcv_lower.specs.NewTypes.{path_or_none}
 use Rattle.wcv_lower.specs.Step.{bare}
 use Rattle.wcv_lower.specs.Trees.{Entries, tree_reader}
@@ -73,6 +73,10 @@ slot_reader a = record {
   first_path = λ r es. tree_reader.first_path r (map_entries (slot_tree (trees a.nodes)) es);
   core_entry = λ x. tree_reader.core_entry (slot_tree (trees a.nodes) x);
   core_type = λ i. at (p.Core (record { index = i }));
+  core_imports = λ x. tree_reader.core_imports (slot_tree (trees a.nodes) x);
+  core_exports = λ x. tree_reader.core_exports (slot_tree (trees a.nodes) x);
+  item = λ x. tree_reader.item (slot_tree (trees a.nodes) x);
+  core_item = λ e. core e;
   primitive = λ q. leaf (Some q);
   left_out = leaf None;
   primitive_of = λ x. tree_reader.primitive_of (slot_tree (trees a.nodes) x);
@@ -107,6 +111,8 @@ abbrev pub next_node : {X : Reader} → Arena → New_node X → Part
 next_node a (func_node b ps) = p.Func (record { index = length a.nodes })
 next_node a (defined_node k ps) = p.Defined (record { index = length a.nodes })
 next_node a (module_node m) = p.Module (record { index = length a.nodes })
+next_node a (core_instance_node x) = p.CoreInstance (record { index = length a.nodes })
+next_node a (core_exports_node n es) = p.CoreInstance (record { index = length a.nodes })
 next_node a (instance_node own es) = p.Instance (record { index = length a.nodes })
 next_node a (component_node ins outs es es') = p.Component (record { index = length a.nodes })
 

@@ -1,9 +1,9 @@
 -- Entries that are trees over names: those of the statements.
-use Rattle.std.specs.Prelude.{ℕ, List, [], ◌∷◌, ◌++◌, Bool, true, false, not, ◌&&◌, ◌||◌, cond, Option, Some, None, option_to_list}
+use Rattle.std.specs.Prelude.{ℕ, suc, List, [], ◌∷◌, ◌++◌, Bool, true, false, not, ◌&&◌, ◌||◌, cond, Option, Some, None, option_to_list}
 use Rattle.wcv_core.specs.CoreWritten.{Core_entry, sub_entry, module_entry}
 use Rattle.wcv_core.specs.Names.{Name, Place, member}
 use Rattle.wcv_core.specs.declared.primitive.PrimitiveValType.{PrimitiveValType}
-use Rattle.wcv_syntax.specs.ModuleTypes.{Module_type}
+use Rattle.wcv_syntax.specs.ModuleTypes.{Module_type, Core_export}
 -- imports or exports, by their whole names
 pub use Rattle.wcv_names.specs.Rules.{Entries}
 use Rattle.wcv_types.specs.Abi.{abi_size, contains}
@@ -13,15 +13,16 @@ use Rattle.wcv_types.specs.Measure.{size, depth}
 use Rattle.wcv_types.specs.Named.{is_in, is_named, passes}
 use Rattle.wcv_types.specs.Resources.{owned_by, is_free}
 use Rattle.wcv_types.specs.Tree as tree
-use Rattle.wcv_types.specs.Tree.{Role, Head, nothing, primitive, resource, defined, func, instance, core_type, type_entity, node, Parts, none, part, Sort, is_type, sort, head, exports, type_of, instance_type, component_type, module_type, sub_type, primitive_type}
+use Rattle.wcv_types.specs.Tree.{Role, Head, nothing, primitive, resource, defined, func, instance, core_type, core_item, type_entity, here, node, Parts, none, part, Sort, is_type, sort, head, parts, exports, type_of, instance_type, component_type, module_type, core_exports, sub_type, primitive_type}
 pub use Rattle.wcv_types.specs.Unfold.{Type_tree}
 use Rattle.wcv_types.specs.Unfold.{capped}
+use Rattle.wcv_matching.specs.ModuleItems.{item_at, core_imports_in, instance_exports}
 use Rattle.wcv_lower.specs.Context.{Context, Stack, Side, importing, exporting, names_for, with_named}
 use Rattle.wcv_lower.specs.EntryNames.{name_checks}
 use Rattle.wcv_lower.specs.Names.{Names, introduced}
 pub use Rattle.wcv_lower.specs.NewTypes.{type_entry}
 use Rattle.wcv_lower.specs.NewTypes.{renewed, new_reference, instance_tree, instance_resources}
-use Rattle.wcv_lower.specs.Readers.{Reader, New_node, func_node, defined_node, module_node, instance_node, component_node, Maker}
+use Rattle.wcv_lower.specs.Readers.{Reader, New_node, func_node, defined_node, module_node, core_instance_node, core_exports_node, instance_node, component_node, Maker}
 
 -- ## Of a type entity
 
@@ -138,6 +139,10 @@ tree_reader = record {
   first_path = first_path;
   core_entry = core_entry;
   core_type = λ i. sub_type i;
+  core_imports = λ t. core_imports_in (parts t);
+  core_exports = instance_exports;
+  item = λ t. item_at (head t);
+  core_item = λ e. node (core_item e) none;
   primitive = λ p. primitive_type p;
   left_out = node nothing none;
   primitive_of = primitive_of;
@@ -161,11 +166,20 @@ tree_parts (p ∷ ps) = part p.0 p.1 (tree_parts ps)
 abbrev pub module_tree : Name → Module_type → Type_tree
 module_tree i m = module_type i (capped m.size) m.imports m.exports
 
+-- the type of a core instance, under an identity. One of a module counts it whole
+abbrev pub of_module : Name → Type_tree → Type_tree
+of_module i t = node (tree.core_instance i (capped (suc (size t)))) (part here t none)
+
+abbrev pub of_items : Name → ℕ → List Core_export → Type_tree
+of_items i n es = node (tree.core_instance i (capped n)) (core_exports es none)
+
 -- a node under an identity
 abbrev pub node_tree : Name → New_node tree_reader → Type_tree
 node_tree i (func_node b ps) = node (func i b) (tree_parts ps)
 node_tree i (defined_node k ps) = node (defined i k) (tree_parts ps)
 node_tree i (module_node m) = module_tree i m
+node_tree i (core_instance_node t) = of_module i t
+node_tree i (core_exports_node n es) = of_items i n es
 node_tree i (instance_node own es) = instance_type i own es
 node_tree i (component_node ins outs es es') = component_type i ins outs es es'
 

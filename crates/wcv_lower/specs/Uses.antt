@@ -2,11 +2,12 @@
 use Rattle.std.specs.Prelude.{List, Bool, true, false, Option, Some, None}
 use Rattle.std.specs.Option.{option_map}
 use Rattle.wcv_core.specs.declared.features.WasmFeatures.{WasmFeatures}
-use Rattle.wcv_syntax.specs.Model.{Form, core_type_item, core_module_item, type_item, import_item, export_item, Core_type_form, Module_decl, Type_form, resource_type}
+use Rattle.wcv_syntax.specs.Model.{Form, core_type_item, core_module_item, core_instance_item, type_item, import_item, export_item, Core_type_form, Core_instance_form, Module_decl, Type_form, resource_type}
 use Rattle.wcv_syntax.specs.ModuleTypes.{Made}
 use Rattle.wcv_syntax.specs.declared.component_type.ComponentTypeRef.{ComponentTypeRef}
 use Rattle.wcv_syntax.specs.declared.name.ComponentExport.{ComponentExport}
 use Rattle.wcv_lower.specs.Context.{Context, Stack}
+use Rattle.wcv_lower.specs.CoreInstances.{core_instance_made}
 use Rattle.wcv_lower.specs.CoreItems.{core_type_made, core_module_made}
 use Rattle.wcv_lower.specs.Entries.{made_from, instance_from, makes_new, exported_from}
 use Rattle.wcv_lower.specs.Readers.{Reader, New_node, module_node}
@@ -61,6 +62,9 @@ core_type_uses fs s t = uses_node (made_node (core_type_made fs s t))
 abbrev pub core_module_uses : {X : Reader} → WasmFeatures → Stack X → List Module_decl → Uses X
 core_module_uses fs s ds = uses_node (made_node (core_module_made fs s ds))
 
+abbrev pub core_instance_uses : {X : Reader} → Stack X → Core_instance_form → Uses X
+core_instance_uses s i = uses_node (core_instance_made s i)
+
 -- one line for each family of forms
 abbrev pub uses : {X : Reader} → WasmFeatures → Stack X → Form → Uses X
 uses fs s (type_item t) = type_uses s.top t
@@ -68,4 +72,5 @@ uses fs s (import_item i) = ref_uses s.top i.ty
 uses fs s (export_item e) = export_uses s.top e
 uses fs s (core_type_item t) = core_type_uses fs s t
 uses fs s (core_module_item ds) = core_module_uses fs s ds
+uses fs s (core_instance_item i) = core_instance_uses s i
 uses {X} fs s _ = uses_nothing X

@@ -1,10 +1,15 @@
 // Laws of the rules, over the definitions alone.
 ghost use Rattle.std.specs.Option.{option_map};
-ghost use Rattle.std.specs.Prelude.{◌≡◌, ℕ, [], ◌∷◌, ◌++◌, Bool, Some, true};
+ghost use Rattle.std.specs.Bool.{Decides};
+ghost use Rattle.std.specs.Prelude.{◌≡◌, ℕ, List, All, [], ◌∷◌, ◌++◌, Bool, Some, true};
+ghost use Rattle.wcv_core.specs.CoreForm.{Group};
+ghost use Rattle.wcv_core.specs.CoreGroups.{total};
+ghost use Rattle.wcv_core.specs.CoreSizes.{IsEntityWithin};
 ghost use Rattle.wcv_core.specs.Names.{Name, Place, at, deeper, member};
 ghost use Rattle.wcv_core.specs.declared.features.WasmFeatures.{WasmFeatures};
 ghost use Rattle.wcv_syntax.specs.Built.{is_built_type};
 ghost use Rattle.wcv_syntax.specs.Model.{Text, Form, Type_form, instance_type, Decls};
+ghost use Rattle.wcv_syntax.specs.ModuleTypes.{Core_import, Core_export, Module_type};
 ghost use Rattle.wcv_syntax.specs.declared.name.ComponentExternName.{ComponentExternName};
 ghost use Rattle.wcv_syntax.specs.declared.instance.ComponentAlias.{ComponentAlias};
 ghost use Rattle.wcv_types.specs.Arena.{Arena};
@@ -12,20 +17,26 @@ ghost use Rattle.wcv_types.specs.Entities.{SlotStands};
 ghost use Rattle.wcv_types.specs.Standing.{AllFit};
 ghost use Rattle.wcv_types.specs.Tree.{owned};
 ghost use Rattle.wcv_types.specs.Unfold.{Type_tree};
-ghost use Rattle.wcv_lower.specs.Aliases.{alias_step, alias_checks, is_read};
+ghost use Rattle.wcv_closed.specs.ClosedTable.{IsTable};
+ghost use Rattle.wcv_closed.specs.CoreModules.{AllServed, EachArgument};
+ghost use Rattle.wcv_matching.specs.ModuleItems.{ItemsMatch};
+ghost use Rattle.wcv_lower.specs.Aliases.{alias_step, alias_checks};
 ghost use Rattle.wcv_lower.specs.Checks.{IsFree};
 ghost use Rattle.wcv_lower.specs.Context.{Stack, in_types, importing};
+ghost use Rattle.wcv_lower.specs.CoreInstances.{all_served};
 ghost use Rattle.wcv_lower.specs.Declared.{Makers, read_type, declared_checks};
 ghost use Rattle.wcv_lower.specs.DeclaredMaps.{TypeAlike};
 ghost use Rattle.wcv_lower.specs.Entries.{extern_name};
 ghost use Rattle.wcv_lower.specs.Growth.{grow, checks};
-ghost use Rattle.wcv_lower.specs.Mapped.{IsKnown, map_stack, map_step};
+ghost use Rattle.wcv_lower.specs.Mapped.{IsKnown, MakesSame, map_stack, map_step};
 ghost use Rattle.wcv_lower.specs.Names.{Names, names_by_place, Under, AreRenamed};
 ghost use Rattle.wcv_lower.specs.Owned.{Everywhere, IsOnce, OwnsOnce, IsMadeAt};
+ghost use Rattle.wcv_lower.specs.Readers.{Maker, core_instance_node, core_exports_node, module_node};
 ghost use Rattle.wcv_lower.specs.Renamed.{Renaming, renaming};
 ghost use Rattle.wcv_lower.specs.Slots.{slot_reader, to_trees};
 ghost use Rattle.wcv_lower.specs.Step.{Step};
-ghost use Rattle.wcv_lower.specs.Trees.{Tree_stack, tree_reader, tree_maker, type_entry};
+ghost use Rattle.wcv_lower.specs.Trees.{Tree_stack, tree_reader, tree_maker, node_tree, type_entry};
+ghost use Rattle.wcv_lower.specs.Uses.{uses};
 ghost use Rattle.wcv_lower.specs.Worked.{imported_twice, own, made_type, made_instance};
 
 /// With renamed names, a renamed stack grows to the renamed one, and an item has the same causes. Where it
@@ -39,15 +50,39 @@ pub fn renaming_keeps_growth_and_causes()
 {}
 
 /// An alias over ids of an arena does what it does over the trees that they stand for, and has the same causes.
-/// Where it has none, it does something. No item is read as an alias yet.
+/// Where it has none, it does something. Items are read as aliases of what core instances export, and as no others yet.
 pub fn aliases_of_ids_are_those_of_trees()
     ensures step { (a : Arena) (s : Stack (slot_reader a)) (x : ComponentAlias) → AllFit a → IsKnown (SlotStands a) s.top → alias_step (map_stack (to_trees a) s) x ≡ option_map (map_step (to_trees a)) (alias_step s x) }
-    ensures causes { (a : Arena) (s : Stack (slot_reader a)) (x : ComponentAlias) → AllFit a → IsKnown (SlotStands a) s.top → alias_checks (map_stack (to_trees a) s) x ≡ alias_checks s x }
-    ensures free { (s : Tree_stack) (x : ComponentAlias) → is_read x ≡ true → IsFree (alias_checks s x) → (p : Step tree_reader) × (alias_step s x ≡ Some p) }
+    ensures causes { (a : Arena) (fs : WasmFeatures) (s : Stack (slot_reader a)) (x : ComponentAlias) → AllFit a → IsKnown (SlotStands a) s.top → alias_checks fs (map_stack (to_trees a) s) x ≡ alias_checks fs s x }
+    ensures free { (fs : WasmFeatures) (s : Tree_stack) (x : ComponentAlias) → IsFree (alias_checks fs s x) → (p : Step tree_reader) × (alias_step s x ≡ Some p) }
+{}
+
+/// An item over ids of an arena does what it does over the trees that they stand for, and has the same causes,
+/// where the makers make the same of what it uses.
+pub fn items_of_ids_are_those_of_trees()
+    ensures growth { (a : Arena) (fs : WasmFeatures) (k : Maker (slot_reader a)) (l : Maker tree_reader) (s : Stack (slot_reader a)) (f : Form) → AllFit a → IsKnown (SlotStands a) s.top → MakesSame (to_trees a) (SlotStands a) k l (uses fs s f) →
+        grow fs l (map_stack (to_trees a) s) f ≡ option_map (map_stack (to_trees a)) (grow fs k s f) }
+    ensures causes { (a : Arena) (fs : WasmFeatures) (k : Maker (slot_reader a)) (l : Maker tree_reader) (s : Stack (slot_reader a)) (f : Form) → AllFit a → IsKnown (SlotStands a) s.top → MakesSame (to_trees a) (SlotStands a) k l (uses fs s f) →
+        checks fs l (map_stack (to_trees a) s) f ≡ checks fs k s f }
+{}
+
+/// A core instance that is made of a core module exports what the module does, and one that lists items exports
+/// these. A core module imports what its declarations do.
+pub fn a_core_instance_exports_what_it_is_made_of()
+    ensures made { (i j : Name) (m : Module_type) → tree_reader.core_exports (node_tree i (core_instance_node (node_tree j (module_node m)))) ≡ m.exports }
+    ensures listed { (i : Name) (n : ℕ) (es : List Core_export) → tree_reader.core_exports (node_tree i (core_exports_node n es)) ≡ es }
+    ensures imports { (i : Name) (m : Module_type) → tree_reader.core_imports (node_tree i (module_node m)) ≡ m.imports }
+{}
+
+/// The test of arguments answers whether core instances serve what a core module imports, where their core types
+/// are of the table.
+pub fn arguments_are_tested_rightly()
+    ensures { (gs : List Group) (args : List (Text × List Core_export)) (is : List Core_import) → IsTable gs → EachArgument (IsEntityWithin (total gs)) args → All (λ i. IsEntityWithin (total gs) i.1) is →
+        Decides (all_served gs args is) (AllServed (ItemsMatch gs) args is) }
 {}
 
 /// With renamed names, a declared type in a renamed stack is read to the renamed one, and has the same causes.
-/// Where it has none, it is read. No item is read as one yet.
+/// Where it has none, it is read.
 pub fn renaming_keeps_declared_types()
     ensures growth { (w : Renaming) (n m : Names) (p : Place) → AreRenamed (Under p) w.resources.to w.identities.to n m → (fs : WasmFeatures) (s : Tree_stack) (t : Type_form) →
         read_type fs (tree_maker m) p (map_stack (renaming w) s) t ≡ option_map (map_stack (renaming w)) (read_type fs (tree_maker n) p s t) }

@@ -1,5 +1,5 @@
--- A stack stays calm where something is aliased: what joins stands in an entry of the stack.
-use Rattle.std.proofs.Common.{◌≡◌, ℕ, zero, suc, List, [], ◌∷◌, ◌++◌, refl, subst, Bool, true, false, cond, ◌&&◌, ◌⊎◌, inl, inr, arith, Some, None}
+-- What aliases bring: entries that have what those of the open contexts have.
+use Rattle.std.proofs.Common.{◌≡◌, ℕ, zero, suc, List, [], ◌∷◌, ◌++◌, refl, Bool, true, false, cond, ◌&&◌, Some, None}
 use Rattle.std.specs.Prelude.{Option, All, slice_get, bytes_eq}
 use Rattle.std.specs.Option.{option_and_then}
 use Rattle.std.proofs.lemmas.List.Elements.{All-nil, All-cons, All-head, All-tail, All-append}
@@ -11,22 +11,15 @@ use Rattle.wcv_syntax.specs.declared.instance.ComponentOuterAliasKind.{Component
 use Rattle.wcv_syntax.specs.declared.instance.ComponentOuterAliasKind.TheVariants as outer
 use Rattle.wcv_types.specs.Tree.{Text, Extern_name, here, label, import, export, core_import, core_export, node, Parts, none, part, sort, exports_in}
 use Rattle.wcv_types.specs.Unfold.{Type_tree}
-use Rattle.wcv_types.proofs.Lists.{some-inj}
 use Rattle.wcv_lower.specs.Aliases.{sort_named, instance_at, export_of, joining, export_alias_step, outer_items, outer_at, outer_joins, is_charged, concrete_at, charged, outer_alias_step, alias_step}
 use Rattle.wcv_lower.specs.Checks.{same_sort}
 use Rattle.wcv_lower.specs.Context.{in_types, in_instances, in_components, core_types, core_modules, at_distance}
-use Rattle.wcv_lower.specs.Declared.{applied}
-use Rattle.wcv_lower.specs.Given.{Numbers}
-use Rattle.wcv_lower.specs.Owned.{OwnsNot, OwnsNotIn, OwnApart, OwnApartIn, AllEntries, Everywhere, own_resources, IsOwn, IsGiven, IsCalm}
+use Rattle.wcv_lower.specs.Owned.{AllEntries, Everywhere}
 use Rattle.wcv_lower.specs.Readers.{if_sort, first_named}
-use Rattle.wcv_lower.specs.Step.{Step, appends, core_appends, charges, apply}
+use Rattle.wcv_lower.specs.Step.{appends, core_appends, charges}
 use Rattle.wcv_lower.specs.Trees.{tree_reader, Tree_context, Tree_stack}
-use Rattle.wcv_lower.proofs.Applied.{applied_own}
-use Rattle.wcv_lower.proofs.Bringing.{OfAny, of_some, any_at, any_cond, any_mapped, any_then, Brings, AllBring, brings_one, joins_bring}
-use Rattle.wcv_lower.proofs.Calm.{IsLate, own_given, IsGentle, gentle, calm_applied}
-use Rattle.wcv_lower.proofs.CalmGrowth.{map-some}
-use Rattle.wcv_lower.proofs.Members.{all_from_members}
-use Rattle.wcv_lower.proofs.Owning.{Inherited, owns_not_inherited, own_apart_inherited}
+use Rattle.wcv_lower.proofs.Bringing.{OfAny, any_at, any_cond, any_mapped, any_then, Brings, AllBring, brings_one, joins_bring, core_aliases_bring}
+use Rattle.wcv_lower.proofs.Owning.{Inherited}
 
 module _ {P : Type_tree → Type 0} {In : Parts Name Name → Type 0} (law : Inherited P In) (New : Name → Type 0) where
   -- ## An instance's export
@@ -98,27 +91,5 @@ module _ {P : Type_tree → Type 0} {In : Parts Name Name → Type 0} (law : Inh
 
     pub aliases_bring : (x : ComponentAlias) → OfAny (AllBring P New) (alias_step s x)
     aliases_bring (alias.InstanceExport w i n) = export_brings w i n
-    aliases_bring (alias.CoreInstanceExport w i n) = tt
+    aliases_bring (alias.CoreInstanceExport w i n) = core_aliases_bring law New s.top w i n
     aliases_bring (alias.Outer w n i) = outer_brings w n i
-
-pub calm_alias : (a : Numbers) (s t : Tree_stack) (x : ComponentAlias) → IsCalm a s → applied s (alias_step s x) ≡ Some t → IsCalm a t
-calm_alias a s t x h e = subst (IsCalm a) (some-inj w.2) (calm_applied a a s w.0 (record { resources = omega arith; nodes = omega arith; stamps = omega arith }) h is_gentle (all_from_members (IsGiven a) (own_resources (apply w.0 s).top) own))
-  where
-    w : (p : Step tree_reader) × (alias_step s x ≡ Some p) × (Some (apply p s) ≡ Some t)
-    w = map-some (λ p. apply p s) (alias_step s x) t e
-
-    brought : (P : Type_tree → Type 0) (In : Parts Name Name → Type 0) (law : Inherited P In) (New : Name → Type 0) → Everywhere P s → AllBring P New w.0
-    brought P In law New all = of_some (AllBring P New) (alias_step s x) w.0 (aliases_bring law New s all x) w.1
-
-    is_gentle : IsGentle a s w.0
-    is_gentle = gentle a s w.0 h (λ all. brought OwnApart OwnApartIn own_apart_inherited (IsLate a) all) (λ r all. brought (OwnsNot r) (OwnsNotIn r) (owns_not_inherited r) (IsLate a) all)
-
-    -- it brings no resource
-    own : (r : Name) → IsOwn (apply w.0 s).top r → IsGiven a r
-    own r o =
-        let v = applied_own OwnApart (λ q. ⊥) w.0 s (brought OwnApart OwnApartIn own_apart_inherited (λ q. ⊥) h.apart) zero (apply w.0 s).top refl in
-        go v.0 v.1 (v.2 r o)
-      where
-        go : (c : Tree_context) → at_distance zero s ≡ Some c → IsOwn c r ⊎ ((zero ≡ zero) × ⊥) → IsGiven a r
-        go c q (inl m) = own_given a s h zero c r q m
-        go c q (inr m) = absurd m.1
