@@ -32,6 +32,7 @@ use Rattle.wcv_state.specs.Contents.{Contents, ids, core_ids, unmarked, marks_as
 use Rattle.wcv_state.specs.Looking.{is_built_entity}
 use Rattle.wcv_state.specs.Promises.{MemoryOrCausedBy, numbers_of, is_instance_entity, if_built, ref_checks, Grew, WrittenEntity, Exported, Entered, EntryCaused, ExportDeclared, ExportCaused}
 use Rattle.wcv_state.proofs.Brought.{as_it_is_at}
+use Rattle.wcv_state.proofs.MadeAlone.{stays_at}
 use Rattle.wcv_state.proofs.Calls.{built_free, caused_more}
 use Rattle.wcv_state.proofs.Keeping.{same_context}
 use Rattle.wcv_state.proofs.Opened.{both_none}
@@ -69,7 +70,7 @@ export_by_both a b outer p s t s' e x h g w same v =
     let tree : Type_tree = entity_tree (trees b.nodes) x in
     let mk : Maker tree_reader = tree_maker (names_of v.names) p in
     let looked = free_built (is_built_item e) (exported_checks c e) w.free in
-    let plain : brought_at mk tree ≡ brought_by tree_reader tree = as_it_is_at b mk x w.stands w.plain in
+    let plain : brought_at mk tree ≡ brought_by tree_reader tree = stays_at b (names_of v.names) p x w.stands w.alone in
     let of_entity : Checks = entity_checks s.features exporting (extern_name e.name) c tree in
     let room : Checks = full_side true exporting (counts c) in
     let met = free_built (is_built_entity x) (join_checks true t.features exporting (extern_name e.name) (context_of b t) (brought_at mk tree).entity) v.free in

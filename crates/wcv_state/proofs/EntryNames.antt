@@ -2,6 +2,7 @@
 use Rattle.wcv_core.specs.Limits.{max_entries}
 use Rattle.std.proofs.Common.{◌≡◌, ◌≤◌, ℕ, List, [], ◌∷◌, ◌++◌, map, length, Bool, true, false, ◌&&◌, ◌||◌, cond, eqb, Option, Some, None, refl, sym, ap, ◌∙◌, subst, arith, append_assoc, append-nil, ⊎_elim}
 use Rattle.std.specs.Prelude.{All, bytes_eq}
+use Rattle.std.specs.List.{list_any}
 use Rattle.std.specs.Map.{lookup}
 use Rattle.std.proofs.lemmas.Bool.{ne_eqb, false≢true}
 use Rattle.std.proofs.lemmas.List.{map-append}
@@ -39,6 +40,7 @@ use Rattle.wcv_state.specs.Entering.{Admitted, entry_checks, room_counts}
 use Rattle.wcv_state.specs.Promises.{MemoryOrCausedBy}
 use Rattle.wcv_state.proofs.Calls.{caused_more}
 use Rattle.wcv_state.proofs.Keys.{keys_joined}
+use Rattle.wcv_state.proofs.NamesApart.{may_join, joined_apart}
 use Rattle.wcv_lower.specs.EntryNames.{references_by, reference_in, named_references, resource_names, name_checks}
 use Rattle.wcv_state.specs.Contents.{Listed, SpaceLists}
 use Rattle.wcv_state.specs.Inside.{AreKeys, NamesAgree}
@@ -206,14 +208,21 @@ module _ (a : Arena) (limited : Bool) (fs : WasmFeatures) (s : SpaceLists) (side
       (λ q. cause_right full_list (name_checks fs Es n t ++ (room_alone ++ size_alone)) (error_kind e)
       (cause_right (name_checks fs Es n t) (room_alone ++ size_alone) (error_kind e) (cause_left room_alone size_alone (error_kind e) q))) h
 
+  -- a name that may join is new
+  pub entry_new : IsFree (entry_checks limited fs (trees a.nodes) s side.items info n t) → list_any (bytes_eq n.name) (names_in side.items) ≡ false
+  entry_new h =
+      may_join (trees a.nodes) side.items (resource_names Es) fs n t
+      (free_left (name_checks fs Es n t) (room_alone ++ size_alone) (free_right full_list (name_checks fs Es n t ++ (room_alone ++ size_alone)) h))
+
 -- the names of a list with one more entry
 pub admitted_agree : (side mid side' : Entries) (i i' : TypeInfo) (n : ComponentExternName) (x : ComponentEntityType) (t : Type_tree) → NamesAgree side → Admitted side mid i i' n x t → mid.items ≡ side.items → side'.items ≡ mid.items ++ entry_of n x ∷ [] → side'.names ≡ mid.names →
-    side'.resources ≡ mid.resources → NamesAgree side'
-admitted_agree side mid side' i i' n x t h a m w ks rs =
+    side'.resources ≡ mid.resources → list_any (bytes_eq n.name) (names_in side.items) ≡ false → NamesAgree side'
+admitted_agree side mid side' i i' n x t h a m w ks rs new =
     let e : side'.items ≡ side.items ++ entry_of n x ∷ [] = w ∙ ap (λ (es : Listed). es ++ entry_of n x ∷ []) m in
     record {
       keys = keys_of_joined side'.names side.items side'.items (entry_of n x) e (subst (λ (s : List Text). HasKeys s (names_in side.items ++ n.name ∷ [])) (sym ks) a.keys);
       references = joined_references side.resources.references side'.resources.references side.items side'.items n x h.references (ap (λ (c : Named_ids). c.references) rs ∙ a.references) e;
       names = joined_names side.resources.names side'.resources.names side.items side'.items n x h.names
           (subst (λ (s : List Text). (ks : List Text) → AreKeys side.resources.names ks → AreKeys s (ks ++ map (λ q. n.name) (created_reference x))) (sym (ap (λ (c : Named_ids). c.names) rs)) a.names) e;
+      apart = joined_apart side.items side'.items (entry_of n x) e h.apart new;
     }

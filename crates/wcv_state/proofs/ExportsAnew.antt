@@ -1,5 +1,6 @@
 -- Exports with what a map makes of each.
 use Rattle.std.proofs.Common.{◌≡◌, ℕ, suc, ◌+◌, ◌≤◌, [], ◌∷◌, ◌++◌, length, take, refl, sym, ◌∙◌, ap, subst, arith, Some, All, take_all}
+use Rattle.std.specs.Map.{keys_of}
 use Rattle.std.specs.Prelude.{Contains, slice_get}
 use Rattle.std.proofs.Math.Nat.{max-le}
 use Rattle.std.proofs.lemmas.List.Elements.{All-contains, All-take, All-nil, All-cons, Contains-append_left, Contains-push}
@@ -125,6 +126,14 @@ all_stand a b map [] [] e = All-nil (EntryStands b)
 all_stand a b map (x ∷ xs) (y ∷ ys) e = All-cons (EntryStands b) y ys e.0.stands (all_stand a b map xs ys e.1)
 all_stand a b map [] (y ∷ ys) e = absurd e
 all_stand a b map (x ∷ xs) [] e = absurd e
+
+pub same_names : (a b : Arena) (map : Map) (xs ys : Items) → Each (EntryBecomes a b map) xs ys → keys_of ys ≡ keys_of xs
+same_names a b map [] [] e = refl
+same_names a b map (x ∷ xs) (y ∷ ys) e =
+    let name : y.0 ≡ x.0 = ap (λ (k : Extern_name). k.name) e.0.named in
+    λ j. name j ∷ same_names a b map xs ys e.1 j
+same_names a b map [] (y ∷ ys) e = absurd e
+same_names a b map (x ∷ xs) [] e = absurd e
 
 -- the exports of the new node are the old ones replaced
 pub exports_are : (a b : Arena) (map : Map) (m : Replacement) (xs ys : Items) → Serves b map m → Each (EntryBecomes a b map) xs ys → replaced_in m (entries export (entry_trees (trees a.nodes) xs) none) ≡ entries export (entry_trees (trees b.nodes) ys) none

@@ -127,9 +127,6 @@ both_pass false c h k = h
 
 -- ## Sets that grow
 
-pub sets_same : (a : Arena) (n : NamedTypes) → ((d : Side) → AllStand a (set_of n d)) → SetsGrew a n n
-sets_same a n h = record { more = λ d. no_more (set_of n d); stand = h }
-
 pub sets_trans : (a : Arena) (n m k : NamedTypes) → SetsGrew a n m → SetsGrew a m k → SetsGrew a n k
 sets_trans a n m k v w = record { more = λ d. prefix_trans (set_of n d) (set_of m d) (set_of k d) (v.more d) (w.more d); stand = w.stand }
 
@@ -158,9 +155,6 @@ pub record PassedTo (a : Arena) (s : Side) (n m : NamedTypes) (passed : List Com
   pub named : (d : Side) → with_named same_identity (names_for s d) (known n d) (all_created (parts_from a es)) ≡ with_named same_identity (names_for s d) (known m d) (all_created (parts_from a (drop k es)))
   pub settled : AllSettled a s m passed
   pub grew : SetsGrew a n m
-
-pub passed_none : (a : Arena) (s : Side) (n : NamedTypes) (passed : List ComponentAnyTypeId) (es : List (Text × ComponentItem)) → AllSettled a s n passed → ((d : Side) → AllStand a (set_of n d)) → PassedTo a s n n passed es 0
-passed_none a s n passed es h sets = record { rest = refl; named = λ d. refl; settled = h; grew = sets_same a n sets }
 
 module _ (a : Arena) (s : Side) (n m : NamedTypes) (passed : List ComponentAnyTypeId) (es : List (Text × ComponentItem)) (k : ℕ) (e : Text × ComponentItem) (within : k < length es) (is : e ≡ get_or es k e) (so : PassedTo a s n m passed es k) where
   abbrev tree : Type_tree
@@ -191,14 +185,6 @@ module _ (a : Arena) (s : Side) (n m : NamedTypes) (passed : List ComponentAnyTy
         settled = settled;
         grew = sets_trans a n m m' so.grew grew;
       })
-
--- all passed
-pub all_passed : (a : Arena) (s : Side) (n m : NamedTypes) (passed : List ComponentAnyTypeId) (es : List (Text × ComponentItem)) (k : ℕ) → drop k es ≡ [] → PassedTo a s n m passed es k →
-    (exports_pass (known n) s (parts_from a es) ≡ true) × Names s n m (all_created (parts_from a es))
-all_passed a s n m passed es k e so = (
-  so.rest ∙ ap (λ (ds : List (Text × ComponentItem)). exports_pass (known m) s (parts_from a ds)) e,
-  λ d. sym (so.named d ∙ ap (λ (ds : List (Text × ComponentItem)). with_named same_identity (names_for s d) (known m d) (all_created (parts_from a ds))) e),
-)
 
 -- ## What is settled
 
@@ -259,14 +245,6 @@ entity_none a s n x h m = names_none s n (entity_tree (trees a.nodes) x) (λ e. 
 
 -- ## The whole entry
 
--- it is free of that cause where it passes
-pub named_free : (k : Kind) (t : Type_tree) (named : Named_sets) (s : Side) → entry_passes named s t ≡ true → IsFree (unnamed tree_reader k named s t)
-named_free k t named s e = (ap (λ (b : Bool). asks_names k && not b) e ∙ and-false (asks_names k), tt)
-
--- or where no names are asked
-pub unasked_free : (k : Kind) (t : Type_tree) (named : Named_sets) (s : Side) → asks_names k ≡ false → IsFree (unnamed tree_reader k named s t)
-unasked_free k t named s e = (ap (λ (b : Bool). b && not (entry_passes named s t)) e, tt)
-
--- and refused, where names are asked and it does not
+-- it is refused where names are asked and it does not pass
 pub not_named : {M : Type 0} (k : Kind) (t : Type_tree) (named : Named_sets) (s : Side) (offset : ℕ) (e : Error M) → asks_names k ≡ true → entry_passes named s t ≡ false → error_kind e ≡ error.Unnamed → error_offset e ≡ offset → MemoryOrCausedBy (unnamed tree_reader k named s t) offset e
 not_named k t named s offset e q n kind at = inr (inl (kind, (λ j. q j && not (n j))), at)

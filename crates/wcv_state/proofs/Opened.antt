@@ -30,12 +30,13 @@ use Rattle.wcv_lower.specs.Trees.{tree_reader, tree_maker}
 use Rattle.wcv_state.specs.Bringing.{LeadsWithin, EntityOpened, Found}
 use Rattle.wcv_state.specs.Instances.{InstanceMade}
 use Rattle.wcv_state.specs.Looking.{is_built_entity, introduced_id, introduced_in, created_reference}
-use Rattle.wcv_state.specs.Promises.{numbers_of, is_instance_entity}
+use Rattle.wcv_state.specs.Promises.{numbers_of, is_instance_entity, EntityAlone}
 use Rattle.wcv_state.specs.declared.bringing.NewEntity.{NewEntity}
 use Rattle.wcv_state.specs.declared.instances.NewInstance.{NewInstance}
 use Rattle.wcv_state.proofs.BroughtPaths.{introduced_type, introduced_stands}
 use Rattle.wcv_state.proofs.Brought.{as_it_is_at, instance_at, as_new, brought_same}
 use Rattle.wcv_state.proofs.Found.{Brings, Looked}
+use Rattle.wcv_state.proofs.MadeAlone.{stays_at}
 
 -- ## As it is
 
@@ -49,7 +50,7 @@ module _ (a : Arena) (x : ComponentEntityType) (b : is_built_entity x ≡ true) 
     All-cons (λ (r : ResourceId × List ℕ). (introduced_id x ≡ Some r.0) ⊎ (a.resources ≤ r.0.index)) (r, []) [] (inl e) (All-nil _),
   )
 
-  new_opened : is_instance_entity x ≡ false → EntityOpened a a x (as_new x)
+  new_opened : EntityAlone a x → EntityOpened a a x (as_new x)
   new_opened e =
       let w = introduced_here (introduced_id x) refl in
       record {
@@ -57,15 +58,15 @@ module _ (a : Arena) (x : ComponentEntityType) (b : is_built_entity x ≡ true) 
         core = refl;
         given_names = λ p. none_given;
         given = λ p. record { resources = tt; identities = tt };
-        brought = λ p. as_it_is_at a (tree_maker (names_of none_given) p) x h e ∙ brought_same a x h;
+        brought = λ p. stays_at a (names_of none_given) p x h e ∙ brought_same a x h;
         bare = λ k. (refl, λ p. refl);
-        may_join = record { built = b; stands = h; resources = w.0; lead = w.1 };
+        may_join = record { built = b; stands = h; resources = w.0; lead = w.1; alone = e };
         fresh = w.2;
         created = refl;
       }
 
-  -- what is no instance type joins as it is
-  pub bare_opened : (n : NewEntity) → is_instance_entity x ≡ false → n.ty ≡ x → n.resources ≡ introduced_in (introduced_id x) → EntityOpened a a x n
+  -- what owns nothing joins as it is
+  pub bare_opened : (n : NewEntity) → EntityAlone a x → n.ty ≡ x → n.resources ≡ introduced_in (introduced_id x) → EntityOpened a a x n
   bare_opened n e t r =
       let is : n ≡ as_new x = λ j. record { ty = t j; resources = r j } in
       subst (EntityOpened a a x) (sym is) (new_opened e)
@@ -116,6 +117,7 @@ module _ (a b : Arena) (i : ComponentInstanceTypeId) (m : NewInstance) (g : Exte
       stands = w.stands;
       resources = w.below;
       lead = All-weaker (λ (r : ResourceId × List ℕ). PathLeadsTo r.1 (number r.0.index) (exports made)) (λ (r : ResourceId × List ℕ). LeadsWithin r.1 (number r.0.index) made) (λ r k. within r.1 (number r.0.index) k) m.resources w.lead;
+      alone = λ e. w.alone;
     };
     fresh = All-weaker (λ (r : ResourceId × List ℕ). a.resources ≤ r.0.index) (λ (r : ResourceId × List ℕ). (introduced_id (entity.Instance i) ≡ Some r.0) ⊎ (a.resources ≤ r.0.index)) (λ r k. inr k) m.resources w.fresh;
     created = refl;

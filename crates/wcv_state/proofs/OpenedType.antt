@@ -12,6 +12,7 @@ use Rattle.wcv_types.proofs.Grown.{extends_push, length-trees}
 use Rattle.wcv_types.proofs.Knowing.{refs_stand}
 use Rattle.wcv_types.proofs.Unfolding.{all_left, all_right, head_in}
 use Rattle.wcv_types.specs.Arena.{Arena}
+use Rattle.wcv_types.specs.ByName.{NamesDiffer}
 use Rattle.wcv_types.specs.Entities.{entity_slot, entity_tree, entry_name, entry_trees, EntryStands}
 use Rattle.wcv_types.specs.ExplicitPaths.{explicit_paths}
 use Rattle.wcv_types.specs.FirstPath.{first_path}
@@ -70,8 +71,8 @@ pub read_stand : (a : Arena) (i : ComponentInstanceTypeId) (s : ComponentInstanc
 read_stand a i s g u = entries_stand a (suc i.index) s.exports (subst (λ (ss : Slots). All (StandsBefore a (suc i.index)) (parts_in ss)) (ap slots_if g) u.before)
 
 pub opened_is : (a : Arena) (i : ComponentInstanceTypeId) (s : ComponentInstanceType) (o : Opened) → slice_get a.nodes i.index ≡ Some (n.Instance s) → Unfolds a (p.Instance i) → Led (tree_at a (p.Instance i)) → IsDistinct same_resource s.defined_resources →
-    o.owned ≡ explicit_paths s.defined_resources (entry_trees (trees a.nodes) s.exports) → o.exports ≡ s.exports → IsOpened a i o
-opened_is a i s o g u l d w x =
+    o.owned ≡ explicit_paths s.defined_resources (entry_trees (trees a.nodes) s.exports) → o.exports ≡ s.exports → NamesDiffer s.exports → IsOpened a i o
+opened_is a i s o g u l d w x apart =
     let ts : List Type_tree = trees a.nodes in
     let es : Entries = entry_trees ts s.exports in
     let slots : slots_if (slice_get a.nodes i.index) ≡ entry_slots export s.exports = ap slots_if g in
@@ -85,6 +86,7 @@ opened_is a i s o g u l d w x =
     record {
       tree = here ∙ (λ z. instance_type (number i.index) (sym names z) (entry_trees ts (sym x z)));
       stand = subst (λ (xs : Items). All (EntryStands a) xs) (sym x) (entries_stand a (suc i.index) s.exports before);
+      apart = subst (λ (xs : Items). NamesDiffer xs) (sym x) apart;
       before = λ e c. All-contains (λ (e : Item). entry_rank e < suc i.index) s.exports e (entries_before a i.index s.exports before) (subst (λ (xs : Items). Contains xs e) x c);
       distinct = subst (λ (ks : List ResourceId). IsDistinct same_resource ks) (sym (ap (λ (xs : Paths). keys_of xs) is ∙ keys_pathed es s.defined_resources)) d;
       first = subst (λ (q : Items). All (λ (e : With_path). first_path (number e.0.index) (entry_trees ts q) ≡ Some e.1) o.owned) (sym x)

@@ -4,6 +4,7 @@ use Rattle.std.specs.List.{IsDistinct}
 use Rattle.std.specs.Map.{keys_of}
 use Rattle.wcv_core.specs.Names.{Name, number}
 use Rattle.wcv_types.specs.Arena.{Arena}
+use Rattle.wcv_types.specs.ByName.{NamesDiffer}
 use Rattle.wcv_types.specs.Entities.{entity_slot, entity_tree, entry_name, entry_trees, EntityStands, EntryStands}
 use Rattle.wcv_types.specs.FirstPath.{first_path}
 use Rattle.wcv_types.specs.Replacing.{Replacement, replaced}
@@ -50,6 +51,7 @@ entry_rank e = top_rank (slot_refs (entity_slot e.1.ty))
 pub record IsOpened (a : Arena) (i : ComponentInstanceTypeId) (o : Opened) : Type 0 where
   pub tree : tree_at a (part.Instance i) ≡ instance_type (number i.index) (names_of_resources o.owned) (entry_trees (trees a.nodes) o.exports)
   pub stand : All (EntryStands a) o.exports
+  pub apart : NamesDiffer o.exports
   pub before : (e : Text × ComponentItem) → Contains o.exports e → entry_rank e < suc i.index
   pub distinct : IsDistinct same_resource (keys_of o.owned)
   pub first : All (λ e. first_path (number e.0.index) (entry_trees (trees a.nodes) o.exports) ≡ Some e.1) o.owned

@@ -7,6 +7,7 @@ ghost use Rattle.wcv_state.specs.Opening.{one_more, owns_none, with_entity, Entr
 ghost use Rattle.wcv_subtype.specs.Entities.{EntityHygienic};
 ghost use Rattle.wcv_subtype.specs.Map.{resource_to};
 ghost use Rattle.wcv_subtype.specs.Remap.{Sound};
+ghost use Rattle.wcv_types.specs.ByName.{NamesDiffer};
 ghost use Rattle.wcv_types.specs.Entities.{EntryStands};
 ghost use Rattle.wcv_types.specs.Sets.{same_resource};
 ghost use Rattle.wcv_types.specs.Standing.{Extends, Stands};
@@ -55,6 +56,7 @@ fn read_type<L: Ledger>(
     requires { Stands types.now (part.Instance id) }
     ensures { IfOk result (IsOpened types.now id) }
 {
+    types.nodes_fit();
     let shape = types.view(id, steps);
     let _ = shape.defined_resources.len();
     let owned = types.explicit_resource_paths(&shape.exports, &shape.defined_resources)?;
@@ -186,7 +188,8 @@ fn push_instance(
     types: &mut TypeAlloc,
     exports: ItemMap,
 ) -> Result<ComponentInstanceTypeId, OutOfMemory>
-    requires { All (EntryStands types.old) exports }
+    requires stand { All (EntryStands types.old) exports }
+    requires apart { NamesDiffer exports }
     ensures ok { IfOk result (InstancePushed types.old types.new exports) }
     ensures err { OnErr result (types.new ≡ types.old) }
 {

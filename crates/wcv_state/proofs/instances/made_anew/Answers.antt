@@ -1,5 +1,7 @@
+use Rattle.std.proofs.Common.{bytes_eq, subst, sym}
+use Rattle.std.specs.List.{IsDistinct}
 use Rattle.wcv_types.proofs.Grown.{extends_refl, extends_trans}
-use Rattle.wcv_state.proofs.ExportsAnew.{all_stand}
+use Rattle.wcv_state.proofs.ExportsAnew.{all_stand, same_names}
 use Rattle.wcv_state.proofs.MadeAnew.{exports_hygienic, exports_stand, is_made, sound_replaced}
 use Rattle.wcv_state.proofs.NewResources.{same_grown}
 use Rattle.wcv_state.proofs.instances.made_anew.Goals as goal
@@ -14,8 +16,12 @@ pub remapped_exports-requires-clause-hygienic : goal.remapped_exports-requires-c
 remapped_exports-requires-clause-hygienic g c =
     exports_hygienic c.args.types.now c.replace_resources.new.types c.args.id c.in_ok-old.old c.replace_resources.new.map c.in_ok-resources.resources c.in_ok-old.ensures c.requires.apart c.in_ok-resources.ensures.ok
 
-pub push_instance-requires : goal.push_instance-requires
-push_instance-requires g c = all_stand c.replace_resources.new.types c.remapped_exports.new.types c.remapped_exports.new.map c.in_ok-old.old.exports c.in_ok-exports.exports c.in_ok-exports.ensures.ok.each
+pub push_instance-requires-clause-apart : goal.push_instance-requires-clause-apart
+push_instance-requires-clause-apart g c =
+    subst (IsDistinct bytes_eq) (sym (same_names c.replace_resources.new.types c.remapped_exports.new.types c.remapped_exports.new.map c.in_ok-old.old.exports c.in_ok-exports.exports c.in_ok-exports.ensures.ok.each)) c.in_ok-old.ensures.apart
+
+pub push_instance-requires-clause-stand : goal.push_instance-requires-clause-stand
+push_instance-requires-clause-stand g c = all_stand c.replace_resources.new.types c.remapped_exports.new.types c.remapped_exports.new.map c.in_ok-old.old.exports c.in_ok-exports.exports c.in_ok-exports.ensures.ok.each
 
 pub returns-in_err-old-clause-grown : goal.returns-in_err-old-clause-grown
 returns-in_err-old-clause-grown g c = extends_refl _

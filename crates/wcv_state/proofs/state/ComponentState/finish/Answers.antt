@@ -1,7 +1,7 @@
 use Rattle.std.proofs.Common.{ap, inl, refl}
 use Rattle.std.proofs.lemmas.Result.{err_from_is_err_and}
 use Rattle.wcv_state.specs.Contents.{Contents, spent}
-use Rattle.wcv_state.proofs.Finishing.{finish_is}
+use Rattle.wcv_state.proofs.Finishing.{finish_is, names_apart}
 use Rattle.wcv_state.proofs.state.ComponentState.finish.Goals as goal
 
 pub returns-in-Err-clause-err : goal.returns-in-Err-clause-err
@@ -16,4 +16,4 @@ returns-in_err-ty-clause-err c =
     rw p.1 (ap (λ (z : Contents). z.spent) c.in_err-ty.ensures.left, inl p.2)
 
 pub returns-clause-ok : goal.returns-clause-ok
-returns-clause-ok c = finish_is c.args.types.now c.args.self.now c.in_ok-ty.ty c.in-Ok.paths c.requires.stands c.in-Ok.ensures.ok c.in_ok-ty.ensures.ok
+returns-clause-ok c = finish_is c.args.types.now c.args.self.now c.in_ok-ty.ty c.in-Ok.paths c.requires.stands (names_apart c.self.inside c.args.self.now c.self.view_is c.self.invariant c.requires.live) c.in-Ok.ensures.ok c.in_ok-ty.ensures.ok

@@ -7,11 +7,10 @@ use Rattle.wcv_types.specs.Standing.{Extends}
 use Rattle.wcv_types.proofs.Grown.{extends_refl}
 use Rattle.wcv_lower.specs.Context.{in_types}
 use Rattle.wcv_state.specs.Contents.{Contents, IdStands}
-use Rattle.wcv_state.specs.Inside.{lists}
 use Rattle.wcv_state.specs.Looking.{exported_id_checks, GivesExported}
 use Rattle.wcv_state.specs.Promises.{MemoryOrCausedBy, if_built}
 use Rattle.wcv_state.proofs.Calls.{built_either}
-use Rattle.wcv_state.proofs.ItemCalls.{item_looked, item_caused, no_instance}
+use Rattle.wcv_state.proofs.ItemCalls.{item_looked, item_caused, exported_alone}
 use Rattle.wcv_state.proofs.Opened.{bare_opened, opened_found}
 use Rattle.wcv_state.proofs.state.ComponentState.read_export.Goals as goal
 
@@ -44,7 +43,7 @@ returns-clause-ok c =
     let w = (item_looked c.args.types.now c.args.self.now c.requires c.exported.new.types c.args.export.now c.in_ok-entity.entity
     (subst (λ (z : Contents). GivesExported c.args.types.now c.exported.new.types z.spaces c.args.export.now.kind c.args.export.now.index c.in_ok-entity.entity) c.self.view_is c.in_ok-entity.ensures.ok)) in
     opened_found c.args.types.now c.exported.new.types c.exported.new.types c.in_ok-entity.entity c.in_ok-new.new _ _ w
-    (bare_opened c.exported.new.types c.in_ok-entity.entity w.built w.stands c.in_ok-new.new (no_instance c.args.types.now c.exported.new.types (lists c.self.inside.spaces) c.args.export.now.kind c.args.export.now.index c.in_ok-entity.entity c.in_ok-entity.ensures.ok) c.in_ok-new.ensures.ty c.in_ok-new.ensures.resources)
+    (bare_opened c.exported.new.types c.in_ok-entity.entity w.built w.stands c.in_ok-new.new (exported_alone c.args.types.now c.exported.new.types c.args.self.now c.args.export.now.kind c.args.export.now.index c.in_ok-entity.entity c.requires (subst (λ (z : Contents). GivesExported c.args.types.now c.exported.new.types z.spaces c.args.export.now.kind c.args.export.now.index c.in_ok-entity.entity) c.self.view_is c.in_ok-entity.ensures.ok)) c.in_ok-new.ensures.ty c.in_ok-new.ensures.resources)
 
 pub returns-clause-grown : goal.returns-clause-grown
 returns-clause-grown c =
