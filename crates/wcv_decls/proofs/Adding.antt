@@ -60,7 +60,7 @@ module _ (own parts content sizes : Checks) where
 
 module _ (a : Arena) (c : Tree_context) (x : Defined_form) (s : ComponentDefinedType) (h : IsShape a c x s) where
   pub shape_fits : Fits a (n.Defined s)
-  shape_fits = record { parts = h.stands; info = tt; owned = All-nil (GaveResource a); led = tt; within = All-nil (IsEntityWithin (total a.core)); stated = tt }
+  shape_fits = record { parts = h.stands; info = tt; owned = All-nil (GaveResource a); led = tt; within = All-nil (IsEntityWithin (total a.core)); stated = tt; apart = tt }
 
   abbrev made_parts : Made_parts tree_reader
   made_parts = map_parts (slot_tree (trees a.nodes)) (defined_slots s)

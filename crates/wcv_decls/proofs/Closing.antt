@@ -85,6 +85,7 @@ module _ (a : Arena) (s : Contents) (ty : ComponentType) (f : Finished a s ty) w
         led_by (entry_trees ts ty.imports) (imports_in (slot_parts ts (entry_slots import ty.imports ++ entry_slots export ty.exports))) ty.imported_resources (component_imports ts ty.imports ty.exports) f.lead.imported,
         led_by (entry_trees ts ty.exports) (exports_in (slot_parts ts (entry_slots import ty.imports ++ entry_slots export ty.exports))) ty.defined_resources (component_exports ts ty.imports ty.exports) f.lead.defined,
       )
+      f.apart
       (record {
         size = size ∙ ap capped (f.size (number (length a.nodes)) ∙ ap measure.size component_tree_same);
         depth = depth ∙ ap capped (f.depth (number (length a.nodes)) ∙ ap measure.depth component_tree_same);

@@ -9,18 +9,8 @@ use Rattle.wcv_types.specs.Arena.{Arena}
 use Rattle.wcv_lower.specs.CoreItems.{core_entries, outer_entries}
 use Rattle.wcv_state.specs.Contents.{Contents, context_of, core_entries_of, StateStands}
 use Rattle.wcv_state.proofs.CoreTypes.{entries_same, entries_known}
+use Rattle.wcv_state.proofs.Stacks.{open_split}
 use Rattle.wcv_decls.specs.Stack.{IsOpen, stack_on}
-
--- the states, of which the last is the innermost
-pub open_split : (a : Arena) (outer : List Contents) (s : Contents) → All (IsOpen a) (outer ++ s ∷ []) → All (IsOpen a) outer × IsOpen a s
-open_split a [] s h = (All-nil (IsOpen a), All-head (IsOpen a) s [] h)
-open_split a (x ∷ xs) s h =
-    let r = open_split a xs s (All-tail (IsOpen a) x (xs ++ s ∷ []) h) in
-    (All-cons (IsOpen a) x xs (All-head (IsOpen a) x (xs ++ s ∷ []) h) r.0, r.1)
-
--- the innermost stands
-pub last_stands : (a : Arena) (ss : List Contents) (d : Contents) → 0 < length ss → All (IsOpen a) ss → StateStands a (slice_index_or ss (length ss - 1) d)
-last_stands a ss d some h = (h (length ss - 1) d (omega arith)).stands
 
 module _ (a : Arena) where
   pub around_known : (ss : List Contents) → All (IsOpen a) ss → All (All (IsKnown (total a.core))) (reverse (map core_entries_of ss))

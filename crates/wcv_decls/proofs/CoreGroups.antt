@@ -2,7 +2,7 @@
 use Rattle.std.proofs.Common.{◌≡◌, ℕ, ◌<◌, List, [], ◌∷◌, ◌++◌, map, length, take, refl, sym, ◌∙◌, ap, subst, append-nil, append_assoc, All, Option, Some, None, Bool, true, false, cond, inl, inr}
 use Rattle.std.specs.Option.{option_map}
 use Rattle.std.proofs.lemmas.List.Elements.{All-nil, All-cons, All-head, All-tail}
-use Rattle.wcv_core.specs.CoreForm.{Group, group_form}
+use Rattle.wcv_core.specs.CoreForm.{Group, group_form, sub_form}
 use Rattle.wcv_core.specs.CoreGroups.{total}
 use Rattle.wcv_core.specs.CoreJoining.{group_checks, group_ids, grown, with_types, IsLeft}
 use Rattle.wcv_core.specs.CoreWritten.{Core_entry, sub_entry, IsKnown, closed_group}
@@ -10,10 +10,7 @@ use Rattle.wcv_core.specs.Names.{Place}
 use Rattle.wcv_core.specs.Refusal.{error_kind}
 use Rattle.wcv_core.specs.declared.core_types.RecGroup.{RecGroup}
 use Rattle.wcv_core.specs.declared.error.Error.{Error}
-use Rattle.wcv_module.proofs.Declaring.{group_written}
 use Rattle.wcv_syntax.specs.Model.{core_rec, core_type_item}
-use Rattle.wcv_syntax.specs.ModuleTypes.{written_group}
-use Rattle.wcv_syntax.specs.View.{rec_view, sub_view}
 use Rattle.wcv_types.specs.Arena.{Arena}
 use Rattle.wcv_types.specs.Standing.{Extends}
 use Rattle.wcv_types.specs.declared.ids.ComponentCoreTypeId.TheVariants as core_type
@@ -33,7 +30,7 @@ use Rattle.wcv_state.specs.Promises.{MemoryOrCausedBy, Keeps, Grew}
 use Rattle.wcv_state.proofs.Calls.{caused_more}
 use Rattle.wcv_state.proofs.Keeping.{state_stands, same_context, keeps_grown, keeps_marked, keeps_trans}
 use Rattle.wcv_state.proofs.CoreTypes.{entries_same, joined_types, keeps_types}
-use Rattle.wcv_decls.proofs.Naming.{none_made}
+use Rattle.wcv_state.proofs.Stacks.{none_made}
 
 -- ## Types that join their space
 
@@ -77,18 +74,17 @@ module _ (a b : Arena) (s s' : Contents) (rec : RecGroup) (h : StateStands a s) 
   abbrev Room : Checks
   Room = no_core_type_room (length rec.types.items) (counts Here)
 
-  checks_same : (outer : List Tree_context) (n : Names) (p : Place) → call_checks s.features (tree_maker n p) (stack_of a s outer) (core_type_item (core_rec (rec_view rec))) ≡ Checked ++ Room
+  checks_same : (outer : List Tree_context) (n : Names) (p : Place) → call_checks s.features (tree_maker n p) (stack_of a s outer) (core_type_item (core_rec (group_form rec))) ≡ Checked ++ Room
   checks_same outer n p =
       let es : core_entries Here ≡ core_entries_of s = entries_same a s h in
-      let w : written_group (rec_view rec) ≡ group_form rec = group_written rec in
-      let l : length (rec_view rec) ≡ length rec.types.items = length-mapped sub_view rec.types.items in
-      λ j. group_checks s.features a.core (es j) (w j) ++ no_core_type_room (l j) (counts Here)
+      let l : length (group_form rec) ≡ length rec.types.items = length-mapped sub_form rec.types.items in
+      λ j. group_checks s.features a.core (es j) (group_form rec) ++ no_core_type_room (l j) (counts Here)
 
   module _ {M : Type 0} (outer : List Tree_context) (n : Names) (p : Place) (offset : ℕ) (e : Error M) where
-    pub group_caused : MemoryOrCausedBy (group_checks s.features a.core (core_entries_of s) (group_form rec)) offset e → MemoryOrCausedBy (call_checks s.features (tree_maker n p) (stack_of a s outer) (core_type_item (core_rec (rec_view rec)))) offset e
+    pub group_caused : MemoryOrCausedBy (group_checks s.features a.core (core_entries_of s) (group_form rec)) offset e → MemoryOrCausedBy (call_checks s.features (tree_maker n p) (stack_of a s outer) (core_type_item (core_rec (group_form rec)))) offset e
     group_caused m = subst (λ cs. MemoryOrCausedBy cs offset e) (sym (checks_same outer n p)) (caused_more Checked (Checked ++ Room) offset e (cause_left Checked Room (error_kind e)) m)
 
-    pub room_caused : MemoryOrCausedBy (no_core_type_room (length rec.types.items) (counts (context_of a s))) offset e → MemoryOrCausedBy (call_checks s.features (tree_maker n p) (stack_of a s outer) (core_type_item (core_rec (rec_view rec)))) offset e
+    pub room_caused : MemoryOrCausedBy (no_core_type_room (length rec.types.items) (counts (context_of a s))) offset e → MemoryOrCausedBy (call_checks s.features (tree_maker n p) (stack_of a s outer) (core_type_item (core_rec (group_form rec)))) offset e
     room_caused m = subst (λ cs. MemoryOrCausedBy cs offset e) (sym (checks_same outer n p)) (caused_more Room (Checked ++ Room) offset e (cause_right Checked Room (error_kind e)) m)
 
   -- the group can be closed, and joins the table and the space
@@ -96,19 +92,18 @@ module _ (a b : Arena) (s s' : Contents) (rec : RecGroup) (h : StateStands a s) 
   grow_if outer b g = option_map (λ (x : Step tree_reader). apply x (stack_of a s outer)) (cond b (Some (closed_step tree_reader a.core g)) None)
 
   group_grows : (outer : List Tree_context) → b.core ≡ grown a.core closed → s' ≡ with_types with_sub s (group_ids a.core closed) → IsFree Checked →
-      grow_if outer (is_closable a.core (core_entries Here) (written_group (rec_view rec))) (closed_group (core_entries Here) (written_group (rec_view rec))) ≡ Some (stack_of b s' outer)
+      grow_if outer (is_closable a.core (core_entries Here) (group_form rec)) (closed_group (core_entries Here) (group_form rec)) ≡ Some (stack_of b s' outer)
   group_grows outer table group free =
       let es : core_entries Here ≡ core_entries_of s = entries_same a s h in
-      let w : written_group (rec_view rec) ≡ group_form rec = group_written rec in
       let closes : is_closable a.core (core_entries_of s) (group_form rec) ≡ true = closable s.features a.core (core_entries_of s) (group_form rec) free in
       let is : List ℕ = group_ids a.core closed in
       let e : context_of b s ≡ Here = same_context a b ext s h in
       let reached : stack_of b s' outer ≡ apply (closed_step tree_reader a.core closed) (stack_of a s outer) =
       ap (λ (z : Contents). stack_of b z outer) group ∙ joined_types b b.core outer s is ∙
       (λ j. apply (types_join tree_reader is) (record { top = e j; outer = outer; groups = table j })) in
-      (λ j. grow_if outer (is_closable a.core (es j) (w j)) (closed_group (es j) (w j))) ∙ ap (λ (x : Bool). grow_if outer x closed) closes ∙ ap Some (sym reached)
+      (λ j. grow_if outer (is_closable a.core (es j) (group_form rec)) (closed_group (es j) (group_form rec))) ∙ ap (λ (x : Bool). grow_if outer x closed) closes ∙ ap Some (sym reached)
 
-  pub group_grew : (outer : List Tree_context) (p : Place) → s.spent ≡ false → b.core ≡ grown a.core closed → s' ≡ with_types with_sub s (group_ids a.core closed) → IsFree Checked → IsFree Room → Grew a b outer p s s' (core_type_item (core_rec (rec_view rec)))
+  pub group_grew : (outer : List Tree_context) (p : Place) → s.spent ≡ false → b.core ≡ grown a.core closed → s' ≡ with_types with_sub s (group_ids a.core closed) → IsFree Checked → IsFree Room → Grew a b outer p s s' (core_type_item (core_rec (group_form rec)))
   group_grew outer p live table group free room = record {
     names = none_given;
     given = none_made a b p;

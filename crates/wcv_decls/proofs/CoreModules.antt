@@ -29,7 +29,7 @@ use Rattle.wcv_lower.specs.Growth.{call_checks}
 use Rattle.wcv_lower.specs.Names.{Names, introduced}
 use Rattle.wcv_lower.specs.Readers.{Maker}
 use Rattle.wcv_lower.specs.Step.{Step, apply}
-use Rattle.wcv_lower.specs.Trees.{Tree_context, Tree_stack, tree_reader, tree_maker, module_tree}
+use Rattle.wcv_lower.specs.Trees.{Type_tree, Tree_context, Tree_stack, tree_reader, tree_maker, module_tree}
 use Rattle.wcv_lower.proofs.Causes.{cause_left, cause_right, free_both, free_left}
 use Rattle.wcv_lower.proofs.ModulesMade.{made_same}
 use Rattle.wcv_state.specs.Contents as state
@@ -37,12 +37,13 @@ use Rattle.wcv_state.specs.Contents.{Contents, Core_id, context_of, stack_of, co
 use Rattle.wcv_state.specs.Promises.{MemoryOrCausedBy, Keeps, Grew, Refuses}
 use Rattle.wcv_state.proofs.Calls.{caused_more}
 use Rattle.wcv_state.proofs.Keeping.{state_stands, same_context, keeps_grown, keeps_trans, keeps_with_core, with_core_context}
-use Rattle.wcv_decls.specs.CoreItems.{StoredModule, JoinedModule, core_space, with_module, MadeIn, FreeIn, CausedIn}
+use Rattle.wcv_state.proofs.Stacks.{none_made}
+use Rattle.wcv_decls.specs.CoreItems.{StoredModule, JoinedCore, JoinedModule, core_space, with_module, MadeIn, FreeIn, CausedIn}
 use Rattle.wcv_decls.specs.Stack.{IsOpen, contexts_around, stack_on}
 use Rattle.wcv_decls.specs.declared.core_module.ModuleSpace.{ModuleSpace}
 use Rattle.wcv_decls.specs.declared.core_module.ModuleSpace.TheVariants as space
 use Rattle.wcv_decls.proofs.CoreEntries.{spaces_same}
-use Rattle.wcv_decls.proofs.Naming.{node_names, node_given, node_name, none_made}
+use Rattle.wcv_decls.proofs.Naming.{node_names, node_given, node_name}
 
 -- ## The node
 
@@ -66,23 +67,22 @@ module_stored a b m t i es ei ee et eb last stands tree =
     }
 
 -- it joins a space
-joined_as : (k : Core_space) (x : Core_id k) (a b : Arena) (s s' : Contents) (m : Module_type) (i : ComponentCoreModuleTypeId) → StateStands a s → s.spent ≡ false → core_slot k x ≡ at (p.Module i) →
-    StoredModule a b m i → s' ≡ state.with_core k x s → JoinedModule k a b s s' m
-joined_as k x a b s s' m i h live slot w es =
-    let tree : slot_tree (trees b.nodes) (core_slot k x) ≡ module_tree (number (length a.nodes)) m = ap (slot_tree (trees b.nodes)) slot ∙ w.tree in
-    let same : context_of b s ≡ context_of a s = same_context a b w.arena s h in
-    subst (λ (z : Contents). JoinedModule k a b s z m) (sym es) (record {
+pub joined_as : (k : Core_space) (x : Core_id k) (a b : Arena) (s s' : Contents) (t : Type_tree) → StateStands a s → s.spent ≡ false → Extends a b → length b.nodes ≡ suc (length a.nodes) → b.core ≡ a.core →
+    slot_tree (trees b.nodes) (core_slot k x) ≡ t → CoreStands b (core_slot k x) → s' ≡ state.with_core k x s → JoinedCore k a b s s' t
+joined_as k x a b s s' t h live grown nodes core tree stands es =
+    let same : context_of b s ≡ context_of a s = same_context a b grown s h in
+    subst (λ (z : Contents). JoinedCore k a b s z t) (sym es) (record {
       grown = with_core_context b k x s ∙ λ j. push_core k (tree j) (same j);
-      nodes = w.nodes;
-      core = w.core;
+      nodes = nodes;
+      core = core;
       live = live;
-      keeps = keeps_trans a b b s s (state.with_core k x s) (keeps_grown a b s w.arena h) (keeps_with_core b k x s (state_stands a b w.arena s h) (subst (CoreStands b) (sym slot) w.stands));
+      keeps = keeps_trans a b b s s (state.with_core k x s) (keeps_grown a b s grown h) (keeps_with_core b k x s (state_stands a b grown s h) stands);
     })
 
 pub module_joined : (j : ModuleSpace) (a b : Arena) (s s' : Contents) (m : Module_type) (i : ComponentCoreModuleTypeId) → StateStands a s → s.spent ≡ false →
     StoredModule a b m i → s' ≡ with_module j i s → JoinedModule (core_space j) a b s s' m
-module_joined space.CoreTypes a b s s' m i h live w es = joined_as core_types (core_type.Module i) a b s s' m i h live refl w es
-module_joined space.CoreModules a b s s' m i h live w es = joined_as core_modules i a b s s' m i h live refl w es
+module_joined space.CoreTypes a b s s' m i h live w es = joined_as core_types (core_type.Module i) a b s s' (module_tree (number (length a.nodes)) m) h live w.arena w.nodes w.core w.tree w.stands es
+module_joined space.CoreModules a b s s' m i h live w es = joined_as core_modules i a b s s' (module_tree (number (length a.nodes)) m) h live w.arena w.nodes w.core w.tree w.stands es
 
 -- ## After the declarations that made it
 

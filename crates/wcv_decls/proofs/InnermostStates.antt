@@ -8,11 +8,10 @@ use Rattle.wcv_lower.specs.Owned.{IsCalm}
 use Rattle.wcv_lower.specs.Trees.{Tree_context, Tree_stack}
 use Rattle.wcv_state.specs.Contents.{Contents, context_of, stack_of}
 use Rattle.wcv_state.specs.Promises.{numbers_of, Keeps}
+use Rattle.wcv_state.proofs.Stacks.{open_split, around_kept, around_same}
 use Rattle.wcv_decls.specs.Declaring.{innermost, around, features_in, stack_in, IsInstanceBody, DeclaresInstance, StayReady, SameAround}
 use Rattle.wcv_decls.specs.Stack.{IsOpen, stay, all_spent, ChangesLast, KeepsOn, AreCalm, contexts_around, stack_on}
-use Rattle.wcv_decls.proofs.CoreEntries.{open_split}
 use Rattle.wcv_state.proofs.Keeping.{state_stands}
-use Rattle.wcv_decls.proofs.Stacks.{around_kept, around_same}
 
 -- ## Lists
 

@@ -15,6 +15,7 @@ pub mod Outcomes
 pub mod Ascending
 pub mod Handles
 pub mod Defining
+pub mod Destructors
 pub mod LowerWords
 pub mod Eight
 pub mod CoreEntries

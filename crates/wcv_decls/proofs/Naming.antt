@@ -33,10 +33,6 @@ module _ (a b : Arena) (p : Place) (k : length b.nodes ≡ suc (length a.nodes))
   pub node_name : named node_names.identities (introduced p) ≡ number (length a.nodes)
   node_name = ap (λ (x : Bool). or_by_place (introduced p) (cond x (Some (number (length a.nodes))) None)) (same_origin-refl (introduced p))
 
--- a refusal before any name was given
-pub none_made : (a b : Arena) (p : Place) → GivesAt (Under p) (numbers_of a) (numbers_of b) none_given
-none_made a b p = record { resources = tt; identities = tt }
-
 -- the state once the node joined the types
 pub node_reached : (a b : Arena) (s s' : Contents) (n : New_node tree_reader) (k : length b.nodes ≡ suc (length a.nodes)) → b.core ≡ a.core → context_of b s' ≡ push in_types (type_entry (node_tree (number (length a.nodes)) n)) (context_of a s) →
     (outer : List Tree_context) (p : Place) → apply (added (tree_maker (names_of (node_names a b p k)) p) n) (stack_of a s outer) ≡ stack_of b s' outer

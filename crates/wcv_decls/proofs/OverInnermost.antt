@@ -38,9 +38,9 @@ module _ (a b : Arena) (ss ss' : List Contents) (w : ChangesLast stay ss ss') (h
   -- ## A type that is made in one step
 
   module _ (limited : Bool) (t : Type_form) (e : is_plain_type t ≡ true) where
-    pub plain_reads : Declares a b w.old w.new t → ((n : Names) (q : Place) → IsFree (type_checks limited w.old.features (tree_maker n q) (context_of a w.old) t)) → ReadsType limited a b ss ss' t
+    pub plain_reads : Declares a b w.old w.new t → ((outer : List Tree_context) (n : Names) (q : Place) → IsFree (type_checks limited w.old.features (tree_maker n q) (stack_of a w.old outer) t)) → ReadsType limited a b ss ss' t
     plain_reads d free p =
-        over_stack a b ss ss' w h.each d.keeps.arena (λ (fs : WasmFeatures) (u v : Tree_stack). TypeRead limited fs p u t v (numbers_of a) (numbers_of b)) (plain_read limited a b w.old cs t e w.new d free p)
+        over_stack a b ss ss' w h.each d.keeps.arena (λ (fs : WasmFeatures) (u v : Tree_stack). TypeRead limited fs p u t v (numbers_of a) (numbers_of b)) (plain_read limited a b w.old cs t e w.new d (free cs) p)
 
     pub plain_stays : Declares a b w.old w.new t → StayReady b ss ss'
     plain_stays d = stays a b ss ss' w h.each d.keeps d.live (plain_calm a b w.old w.new cs t d (old_calm a b ss ss' w h.calm))
@@ -49,10 +49,10 @@ module _ (a b : Arena) (ss ss' : List Contents) (w : ChangesLast stay ss ss') (h
     plain_declares d = body_stays a b ss ss' w h.each d.keeps.arena
         (λ i. same_body (context_of a w.old) (context_of b w.new) (plain_sides w.old.features (tree_maker (names_of (d.given_names [])) []) (stack_of a w.old cs) (stack_of b w.new cs) t (ap is_concrete i.kind) (d.grown cs [])) i)
 
-    pub plain_refuses : {M : Type 0} (offset : ℕ) (x : Error M) → ((n : Names) (q : Place) → MemoryOrCausedBy (type_checks limited w.old.features (tree_maker n q) (context_of a w.old) t) offset x) → MemoryOr (RefusesType limited a b ss t) offset x
-    plain_refuses offset x c p = go (c (names_of none_given) p)
+    pub plain_refuses : {M : Type 0} (offset : ℕ) (x : Error M) → ((outer : List Tree_context) (n : Names) (q : Place) → MemoryOrCausedBy (type_checks limited w.old.features (tree_maker n q) (stack_of a w.old outer) t) offset x) → MemoryOr (RefusesType limited a b ss t) offset x
+    plain_refuses offset x c p = go (c cs (names_of none_given) p)
       where
-        go : MemoryOrCausedBy (type_checks limited w.old.features (tree_maker (names_of none_given) p) (context_of a w.old) t) offset x → (error_kind x ≡ kind.OutOfMemory) ⊎ (RefusesType limited a b ss t p (error_kind x) × (error_offset x ≡ offset))
+        go : MemoryOrCausedBy (type_checks limited w.old.features (tree_maker (names_of none_given) p) (stack_of a w.old cs) t) offset x → (error_kind x ≡ kind.OutOfMemory) ⊎ (RefusesType limited a b ss t p (error_kind x) × (error_offset x ≡ offset))
         go (inl m) = inl m
         go (inr y) = inr (over_before a b ss ss' w (λ (fs : WasmFeatures) (u : Tree_stack). TypeRefused limited fs p u t (error_kind x) (numbers_of a) (numbers_of b)) (plain_refused limited a b w.old cs t e (error_kind x) p y.0), y.1)
 

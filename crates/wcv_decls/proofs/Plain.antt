@@ -28,9 +28,9 @@ use Rattle.wcv_lower.specs.Types.{added, type_made, type_checks}
 use Rattle.wcv_lower.proofs.CalmGrowth.{calm_grows}
 use Rattle.wcv_state.specs.Contents.{Contents, defined_resource, context_of, stack_of, StateStands}
 use Rattle.wcv_state.specs.Promises.{numbers_of}
+use Rattle.wcv_state.proofs.Stacks.{none_made}
 use Rattle.wcv_decls.specs.Declaring.{IsInstanceBody}
 use Rattle.wcv_decls.specs.Items.{Declares}
-use Rattle.wcv_decls.proofs.Naming.{none_made}
 use Rattle.wcv_decls.proofs.ReadingOn.{grown_numbers}
 
 -- the resources of a state were given
@@ -42,7 +42,7 @@ own_given a s h =
 
 -- what its rules say of it is what they say of an item
 module _ (fs : WasmFeatures) (mk : Makers tree_reader) (p : Place) (s : Tree_stack) where
-  pub plain_checked : (limited : Bool) (t : Type_form) → is_plain_type t ≡ true → declared_checks limited fs mk p s t ≡ type_checks limited fs (mk p) s.top t
+  pub plain_checked : (limited : Bool) (t : Type_form) → is_plain_type t ≡ true → declared_checks limited fs mk p s t ≡ type_checks limited fs (mk p) s t
   plain_checked limited (defined_type d) e = refl
   plain_checked limited (func_type f) e = refl
   plain_checked limited (component_type ds) e = absurd (false≢true e)
@@ -57,7 +57,7 @@ module _ (fs : WasmFeatures) (mk : Makers tree_reader) (p : Place) (s : Tree_sta
   plain_grows (resource_type rep dtor) e = refl
 
 module _ (limited : Bool) (a b : Arena) (s : Contents) (outer : List Tree_context) (t : Type_form) (e : is_plain_type t ≡ true) where
-  pub plain_read : (s' : Contents) → Declares a b s s' t → ((n : Names) (q : Place) → IsFree (type_checks limited s.features (tree_maker n q) (context_of a s) t)) → (p : Place) →
+  pub plain_read : (s' : Contents) → Declares a b s s' t → ((n : Names) (q : Place) → IsFree (type_checks limited s.features (tree_maker n q) (stack_of a s outer) t)) → (p : Place) →
       TypeRead limited s.features p (stack_of a s outer) t (stack_of b s' outer) (numbers_of a) (numbers_of b)
   plain_read s' w free p =
       let n : GivenNames = w.given_names p in (
@@ -67,7 +67,7 @@ module _ (limited : Bool) (a b : Arena) (s : Contents) (outer : List Tree_contex
         plain_grows s.features (tree_maker (names_of n)) p (stack_of a s outer) t e ∙ w.grown outer p,
       )
 
-  pub plain_refused : (k : ErrorKind) (p : Place) → Cause (type_checks limited s.features (tree_maker (names_of none_given) p) (context_of a s) t) k → TypeRefused limited s.features p (stack_of a s outer) t k (numbers_of a) (numbers_of b)
+  pub plain_refused : (k : ErrorKind) (p : Place) → Cause (type_checks limited s.features (tree_maker (names_of none_given) p) (stack_of a s outer) t) k → TypeRefused limited s.features p (stack_of a s outer) t k (numbers_of a) (numbers_of b)
   plain_refused k p c = (none_given, none_made a b p, subst (λ (cs : Checks). Cause cs k) (sym (plain_checked s.features (tree_maker (names_of none_given)) p (stack_of a s outer) limited t e)) c)
 
 -- ## What it keeps

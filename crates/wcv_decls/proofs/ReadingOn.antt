@@ -23,9 +23,9 @@ use Rattle.wcv_lower.specs.Trees.{Tree_stack, tree_maker}
 use Rattle.wcv_state.specs.Contents.{Contents}
 use Rattle.wcv_state.specs.Promises.{numbers_of, Keeps}
 use Rattle.wcv_state.proofs.Keeping.{keeps_trans}
+use Rattle.wcv_state.proofs.Stacks.{around_kept}
 use Rattle.wcv_decls.specs.Declaring.{innermost, around, features_in, stack_in, AreReady, StayReady, MemoryOr, ReadsDecl, ReadsDecls, RefusesDecl, RefusesDecls}
 use Rattle.wcv_decls.specs.Stack.{KeepsOn}
-use Rattle.wcv_decls.proofs.Stacks.{around_kept}
 
 -- ## Numbers
 

@@ -33,7 +33,7 @@ or_right : (a b : Bool) → b ≡ true → (a || b) ≡ true
 or_right true b h = refl
 or_right false b h = h
 
-has_repeat-push : (k : Text) (ks : List Text) → has_repeat (ks ++ k ∷ []) ≡ (has_repeat ks || is_among k ks)
+pub has_repeat-push : (k : Text) (ks : List Text) → has_repeat (ks ++ k ∷ []) ≡ (has_repeat ks || is_among k ks)
 has_repeat-push k [] = refl
 has_repeat-push k (l ∷ ks) =
     ap (λ (b : Bool). b || has_repeat (ks ++ k ∷ [])) (is_among-push l k ks) ∙
@@ -42,7 +42,7 @@ has_repeat-push k (l ∷ ks) =
     ap (λ (b : Bool). (is_among l ks || has_repeat ks) || (b || is_among k ks)) (bytes_eq-sym l k)
 
 -- what stands among the first stands twice, where it stands once more
-has_repeat-again : (k : Text) (ks ls : List Text) → is_among k ks ≡ true → has_repeat (ks ++ k ∷ ls) ≡ true
+pub has_repeat-again : (k : Text) (ks ls : List Text) → is_among k ks ≡ true → has_repeat (ks ++ k ∷ ls) ≡ true
 has_repeat-again k [] ls h = absurd (cc)
 has_repeat-again k (l ∷ ks) ls h = again (bytes_eq k l) refl h (has_repeat-again k ks ls)
   where

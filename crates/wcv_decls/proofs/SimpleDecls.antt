@@ -13,7 +13,7 @@ use Rattle.wcv_syntax.specs.Model.{Core_type_form, core_rec, core_module_type, F
 use Rattle.wcv_core.specs.CoreForm.{Group}
 use Rattle.wcv_core.specs.CoreJoining.{group_ids, grown}
 use Rattle.wcv_core.specs.CoreWritten.{closed_group}
-use Rattle.wcv_syntax.specs.ModuleTypes.{Made, written_group}
+use Rattle.wcv_syntax.specs.ModuleTypes.{Made}
 use Rattle.wcv_syntax.specs.declared.component_type.ComponentTypeRef.{ComponentTypeRef}
 use Rattle.wcv_syntax.specs.declared.component_type.ComponentTypeRef.TheVariants as ref
 use Rattle.wcv_syntax.specs.declared.name.ComponentExternName.{ComponentExternName}
@@ -134,7 +134,7 @@ module _ (fs : WasmFeatures) (mk : Maker tree_reader) (s u : Tree_stack) where
   module_sides (Some m) e = let i : apply (module_joins mk core_types m) s ≡ u = cc in subst (λ (x : Tree_stack). SameSides s.top x.top) i (record { kind = refl; side = λ k. refl; defined = refl })
 
   pub core_sides : (t : Core_type_form) → grow fs mk s (core_type_item t) ≡ Some u → SameSides s.top u.top
-  core_sides (core_rec w) e = group_sides (written_group w) (is_closable s.groups (core_entries s.top) (written_group w)) e
+  core_sides (core_rec w) e = group_sides w (is_closable s.groups (core_entries s.top) w) e
   core_sides (core_module_type ds) e = module_sides (core_type_made fs s (core_module_type ds)) e
 
 -- an entity that joins its space changes neither

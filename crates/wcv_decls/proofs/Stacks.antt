@@ -1,90 +1,16 @@
--- The innermost of the states that are open.
-use Rattle.std.proofs.Common.{◌≡◌, ℕ, zero, suc, ◌<◌, ◌-◌, List, [], ◌∷◌, ◌++◌, length, map, take, refl, ap, subst, sym, ◌∙◌, arith, slice_set, slice_index_or, All, true}
-use Rattle.std.specs.Prelude.{reverse}
-use Rattle.std.proofs.lemmas.List.{map-append, length-map, take_at}
-use Rattle.std.proofs.lemmas.List.Elements.{All-head, All-tail, AllZip-push}
+-- The states that are open, before the innermost became another and once they were marked.
+use Rattle.std.proofs.Common.{◌≡◌, ℕ, suc, ◌<◌, List, [], ◌∷◌, ◌++◌, length, map, take, refl, ap, subst, sym, ◌∙◌, arith}
+use Rattle.std.proofs.lemmas.List.{length-map, take_at}
 use Rattle.wcv_core.specs.Names.{Place}
 use Rattle.wcv_core.specs.declared.error.Error.{Error}
 use Rattle.wcv_syntax.specs.Model.{Form}
 use Rattle.wcv_types.proofs.Lists.{map-id}
 use Rattle.wcv_types.specs.Arena.{Arena}
-use Rattle.wcv_types.specs.Standing.{Extends}
 use Rattle.wcv_lower.specs.Given.{names_of, none_given}
-use Rattle.wcv_lower.specs.Growth.{call_checks}
-use Rattle.wcv_lower.specs.Trees.{tree_maker}
-use Rattle.wcv_state.specs.Contents.{Contents, spent, context_of}
-use Rattle.wcv_state.specs.Promises.{MemoryOrCausedBy, Keeps, Grew}
-use Rattle.wcv_state.proofs.Keeping.{same_mapped, same_context, keeps_grown, keeps_marked, keeps_trans}
+use Rattle.wcv_state.specs.Contents.{Contents, spent}
+use Rattle.wcv_state.proofs.Stacks.{none_made, marked}
 use Rattle.wcv_decls.specs.CoreItems.{CausedIn}
-use Rattle.wcv_decls.specs.Stack.{IsOpen, all_spent, GrewOn, RefusedOn, KeepsOn, contexts_around, stack_on}
-use Rattle.wcv_decls.proofs.CoreEntries.{open_split}
-use Rattle.wcv_decls.proofs.Naming.{none_made}
-
--- the last of a list, before and after it is set
-record LastSet {X : Type 0} (xs : List X) (k : ℕ) (x : X) (y : X) : Type 0 where
-  pub front : List X
-  pub was : xs ≡ front ++ x ∷ []
-  pub becomes : slice_set xs k y ≡ front ++ y ∷ []
-
-last_set : {X : Type 0} (xs : List X) (k : ℕ) (x y : X) → k ≡ length xs - 1 → 0 < length xs → x ≡ slice_index_or xs k x → LastSet xs k x y
-last_set [] k x y e h s = absurd (omega (arith, h))
-last_set (z ∷ []) zero x y e h s = record { front = []; was = ap (λ w. w ∷ []) (sym s); becomes = refl }
-last_set (z ∷ []) (suc k) x y e h s = absurd (omega (arith, e))
-last_set (z ∷ w ∷ xs) zero x y e h s = absurd (omega (arith, e))
-last_set (z ∷ w ∷ xs) (suc k) x y e h s =
-    let r = last_set (w ∷ xs) k x y (omega (arith, e)) (omega arith) s in
-    record { front = z ∷ r.front; was = ap (λ ws. z ∷ ws) r.was; becomes = ap (λ ws. z ∷ ws) r.becomes }
-
--- ## What each state keeps
-
-module _ (a b : Arena) where
-  -- states that stayed while the arena grew
-  pub around_kept : Extends a b → (ss : List Contents) → All (IsOpen a) ss → KeepsOn a b ss ss
-  around_kept g [] h = tt
-  around_kept g (s ∷ ss) h = (keeps_grown a b s g (All-head (IsOpen a) s ss h).stands, around_kept g ss (All-tail (IsOpen a) s ss h))
-
-  -- and so their contexts
-  pub around_same : Extends a b → (ss : List Contents) → All (IsOpen a) ss → contexts_around b ss ≡ contexts_around a ss
-  around_same g ss h = ap reverse (same_mapped (IsOpen a) (context_of b) (context_of a) ss (λ s w. same_context a b g s w.stands) h)
-
-  -- states of which each was marked after that
-  pub kept_marked : (ss ss' : List Contents) → KeepsOn a b ss ss' → KeepsOn a b ss (all_spent ss')
-  kept_marked [] [] h = tt
-  kept_marked [] (t ∷ ts) h = elim h [ ]
-  kept_marked (s ∷ ss) [] h = elim h [ ]
-  kept_marked (s ∷ ss) (t ∷ ts) h = (keeps_trans a b b s t (spent t) h.0 (keeps_marked b t t true refl h.0.stands), kept_marked ss ts h.1)
-
--- ## The states before and after a call on the innermost
-
-module _ (ss : List Contents) (k : ℕ) (s s' : Contents) (e : k ≡ length ss - 1) (h : 0 < length ss) (i : s ≡ slice_index_or ss k s) where
-  pub grew_on : (a a' : Arena) (p : Place) (f : Form) → All (IsOpen a) ss → Extends a a' → ((outer : List Contents) → ss ≡ outer ++ s ∷ [] → Grew a a' (contexts_around a outer) p s s' f) → GrewOn a a' p ss (slice_set ss k s') f
-  grew_on a a' p f o x g = let r = last_set ss k s s' e h i in record {
-    last = record { outer = r.front; old = s; new = s'; was = r.was; becomes = r.becomes };
-    around = around_same a a' x r.front (open_split a r.front s (subst (All (IsOpen a)) r.was o)).0;
-    grew = g r.front r.was;
-  }
-
-  pub kept_on : (a a' : Arena) → All (IsOpen a) ss → Keeps a a' s s' → KeepsOn a a' ss (slice_set ss k s')
-  kept_on a a' o w =
-      let r = last_set ss k s s' e h i in
-      let around : All (IsOpen a) r.front = (open_split a r.front s (subst (All (IsOpen a)) r.was o)).0 in
-      subst (KeepsOn a a' ss) (sym r.becomes) (subst (λ (xs : List Contents). KeepsOn a a' xs (r.front ++ s' ∷ [])) (sym r.was)
-      (AllZip-push (Keeps a a') r.front r.front s s' (around_kept a a' w.arena r.front around) w))
-
--- ## All are marked after that
-
-marked : (t : Contents) (front ts : List Contents) → ts ≡ front ++ t ∷ [] → all_spent ts ≡ all_spent front ++ spent t ∷ []
-marked t front ts w = ap all_spent w ∙ map-append spent front (t ∷ [])
-
--- where the innermost alone became another before
-module _ (ss : List Contents) (k : ℕ) (s s' : Contents) (e : k ≡ length ss - 1) (h : 0 < length ss) (i : s ≡ slice_index_or ss k s) where
-  pub refused_on : {M : Type 0} (a a' : Arena) (p : Place) (f : Form) (offset : ℕ) (x : Error M) →
-      ((outer : List Contents) → ss ≡ outer ++ s ∷ [] → MemoryOrCausedBy (call_checks s.features (tree_maker (names_of none_given) p) (stack_on a outer s) f) offset x) →
-      RefusedOn a a' p ss (all_spent (slice_set ss k s')) f offset x
-  refused_on a a' p f offset x g = let r = last_set ss k s s' e h i in record {
-    last = record { outer = r.front; old = s; new = spent s'; was = r.was; becomes = marked s' r.front (slice_set ss k s') r.becomes };
-    refused = (refl, record { names = none_given; given = none_made a a' p; caused = g r.front r.was });
-  }
+use Rattle.wcv_decls.specs.Stack.{all_spent, RefusedOn, KeepsOn}
 
 -- where no state became another before
 record Innermost (ss : List Contents) : Type 0 where

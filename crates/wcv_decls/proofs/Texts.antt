@@ -1,5 +1,5 @@
 -- Texts of a list, one after another.
-use Rattle.std.proofs.Common.{◌≡◌, ℕ, suc, ◌+◌, List, [], ◌∷◌, ◌++◌, take, drop, Some, sym, subst, inl, inr}
+use Rattle.std.proofs.Common.{◌≡◌, ◌<◌, ℕ, zero, suc, ◌+◌, List, [], ◌∷◌, ◌++◌, map, length, take, drop, slice_index_or, Some, sym, ap, arith, subst, inl, inr}
 use Rattle.std.specs.Prelude.{slice_get}
 use Rattle.wcv_core.specs.Refusal.{error_kind}
 use Rattle.wcv_core.specs.declared.error.Error.{Error}
@@ -10,6 +10,12 @@ use Rattle.wcv_lower.proofs.Causes.{cause_left}
 use Rattle.wcv_state.specs.Promises.{MemoryOrCausedBy}
 use Rattle.wcv_state.proofs.Calls.{caused_more}
 use Rattle.wcv_decls.proofs.Positions.{take-at, split-at}
+
+-- the name of an element
+pub named_at : {A : Type 0} (f : A → Text) (xs : List A) (k : ℕ) (x : A) → k < length xs → x ≡ slice_index_or xs k x → slice_get (map f xs) k ≡ Some (f x)
+named_at f [] k x h e = absurd (omega (arith, h))
+named_at f (y ∷ xs) zero x h e = ap (λ z. Some (f z)) (sym e)
+named_at f (y ∷ xs) (suc k) x h e = named_at f xs k x (omega (arith, h)) e
 
 one_more : (ts : List Text) (t : Text) → IsFree (each_too_long ts) → IsFree (too_long t) → IsFree (each_too_long (ts ++ t ∷ []))
 one_more [] t f g = (g.0, tt)

@@ -18,13 +18,12 @@ use Rattle.wcv_lower.specs.Trees.{tree_maker}
 use Rattle.wcv_state.specs.Contents.{Contents, spent, stack_of}
 use Rattle.wcv_state.specs.Promises.{MemoryOrCausedBy}
 use Rattle.wcv_state.proofs.Calls.{built_free}
+use Rattle.wcv_state.proofs.Stacks.{none_made, around_same}
 use Rattle.wcv_decls.specs.Declaring.{innermost, around, stack_in, AreReady, StayReady, SameAround, MemoryOr, ReadsType, RefusesType, RefusesItem}
 use Rattle.wcv_decls.specs.Items.{TypeCaused}
 use Rattle.wcv_decls.specs.Stack.{IsOpen, AreCalm, all_spent, DeclaresOn, RefusesOn, KeepsOn, contexts_around}
 use Rattle.wcv_decls.proofs.InnermostStates.{parted, open_here, open_around, calm_here}
-use Rattle.wcv_decls.proofs.Naming.{none_made}
 use Rattle.wcv_decls.proofs.ReadingOn.{extends_on}
-use Rattle.wcv_decls.proofs.Stacks.{around_same}
 
 -- states as a trait sees them
 pub states_ready : (a : Arena) (ss : List Contents) → 0 < length ss → All (IsOpen a) (map (λ x. x) ss) → AreCalm a (map (λ x. x) ss) → AreReady a ss

@@ -24,10 +24,10 @@ use Rattle.wcv_lower.proofs.DeclaredGlued.{instance_read, component_read, instan
 use Rattle.wcv_state.specs.Contents.{Contents, spent, context_of}
 use Rattle.wcv_state.specs.Promises.{MemoryOrCausedBy, numbers_of}
 use Rattle.wcv_state.proofs.Keeping.{same_context}
+use Rattle.wcv_state.proofs.Stacks.{none_made}
 use Rattle.wcv_decls.specs.Declaring.{innermost, around, features_in, stack_in, top_in, AreReady, StayReady, SameAround, IsInstanceBody, DeclaresInstance, Opened, ReadsType, ReadsDecls, MemoryOr, RefusesType, RefusesDecls, Ends}
 use Rattle.wcv_decls.specs.Stack.{all_spent, KeepsOn}
 use Rattle.wcv_decls.proofs.InnermostStates.{open_here}
-use Rattle.wcv_decls.proofs.Naming.{none_made}
 use Rattle.wcv_decls.proofs.Opening.{opened_stack}
 use Rattle.wcv_decls.proofs.ReadingOn.{grown_numbers, extends_on, kept_both, around_of_kept, end_refused}
 

@@ -7,7 +7,7 @@ use Rattle.wcv_syntax.specs.ModuleTypes.{Module_type, empty_module, all_declared
 use Rattle.wcv_types.specs.Arena.{Arena}
 use Rattle.wcv_types.specs.Rebuild.{given_types}
 use Rattle.wcv_types.specs.Standing.{Stands, Extends}
-use Rattle.wcv_types.specs.Unfold.{tree_at}
+use Rattle.wcv_types.specs.Unfold.{Type_tree, tree_at}
 use Rattle.wcv_types.specs.declared.ids.ComponentCoreModuleTypeId.{ComponentCoreModuleTypeId}
 use Rattle.wcv_types.specs.declared.ids.ComponentCoreTypeId.TheVariants as core_type
 use Rattle.wcv_types.specs.declared.ids.Part.TheVariants as part
@@ -41,13 +41,17 @@ abbrev pub with_module : ModuleSpace → ComponentCoreModuleTypeId → Contents 
 with_module space.CoreTypes i s = with_core core_types (core_type.Module i) s
 with_module space.CoreModules i s = with_core core_modules i s
 
--- it is, and joined a space of core items
-pub record JoinedModule (k : Core_space) (a b : Arena) (s s' : Contents) (m : Module_type) : Type 0 where
-  pub grown : context_of b s' ≡ push_core k (module_tree (number (length a.nodes)) m) (context_of a s)
+-- a core item of that tree joined a space, with one node of the arena
+pub record JoinedCore (k : Core_space) (a b : Arena) (s s' : Contents) (t : Type_tree) : Type 0 where
+  pub grown : context_of b s' ≡ push_core k t (context_of a s)
   pub nodes : length b.nodes ≡ suc (length a.nodes)
   pub core : b.core ≡ a.core
   pub live : s'.spent ≡ false
   pub keeps : Keeps a b s s'
+
+-- the type of a module did
+abbrev pub JoinedModule : Core_space → Arena → Arena → Contents → Contents → Module_type → Type 0
+JoinedModule k a b s s' m = JoinedCore k a b s s' (module_tree (number (length a.nodes)) m)
 
 -- the module that declarations make, where the innermost of the states stands
 abbrev pub MadeIn : Arena → Arena → List Contents → List Module_decl → Module_type → Type 0

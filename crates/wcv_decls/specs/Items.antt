@@ -3,30 +3,26 @@ use Rattle.std.specs.Prelude.{ℕ, suc, List, Bool, false, Some, length, ◌≡�
 use Rattle.wcv_core.specs.Names.{Place, number}
 use Rattle.wcv_core.specs.declared.error.Error.{Error}
 use Rattle.wcv_core.specs.declared.features.WasmFeatures.{WasmFeatures}
-use Rattle.wcv_syntax.specs.Built.{is_plain_type, is_built_type}
+use Rattle.wcv_syntax.specs.Built.{is_built_type}
 use Rattle.wcv_syntax.specs.Model.{Type_form, type_item}
 use Rattle.wcv_types.specs.Arena.{Arena}
 use Rattle.wcv_types.specs.Unfold.{tree_of, trees}
 use Rattle.wcv_types.specs.declared.arena.Node.{Node}
 use Rattle.wcv_lower.specs.Checks.{Checks, IsFree}
-use Rattle.wcv_lower.specs.Context.{Context, Stack, in_types, push}
+use Rattle.wcv_lower.specs.Context.{Stack, in_types, push}
 use Rattle.wcv_lower.specs.Declared.{Makers, read_type, declared_checks}
 use Rattle.wcv_lower.specs.Given.{GivenNames, names_of, GivesAt}
 use Rattle.wcv_lower.specs.Growth.{grow}
 use Rattle.wcv_lower.specs.Names.{Under}
-use Rattle.wcv_lower.specs.Readers.{Reader, New_node, Maker}
+use Rattle.wcv_lower.specs.Readers.{Reader, New_node}
 use Rattle.wcv_lower.specs.Trees.{Tree_context, tree_reader, tree_maker, node_tree, type_entry}
-use Rattle.wcv_lower.specs.Types.{type_made, type_checks}
+use Rattle.wcv_lower.specs.Types.{type_made}
 use Rattle.wcv_state.specs.Contents.{Contents, context_of, stack_of}
 use Rattle.wcv_state.specs.Promises.{MemoryOrCausedBy, numbers_of, Keeps, if_built}
 
 -- the causes of a type item, where the number of types is looked at if `limited` says so
 abbrev pub declare_checks : {X : Reader} → Bool → WasmFeatures → Makers X → Place → Stack X → Type_form → Checks
 declare_checks limited fs mk p s t = if_built (is_built_type t) (declared_checks limited fs mk p s t)
-
--- so of one that is made in one step
-abbrev pub plain_checks : {X : Reader} → Bool → WasmFeatures → Maker X → Context X → Type_form → Checks
-plain_checks limited fs mk c t = if_built (is_plain_type t) (type_checks limited fs mk c t)
 
 -- the node is the arena's next one, and joined the types
 pub record Stored (a b : Arena) (s s' : Contents) (x : Node) : Type 0 where

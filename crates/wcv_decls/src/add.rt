@@ -1,16 +1,16 @@
 // Type items of each form.
-ghost use Rattle.std.specs.Prelude.{◌≡◌, [], true, false, cond, OnOk, OnErr, IfErr};
+ghost use Rattle.std.specs.Prelude.{◌≡◌, [], true, false, List, cond, OnOk, OnErr, IfErr};
 ghost use Rattle.wcv_core.specs.Names.{Place};
 ghost use Rattle.wcv_syntax.specs.Built.{is_plain_type};
 ghost use Rattle.wcv_syntax.specs.Model.{defined_type, func_type};
 ghost use Rattle.wcv_syntax.specs.View.{defined_view, func_view, type_view};
 ghost use Rattle.wcv_lower.specs.Checks.{IsFree};
-ghost use Rattle.wcv_lower.specs.Defined.{own_checks};
+ghost use Rattle.wcv_lower.specs.Defined.{own_checks, defined_checks};
 ghost use Rattle.wcv_lower.specs.Names.{Names};
-ghost use Rattle.wcv_lower.specs.Trees.{tree_maker};
+ghost use Rattle.wcv_lower.specs.Trees.{Tree_context, tree_maker};
 ghost use Rattle.wcv_lower.specs.Values.{lacks, cm_async};
-ghost use Rattle.wcv_lower.specs.Types.{func_own_checks, tree_checks};
-ghost use Rattle.wcv_state.specs.Contents.{context_of, StateStands};
+ghost use Rattle.wcv_lower.specs.Types.{func_own_checks, func_checks, tree_checks};
+ghost use Rattle.wcv_state.specs.Contents.{context_of, stack_of, StateStands};
 ghost use Rattle.wcv_state.specs.Promises.{MemoryOrCausedBy, Keeps};
 ghost use Rattle.wcv_decls.specs.Items.{Added, Declares};
 
@@ -55,8 +55,8 @@ fn add_defined(
     requires live { state.old.spent ≡ false }
     requires stands { StateStands types.old state.old }
     ensures ok { OnOk result (Added types.old types.new state.old state.new (defined_type (defined_view ty))) }
-    ensures free { OnOk result ((n : Names) (p : Place) → IsFree (tree_checks state.old.features (tree_maker n p) (context_of types.old state.old) (defined_type (defined_view ty)))) }
-    ensures err { IfErr result (λ e. (n : Names) (p : Place) → MemoryOrCausedBy (tree_checks state.old.features (tree_maker n p) (context_of types.old state.old) (defined_type (defined_view ty))) offset e) }
+    ensures free { OnOk result ((n : Names) (p : Place) → IsFree (defined_checks state.old.features (tree_maker n p) (context_of types.old state.old) (defined_view ty))) }
+    ensures err { IfErr result (λ e. (n : Names) (p : Place) → MemoryOrCausedBy (defined_checks state.old.features (tree_maker n p) (context_of types.old state.old) (defined_view ty)) offset e) }
     ensures keeps { OnErr result (Keeps types.old types.new state.old state.new) }
 {
     let alloc = types.allocator();
@@ -103,8 +103,8 @@ fn add_func(
     requires live { state.old.spent ≡ false }
     requires stands { StateStands types.old state.old }
     ensures ok { OnOk result (Added types.old types.new state.old state.new (func_type (func_view func))) }
-    ensures free { OnOk result ((n : Names) (p : Place) → IsFree (tree_checks state.old.features (tree_maker n p) (context_of types.old state.old) (func_type (func_view func)))) }
-    ensures err { IfErr result (λ e. (n : Names) (p : Place) → MemoryOrCausedBy (tree_checks state.old.features (tree_maker n p) (context_of types.old state.old) (func_type (func_view func))) offset e) }
+    ensures free { OnOk result ((n : Names) (p : Place) → IsFree (func_checks state.old.features (tree_maker n p) (context_of types.old state.old) (func_view func))) }
+    ensures err { IfErr result (λ e. (n : Names) (p : Place) → MemoryOrCausedBy (func_checks state.old.features (tree_maker n p) (context_of types.old state.old) (func_view func)) offset e) }
     ensures keeps { OnErr result (Keeps types.old types.new state.old state.new) }
 {
     let alloc = types.allocator();
@@ -125,14 +125,14 @@ pub fn add_plain(
     requires stands { StateStands types.old state.old }
     requires plain { is_plain_type (type_view ty) ≡ true }
     ensures ok { OnOk result (Declares types.old types.new state.old state.new (type_view ty)) }
-    ensures free { OnOk result ((n : Names) (p : Place) → IsFree (tree_checks state.old.features (tree_maker n p) (context_of types.old state.old) (type_view ty))) }
-    ensures err { IfErr result (λ e. (n : Names) (p : Place) → MemoryOrCausedBy (tree_checks state.old.features (tree_maker n p) (context_of types.old state.old) (type_view ty)) offset e) }
+    ensures free { OnOk result ((outer : List Tree_context) (n : Names) (p : Place) → IsFree (tree_checks state.old.features (tree_maker n p) (stack_of types.old state.old outer) (type_view ty))) }
+    ensures err { IfErr result (λ e. (outer : List Tree_context) (n : Names) (p : Place) → MemoryOrCausedBy (tree_checks state.old.features (tree_maker n p) (stack_of types.old state.old outer) (type_view ty)) offset e) }
     ensures keeps { OnErr result (Keeps types.old types.new state.old state.new) }
 {
     match ty {
         ComponentType::Defined(ty) => add_defined(ty, state, types, offset),
         ComponentType::Func(func) => add_func(func, state, types, offset),
-        ComponentType::Resource { rep, .. } => add_resource(rep, state, types, offset),
+        ComponentType::Resource { rep, dtor } => add_resource(rep, dtor, state, types, offset),
         _ => unreachable!(),
     }
 }

@@ -2,6 +2,7 @@
 ghost use Rattle.std.specs.Prelude.{◌≡◌, ◌<◌, ◌≤◌, false, map, length, All, OnOk, OnErr, IfOk, IfErr};
 ghost use Rattle.wcv_core.specs.Refusal.{error_kind};
 ghost use Rattle.wcv_core.specs.declared.error.ErrorKind.TheVariants as kinds;
+ghost use Rattle.wcv_types.specs.ByName.{NamesDiffer};
 ghost use Rattle.wcv_types.specs.ComponentTrees.{ResourceStands};
 ghost use Rattle.wcv_types.specs.Entities.{entry_trees, EntryStands};
 ghost use Rattle.wcv_types.specs.Led.{HasPath};
@@ -123,6 +124,7 @@ fn instance_of(ty: ComponentType, types: &TypeAlloc) -> Result<ComponentInstance
     requires exports { All (EntryStands types.now) ty.exports }
     requires owned { All (λ p. ResourceStands types.now p.0) ty.defined_resources }
     requires led { All (HasPath (entry_trees (trees types.now.nodes) ty.exports)) (resource_names (firsts ty.defined_resources)) }
+    requires apart { NamesDiffer ty.exports }
     ensures fits { IfOk result (λ made. Fits types.now (node.Instance made)) }
     ensures resources { IfOk result (λ made. made.defined_resources ≡ firsts ty.defined_resources) }
     ensures exports { IfOk result (λ made. made.exports ≡ ty.exports) }

@@ -1,11 +1,12 @@
 // Core type items, over the states that are open.
 ghost use Rattle.std.specs.Prelude.{◌≡◌, ◌<◌, suc, false, List, [], ◌∷◌, ◌++◌, All, length, map, IfOk, OnOk, OnErr, IfErr};
+ghost use Rattle.wcv_core.specs.CoreForm.{group_form};
 ghost use Rattle.wcv_core.specs.CoreGroups.{total};
 ghost use Rattle.wcv_core.specs.CoreSizes.{IsEntityWithin};
 ghost use Rattle.wcv_core.specs.Names.{Place};
 ghost use Rattle.wcv_module.specs.Kept.{module_items};
 ghost use Rattle.wcv_syntax.specs.Model.{core_type_item, core_rec, core_module_type};
-ghost use Rattle.wcv_syntax.specs.View.{rec_view, module_decl_view, core_type_view};
+ghost use Rattle.wcv_syntax.specs.View.{module_decl_view, core_type_view};
 ghost use Rattle.wcv_types.specs.CoreCalls.{with_core};
 ghost use Rattle.wcv_types.specs.Standing.{Extends, entity_sizes};
 ghost use Rattle.wcv_lower.specs.Growth.{call_checks};
@@ -17,11 +18,10 @@ ghost use Rattle.wcv_decls.specs.CoreItems.{MadeIn, FreeIn, CausedIn};
 ghost use Rattle.wcv_decls.specs.Stack.{IsOpen, GrewOn, RefusedOn, KeepsOn};
 
 use crate::core_module::{ModuleSpace, join_module};
-use crate::marks::mark_all_spent;
 use crate::room::{check_core_types, check_types};
 use wcv_core::{Error, RecGroup};
 use wcv_module::{Enclosing, Module};
-use wcv_state::ComponentState;
+use wcv_state::{ComponentState, mark_all_spent};
 use wcv_syntax::{CoreType, ModuleTypeDeclaration};
 use wcv_types::TypeAlloc;
 
@@ -34,8 +34,8 @@ fn add_group(
 ) -> Result<(), Error>
     requires live { state.old.spent ≡ false }
     requires stands { StateStands types.old state.old }
-    ensures ok { OnOk result ((outer : List Tree_context) (p : Place) → Grew types.old types.new outer p state.old state.new (core_type_item (core_rec (rec_view rec)))) }
-    ensures err { IfErr result (λ e. (outer : List Tree_context) (n : Names) (p : Place) → MemoryOrCausedBy (call_checks state.old.features (tree_maker n p) (stack_of types.old state.old outer) (core_type_item (core_rec (rec_view rec)))) offset e) }
+    ensures ok { OnOk result ((outer : List Tree_context) (p : Place) → Grew types.old types.new outer p state.old state.new (core_type_item (core_rec (group_form rec)))) }
+    ensures err { IfErr result (λ e. (outer : List Tree_context) (n : Names) (p : Place) → MemoryOrCausedBy (call_checks state.old.features (tree_maker n p) (stack_of types.old state.old outer) (core_type_item (core_rec (group_form rec)))) offset e) }
     ensures keeps { Keeps types.old types.new state.old state.new }
 {
     check_core_types(rec.types.len(), state, types, offset)?;
@@ -90,8 +90,8 @@ fn add_group_on(
 ) -> Result<(), Error>
     requires some { 0 < length components.old }
     requires open { All (IsOpen types.old) components.old }
-    ensures ok { OnOk result ((p : Place) → GrewOn types.old types.new p components.old components.new (core_type_item (core_rec (rec_view rec)))) }
-    ensures err { IfErr result (λ e. (p : Place) → RefusedOn types.old types.new p components.old components.new (core_type_item (core_rec (rec_view rec))) offset e) }
+    ensures ok { OnOk result ((p : Place) → GrewOn types.old types.new p components.old components.new (core_type_item (core_rec (group_form rec)))) }
+    ensures err { IfErr result (λ e. (p : Place) → RefusedOn types.old types.new p components.old components.new (core_type_item (core_rec (group_form rec))) offset e) }
     ensures keeps { KeepsOn types.old types.new components.old components.new }
 {
     let last = components.len() - 1;

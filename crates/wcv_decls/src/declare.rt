@@ -1,13 +1,13 @@
 // Types that are made in one step.
-ghost use Rattle.std.specs.Prelude.{◌≡◌, true, false, OnOk, OnErr, IfErr};
+ghost use Rattle.std.specs.Prelude.{◌≡◌, true, false, List, OnOk, OnErr, IfErr};
 ghost use Rattle.wcv_core.specs.Names.{Place};
 ghost use Rattle.wcv_syntax.specs.Built.{is_plain_type};
 ghost use Rattle.wcv_syntax.specs.View.{type_view};
 ghost use Rattle.wcv_lower.specs.Checks.{IsFree};
 ghost use Rattle.wcv_lower.specs.Names.{Names};
-ghost use Rattle.wcv_lower.specs.Trees.{tree_maker};
+ghost use Rattle.wcv_lower.specs.Trees.{Tree_context, tree_maker};
 ghost use Rattle.wcv_lower.specs.Types.{type_checks};
-ghost use Rattle.wcv_state.specs.Contents.{context_of, StateStands};
+ghost use Rattle.wcv_state.specs.Contents.{stack_of, StateStands};
 ghost use Rattle.wcv_state.specs.Promises.{MemoryOrCausedBy, Keeps};
 ghost use Rattle.wcv_decls.specs.Declaring.{AreReady, StayReady, DeclaresInstance, MemoryOr, SameAround, ReadsType, RefusesType};
 ghost use Rattle.wcv_decls.specs.Items.{Declares};
@@ -33,8 +33,8 @@ fn declare(
     requires stands { StateStands types.old state.old }
     requires plain { is_plain_type (type_view ty) ≡ true }
     ensures ok { OnOk result (Declares types.old types.new state.old state.new (type_view ty)) }
-    ensures free { OnOk result ((n : Names) (p : Place) → IsFree (type_checks check_limit state.old.features (tree_maker n p) (context_of types.old state.old) (type_view ty))) }
-    ensures err { IfErr result (λ e. (n : Names) (p : Place) → MemoryOrCausedBy (type_checks check_limit state.old.features (tree_maker n p) (context_of types.old state.old) (type_view ty)) offset e) }
+    ensures free { OnOk result ((outer : List Tree_context) (n : Names) (p : Place) → IsFree (type_checks check_limit state.old.features (tree_maker n p) (stack_of types.old state.old outer) (type_view ty))) }
+    ensures err { IfErr result (λ e. (outer : List Tree_context) (n : Names) (p : Place) → MemoryOrCausedBy (type_checks check_limit state.old.features (tree_maker n p) (stack_of types.old state.old outer) (type_view ty)) offset e) }
     ensures keeps { OnErr result (Keeps types.old types.new state.old state.new) }
 {
     check_types(check_limit, state, types, offset)?;

@@ -18,7 +18,6 @@ mod func;
 mod limits;
 mod lists;
 mod lower;
-mod marks;
 mod name_texts;
 mod names;
 mod number;
@@ -31,7 +30,9 @@ mod stack;
 mod store;
 mod values;
 
-pub use core_limits::{check_core_limits, check_core_module_limits};
+pub use core_limits::{
+    check_alias_limits, check_core_limits, check_core_module_limits, check_instance_limits,
+};
 pub use core_module::add_core_module_to;
 pub use declared_limits::check_declared_limits;
 pub use limits::check_limits;

@@ -19,10 +19,9 @@ ghost use Rattle.wcv_decls.specs.Stack.{IsOpen, AreCalm, DeclaresOn, RefusesOn, 
 use crate::core_module::{ModuleSpace, join_module};
 use crate::core_type::add_core_type_on;
 use crate::declared::declare_type;
-use crate::marks::mark_all_spent;
 use wcv_core::Error;
 use wcv_module::Module;
-use wcv_state::{ComponentState, check_form};
+use wcv_state::{ComponentState, check_form, mark_all_spent};
 use wcv_syntax::{ComponentType, CoreType, TypeForm, is_built_type};
 use wcv_types::TypeAlloc;
 

@@ -5,10 +5,10 @@ use Rattle.wcv_types.specs.declared.arena.Node.TheVariants as n
 use Rattle.wcv_types.proofs.Grown.{extends_refl}
 use Rattle.wcv_lower.specs.Context.{declares_component}
 use Rattle.wcv_state.specs.Contents.{Contents, StateStands}
+use Rattle.wcv_state.proofs.Stacks.{around_kept}
 use Rattle.wcv_decls.specs.Declaring.{innermost, around, SameAround, Ends}
 use Rattle.wcv_decls.specs.Stack.{IsOpen, all_spent, stay, ChangesLast, KeepsOn}
 use Rattle.wcv_decls.proofs.InnermostStates.{indexed, last_changed, open_here, open_around, kept, marks_same}
-use Rattle.wcv_decls.proofs.Stacks.{around_kept}
 use Rattle.wcv_decls.proofs.Closing.{type_ends, finished_fits, node_at_end, component_tree_same}
 use Rattle.wcv_decls.proofs.close.end_component_type.Goals as goal
 

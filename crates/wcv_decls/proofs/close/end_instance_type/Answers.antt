@@ -5,10 +5,10 @@ use Rattle.wcv_types.proofs.Grown.{extends_refl}
 use Rattle.wcv_lower.specs.Ending.{instance_made}
 use Rattle.wcv_lower.specs.Context.{declares_instance}
 use Rattle.wcv_state.specs.Contents.{Contents, context_of, StateStands}
+use Rattle.wcv_state.proofs.Stacks.{around_kept}
 use Rattle.wcv_decls.specs.Declaring.{innermost, around, SameAround, Ends}
 use Rattle.wcv_decls.specs.Stack.{IsOpen, all_spent, stay, ChangesLast, KeepsOn}
 use Rattle.wcv_decls.proofs.InnermostStates.{indexed, last_changed, open_here, open_around, kept, marks_same}
-use Rattle.wcv_decls.proofs.Stacks.{around_kept}
 use Rattle.wcv_decls.proofs.Closing.{type_ends}
 use Rattle.wcv_decls.proofs.InstanceNodes.{owned_led, instance_same, memory_alone}
 use Rattle.wcv_decls.proofs.close.end_instance_type.Goals as goal
@@ -115,6 +115,10 @@ instance_of-requires-clause-owned c =
 pub instance_of-requires-clause-led : goal.instance_of-requires-clause-led
 instance_of-requires-clause-led c =
     owned_led c.args.types.now (innermost c.args.components.now.items) c.in_ok-pop_type.field-0 c.in_ok-pop_type.ensures.ok c.requires.declares
+
+pub instance_of-requires-clause-apart : goal.instance_of-requires-clause-apart
+instance_of-requires-clause-apart c =
+    c.in_ok-pop_type.ensures.ok.apart.1
 
 pub store_instance-requires-clause-fits : goal.store_instance-requires-clause-fits
 store_instance-requires-clause-fits c =

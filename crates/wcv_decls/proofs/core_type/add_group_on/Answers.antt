@@ -1,10 +1,10 @@
 use Rattle.std.proofs.Common.{◌≡◌, ℕ, ◌-◌, List, length, refl, sym, subst, slice_index_or, slice_set}
 use Rattle.wcv_syntax.specs.Model.{Form, core_type_item, core_rec}
-use Rattle.wcv_syntax.specs.View.{rec_view}
+use Rattle.wcv_core.specs.CoreForm.{group_form}
 use Rattle.wcv_lower.specs.Given.{names_of, none_given}
 use Rattle.wcv_state.specs.Contents.{Contents}
+use Rattle.wcv_state.proofs.Stacks.{grew_on, refused_on, kept_on, kept_marked}
 use Rattle.wcv_decls.specs.Stack.{RefusedOn, KeepsOn, contexts_around}
-use Rattle.wcv_decls.proofs.Stacks.{grew_on, refused_on, kept_on, kept_marked}
 use Rattle.wcv_decls.proofs.core_type.add_group_on.Goals as goal
 
 pub returns-in-Ok-clause-ok : goal.returns-in-Ok-clause-ok
@@ -13,7 +13,7 @@ returns-in-Ok-clause-ok c =
     let r = c.index-components-last.result in
     let k : ℕ = length ss - 1 in
     let same : slice_index_or ss k r ≡ slice_index_or ss k (slice_index_or ss k r) = cc (c.index-components-last.is) in
-    λ p. grew_on ss k (slice_index_or ss k r) c.add_group.new.state refl c.requires.some same c.args.types.now c.add_group.new.types p (core_type_item (core_rec (rec_view c.args.rec))) c.requires.open c.add_group.ensures.keeps.arena (λ outer e. c.in-Ok.ensures.ok (contexts_around c.args.types.now outer) p)
+    λ p. grew_on ss k (slice_index_or ss k r) c.add_group.new.state refl c.requires.some same c.args.types.now c.add_group.new.types p (core_type_item (core_rec (group_form c.args.rec))) c.requires.open c.add_group.ensures.keeps.arena (λ outer e. c.in-Ok.ensures.ok (contexts_around c.args.types.now outer) p)
 
 pub returns-in-Ok-clause-keeps : goal.returns-in-Ok-clause-keeps
 returns-in-Ok-clause-keeps c =
@@ -30,7 +30,7 @@ returns-in-Err-clause-err c =
     let ss = c.args.components.now in
     let r = c.index-components-last.result in
     let k : ℕ = length ss - 1 in
-    let f : Form = core_type_item (core_rec (rec_view c.args.rec)) in
+    let f : Form = core_type_item (core_rec (group_form c.args.rec)) in
     let same : slice_index_or ss k r ≡ slice_index_or ss k (slice_index_or ss k r) = cc (c.index-components-last.is) in
     λ p. subst (λ (ts : List Contents). RefusedOn a b p ss ts f c.args.offset c.in-Err.error) (sym c.mark_all_spent.ensures)
     (refused_on ss k (slice_index_or ss k r) c.add_group.new.state refl c.requires.some same a b p f c.args.offset c.in-Err.error (λ outer e. c.in-Err.ensures.err (contexts_around a outer) (names_of none_given) p))

@@ -6,10 +6,10 @@ use Rattle.wcv_lower.specs.Context.{core_types}
 use Rattle.wcv_state.specs.Contents.{Contents, StateStands}
 use Rattle.wcv_state.specs.Promises.{Keeps}
 use Rattle.wcv_state.proofs.Keeping.{state_stands, keeps_grown, keeps_trans}
+use Rattle.wcv_state.proofs.Stacks.{last_stands, grew_on, refused_on, kept_on, kept_marked, around_kept}
 use Rattle.wcv_decls.specs.Stack.{RefusedOn, KeepsOn}
-use Rattle.wcv_decls.proofs.CoreEntries.{last_stands}
 use Rattle.wcv_decls.proofs.CoreModules.{module_type_grew, module_keeps}
-use Rattle.wcv_decls.proofs.Stacks.{grew_on, refused_on, refused_before, kept_on, kept_marked, around_kept}
+use Rattle.wcv_decls.proofs.Stacks.{refused_before}
 use Rattle.wcv_decls.proofs.core_type.add_module_type_on.Goals as goal
 
 pub join_module-requires-clause-stands : goal.join_module-requires-clause-stands

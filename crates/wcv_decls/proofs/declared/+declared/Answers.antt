@@ -13,11 +13,11 @@ use Rattle.wcv_types.proofs.Grown.{extends_refl}
 use Rattle.wcv_lower.specs.Context.{declares_instance, declares_component}
 use Rattle.wcv_lower.proofs.DeclaredDoes.{inside_built}
 use Rattle.wcv_state.specs.Contents.{Contents}
+use Rattle.wcv_state.proofs.Stacks.{around_kept}
 use Rattle.wcv_decls.specs.Declaring.{around, SameAround, MemoryOr, ReadsType, ReadsDecl, RefusesType, RefusesDecl, RefusesDecls}
 use Rattle.wcv_decls.specs.Stack.{all_spent, KeepsOn}
 use Rattle.wcv_decls.proofs.FormSizes.{type_size, decl_size, decls_size, first_smaller, rest_smaller}
 use Rattle.wcv_decls.proofs.ReadingOn.{SoFar, so_far_start, so_far_next, so_far_all, so_far_refused, built_first, nothing_left, refused_same, kept_both, extends_on, grown_numbers}
-use Rattle.wcv_decls.proofs.Stacks.{around_kept}
 use Rattle.wcv_decls.proofs.Whole.{component_barred, instance_barred, same_states, marks_around, kept_around, whole_stays, whole_declares, component_whole, instance_whole, component_inside_refused, instance_inside_refused, component_end_refused, opened_body}
 use Rattle.wcv_decls.proofs.declared.+declared.Goals as goal
 

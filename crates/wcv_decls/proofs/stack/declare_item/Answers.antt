@@ -3,7 +3,7 @@ use Rattle.std.proofs.lemmas.Result.{err_from_is_err_and, on_ok_weaker, IfErr-we
 use Rattle.wcv_syntax.specs.Built.{is_built_type}
 use Rattle.wcv_syntax.specs.View.{type_view}
 use Rattle.wcv_types.proofs.Grown.{extends_refl}
-use Rattle.wcv_decls.proofs.Stacks.{around_kept}
+use Rattle.wcv_state.proofs.Stacks.{around_kept}
 use Rattle.wcv_decls.proofs.TypesOn.{built_refused, unbuilt_refused}
 use Rattle.wcv_decls.proofs.stack.declare_item.Goals as goal
 

@@ -2,10 +2,11 @@ use Rattle.std.proofs.Common.{List, sym, subst}
 use Rattle.wcv_syntax.specs.View.{type_view}
 use Rattle.wcv_types.proofs.Lists.{map-id}
 use Rattle.wcv_state.specs.Contents.{Contents}
+use Rattle.wcv_state.proofs.Stacks.{kept_marked}
 use Rattle.wcv_decls.specs.Declaring.{AreReady}
 use Rattle.wcv_decls.specs.Stack.{AreCalm, DeclaresOn, RefusesOn, KeepsOn}
 use Rattle.wcv_decls.proofs.InnermostStates.{calm_all}
-use Rattle.wcv_decls.proofs.Stacks.{kept_marked, written_back, both_mapped}
+use Rattle.wcv_decls.proofs.Stacks.{written_back, both_mapped}
 use Rattle.wcv_decls.proofs.TypesOn.{states_ready, declares_on, refuses_on}
 use Rattle.wcv_decls.proofs.stack.ComponentStateDeclare.add_type.Goals as goal
 
