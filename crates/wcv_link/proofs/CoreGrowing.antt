@@ -1,7 +1,8 @@
 -- What core items do to a context: they list no resource, and nothing is free in what they bring.
-use Rattle.std.proofs.Common.{◌≡◌, ℕ, List, [], ◌∷◌, Bool, true, false, refl, subst, Some, None, inl, inr}
+use Rattle.std.proofs.Common.{◌≡◌, ℕ, List, [], ◌∷◌, Bool, true, false, not, refl, subst, Some, None, inl, inr}
 use Rattle.std.specs.Prelude.{Option, cond}
-use Rattle.std.specs.Option.{option_map}
+use Rattle.std.specs.Option.{option_map, option_and_then}
+use Rattle.std.specs.List.{list_all}
 use Rattle.std.proofs.lemmas.List.Elements.{All-nil}
 use Rattle.wcv_core.specs.CoreForm.{Group}
 use Rattle.wcv_core.specs.CoreJoining.{group_ids, grown}
@@ -9,19 +10,25 @@ use Rattle.wcv_core.specs.CoreWritten.{closed_group}
 use Rattle.wcv_core.specs.Names.{Name, Place, base}
 use Rattle.wcv_core.specs.declared.core_types.EntityType.{EntityType}
 use Rattle.wcv_core.specs.declared.features.WasmFeatures.{WasmFeatures}
-use Rattle.wcv_syntax.specs.Model.{Core_type_form, core_rec, core_module_type, Module_decl}
-use Rattle.wcv_syntax.specs.ModuleTypes.{Module_type, Made, written_group}
+use Rattle.wcv_syntax.specs.Model.{Core_type_form, core_rec, core_module_type, Module_decl, Core_instance_form, core_instantiate, core_bag}
+use Rattle.wcv_syntax.specs.declared.core_section.Export.{Export}
+use Rattle.wcv_syntax.specs.declared.core_section.ExternalKind.{ExternalKind}
+use Rattle.wcv_syntax.specs.declared.core_section.InstantiationArg.{InstantiationArg}
+use Rattle.wcv_syntax.specs.ModuleTypes.{Module_type, Made}
 use Rattle.wcv_types.specs.Resources.{FreeIn}
-use Rattle.wcv_types.specs.Tree.{Text, core_imports, core_exports, sub_type, none}
+use Rattle.wcv_types.specs.Tree.{Text, core_imports, core_exports, core_item, sub_type, node, none}
 use Rattle.wcv_types.proofs.Lists.{some-inj}
-use Rattle.wcv_lower.specs.Context.{Core_space, core_types, core_modules, exporting}
+use Rattle.wcv_lower.specs.Checks.{is_none}
+use Rattle.wcv_lower.specs.Context.{Core_space, core_types, core_modules, core_instances, exporting}
+use Rattle.wcv_lower.specs.CoreInstances.{space_of, core_module_at, core_instance_at, item_listed, items_listed, listed_size, core_instance_made, instance_joins, core_instance_step, core_export_of, if_of, item_joins, core_alias_step}
 use Rattle.wcv_lower.specs.CoreItems.{core_entries, is_closable, types_join, closed_step, module_joins, core_type_made, core_module_made, core_type_step, core_module_step}
 use Rattle.wcv_lower.specs.Names.{names_by_place}
 use Rattle.wcv_lower.specs.Step.{core_appends, interns, Step, change, apply}
-use Rattle.wcv_lower.specs.Trees.{Tree_stack, tree_reader, tree_maker, module_tree}
+use Rattle.wcv_lower.specs.Readers.{New_node, core_instance_node, core_exports_node}
+use Rattle.wcv_lower.specs.Trees.{Type_tree, Tree_stack, tree_reader, tree_maker, module_tree, node_tree, of_module, of_items}
 use Rattle.wcv_lower.proofs.Bringing.{Brings, AllBring, brings_one, brings_more}
 use Rattle.wcv_link.proofs.Growing.{Ready, Does, SameLists, same-does}
-use Rattle.wcv_link.proofs.Known.{mapped-some, Fine, Within, Any, After}
+use Rattle.wcv_link.proofs.Known.{mapped-some, all-get, Fine, Within, In, Any, After, in-apply}
 
 -- nothing is free in what a core module imports and exports
 exports-closed : (r : Name) (es : List (Text × EntityType)) → FreeIn {I = Name} r (core_exports es none) → ⊥
@@ -43,6 +50,24 @@ module-closed P i m r (inr x) = absurd (imports-closed r m.imports m.exports x.1
 sub-closed : (P : Name → Type 0) (i : ℕ) → Within P (sub_type i)
 sub-closed P i r (inl x) = absurd x
 sub-closed P i r (inr x) = absurd x.1
+
+item-closed : (P : Name → Type 0) (e : EntityType) → Within P (node (core_item e) none)
+item-closed P e r (inl x) = absurd x
+item-closed P e r (inr x) = absurd x.1
+
+-- so in a core instance that lists core items; in one of a core module, what is free in that
+listed-closed : (P : Name → Type 0) (i : Name) (n : ℕ) (es : List (Text × EntityType)) → Within P (of_items i n es)
+listed-closed P i n es r (inl x) = absurd x
+listed-closed P i n es r (inr x) = absurd (exports-closed r es x.1)
+
+of_module-within : (P : Name → Type 0) (i : Name) (t : Type_tree) → Within P t → Within P (of_module i t)
+of_module-within P i t w r (inl x) = absurd x
+of_module-within P i t w r (inr (o, inl x)) = w r x
+of_module-within P i t w r (inr (o, inr x)) = absurd x
+
+if-some : {A : Type 0} (b : Bool) (o : Option A) (x : A) → cond b o None ≡ Some x → o ≡ Some x
+if-some true o x e = e
+if-some false o x e = cc
 
 types-bring : (P : Name → Type 0) (is : List ℕ) → AllBring (Fine P) Any (types_join tree_reader is)
 types-bring P [] = All-nil (Brings (Fine P) Any)
@@ -76,12 +101,45 @@ module _ (p : Place) (s : Tree_stack) (h : Ready p s.top) where
           (record { imported = refl; defined = refl; imports = refl; exports = refl })
 
   pub core_type-does : (fs : WasmFeatures) (t : Core_type_form) (x : Step tree_reader) → core_type_step fs (tree_maker names_by_place p) s t ≡ Some x → Does exporting p s x
-  core_type-does fs (core_rec w) x e = go (is_closable s.groups (core_entries s.top) (written_group w)) e
+  core_type-does fs (core_rec w) x e = go (is_closable s.groups (core_entries s.top) w) e
     where
-      go : (b : Bool) → cond b (Some (closed_step tree_reader s.groups (closed_group (core_entries s.top) (written_group w)))) None ≡ Some x → Does exporting p s x
-      go true k = subst (Does exporting p s) (some-inj k) (closed-does (closed_group (core_entries s.top) (written_group w)))
+      go : (b : Bool) → cond b (Some (closed_step tree_reader s.groups (closed_group (core_entries s.top) w))) None ≡ Some x → Does exporting p s x
+      go true k = subst (Does exporting p s) (some-inj k) (closed-does (closed_group (core_entries s.top) w))
       go false k = cc
   core_type-does fs (core_module_type ds) x e = module-does core_types (core_type_made fs s (core_module_type ds)) x e
 
   pub core_module-does : (fs : WasmFeatures) (ds : List Module_decl) (x : Step tree_reader) → core_module_step fs (tree_maker names_by_place p) s ds ≡ Some x → Does exporting p s x
   core_module-does fs ds x e = module-does core_modules (core_module_made fs s ds) x e
+
+  -- ## Core instances
+
+  abbrev joins_as : New_node tree_reader → Step tree_reader
+  joins_as n = instance_joins (tree_maker names_by_place p) n
+
+  node-does : (n : New_node tree_reader) → Fine (After (joins_as n) s) (node_tree (base p) n) → Does exporting p s (joins_as n)
+  node-does n w = same-does p s h (joins_as n) (brings_one (Fine (After (joins_as n) s)) Any (core_appends core_instances (node_tree (base p) n)) w) (record { imported = refl; defined = refl; imports = refl; exports = refl })
+
+  pub core_instance-does : (i : Core_instance_form) (x : Step tree_reader) → core_instance_step (tree_maker names_by_place p) s i ≡ Some x → Does exporting p s x
+  core_instance-does (core_instantiate i args) x e =
+      let m = mapped-some joins_as (core_instance_made s (core_instantiate i args)) x e in
+      let o = if-some (list_all (λ (a : InstantiationArg). not (is_none (core_instance_at s.top a.index))) args) (option_map core_instance_node (core_module_at s.top i)) m.0 m.1 in
+      let t = mapped-some core_instance_node (core_module_at s.top i) m.0 o in
+      let y : Step tree_reader = joins_as (core_instance_node t.0) in
+      let w : Within (After y s) t.0 = λ r f. in-apply y s r ((all-get (Fine (In s.top)) (s.top.core core_modules) i t.0 (h.fine.core core_modules) t.1).0 r f) in
+      subst (Does exporting p s) m.2 (subst (λ (n : New_node tree_reader). Does exporting p s (joins_as n)) t.2 (node-does (core_instance_node t.0) (of_module-within (After y s) (base p) t.0 w, tt)))
+  core_instance-does (core_bag es) x e =
+      let m = mapped-some joins_as (core_instance_made s (core_bag es)) x e in
+      let k : ℕ = listed_size s.groups (items_listed s.top es) in
+      let n : New_node tree_reader = core_exports_node k (items_listed s.top es) in
+      let o = if-some (list_all (λ (e : Export). not (is_none (item_listed s.top e))) es) (Some n) m.0 m.1 in
+      subst (Does exporting p s) m.2
+      (subst (λ (n : New_node tree_reader). Does exporting p s (joins_as n)) (some-inj o) (node-does n (listed-closed (After (joins_as n) s) (base p) k (items_listed s.top es), tt)))
+
+  -- ## Aliases
+
+  pub core_alias-does : (k : ExternalKind) (i : ℕ) (n : Text) (x : Step tree_reader) → core_alias_step s.top k i n ≡ Some x → Does exporting p s x
+  core_alias-does k i n x e =
+      let m = mapped-some (item_joins tree_reader k) (option_and_then (if_of k) (option_and_then (core_export_of tree_reader n) (core_instance_at s.top i))) x e in
+      let y : Step tree_reader = item_joins tree_reader k m.0 in
+      subst (Does exporting p s) m.2
+      (same-does p s h y (brings_one (Fine (After y s)) Any (core_appends (space_of k) (tree_reader.core_item m.0)) (item-closed (After y s) m.0, tt)) (record { imported = refl; defined = refl; imports = refl; exports = refl }))

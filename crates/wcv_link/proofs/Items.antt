@@ -5,6 +5,7 @@ use Rattle.wcv_core.specs.declared.features.WasmFeatures.{WasmFeatures}
 use Rattle.wcv_syntax.specs.Built.{is_plain, is_built_ref}
 use Rattle.wcv_syntax.specs.Model.{Form, core_type_item, core_module_item, core_instance_item, type_item, import_item, export_item, component_item, instance_item, alias_item, start_item, canon_item, unread}
 use Rattle.wcv_syntax.specs.declared.component_type.ComponentTypeRef.{ComponentTypeRef}
+use Rattle.wcv_syntax.specs.declared.instance.ComponentAlias.TheVariants as alias
 use Rattle.wcv_syntax.specs.declared.name.ComponentExternName.{ComponentExternName}
 use Rattle.wcv_lower.specs.Context.{Side, importing, exporting}
 use Rattle.wcv_lower.specs.Declared.{applied, declared_export_step}
@@ -16,7 +17,7 @@ use Rattle.wcv_lower.specs.Step.{Step, apply, enters, Brought}
 use Rattle.wcv_lower.specs.Trees.{Tree_stack, tree_reader, tree_maker}
 use Rattle.wcv_lower.proofs.Bringing.{AllBring, BroughtOf, of_some, enters_bring, written_has, items_bring}
 use Rattle.wcv_lower.proofs.Owning.{owns_not_inherited}
-use Rattle.wcv_link.proofs.CoreGrowing.{core_type-does, core_module-does}
+use Rattle.wcv_link.proofs.CoreGrowing.{core_type-does, core_module-does, core_instance-does, core_alias-does}
 use Rattle.wcv_link.proofs.Entering.{written-does, export-does}
 use Rattle.wcv_link.proofs.Growing.{Ready, Grows, Does, does-grow, type-does}
 use Rattle.wcv_link.proofs.Known.{mapped-some, Any}
@@ -38,10 +39,12 @@ module _ (p : Place) (s : Tree_stack) (h : Ready p s.top) where
       subst (Does exporting p s) m.2 (export-does p s h (extern_name i.name) i.kind i.index m.0 m.1)
   step-does fs (core_type_item t) x b e = core_type-does p s h fs t x e
   step-does fs (core_module_item ds) x b e = core_module-does p s h fs ds x e
-  step-does fs (core_instance_item i) x b e = cc
+  step-does fs (core_instance_item i) x b e = core_instance-does p s h i x e
   step-does fs (component_item is end) x b e = cc
   step-does fs (instance_item i) x b e = cc
-  step-does fs (alias_item a) x b e = cc
+  step-does fs (alias_item (alias.CoreInstanceExport k i n)) x b e = core_alias-does p s h k i n x e
+  step-does fs (alias_item (alias.InstanceExport k i n)) x b e = cc
+  step-does fs (alias_item (alias.Outer k n i)) x b e = cc
   step-does fs (start_item k args results) x b e = cc
   step-does fs (canon_item k) x b e = cc
   step-does fs unread x b e = cc

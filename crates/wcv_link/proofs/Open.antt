@@ -3,8 +3,8 @@ use Rattle.std.proofs.Common.{◌≡◌, ℕ, ◌<◌, ◌-◌, List, [], ◌∷
 use Rattle.wcv_core.specs.Names.{Place}
 use Rattle.wcv_core.specs.Refusal.{error_kind, error_offset}
 use Rattle.wcv_core.specs.declared.error.Error.{Error}
-use Rattle.wcv_syntax.specs.Built.{is_built_type}
-use Rattle.wcv_syntax.specs.Model.{Form, Core_type_form, core_type_item, Type_form, type_item}
+use Rattle.wcv_syntax.specs.Built.{is_plain, is_built_type}
+use Rattle.wcv_syntax.specs.Model.{Form, Type_form, type_item}
 use Rattle.wcv_types.specs.Arena.{Arena}
 use Rattle.wcv_types.proofs.Grown.{extends_refl}
 use Rattle.wcv_lower.specs.Checks.{IsFree}
@@ -17,15 +17,15 @@ use Rattle.wcv_lower.specs.Trees.{Tree_context, tree_maker}
 use Rattle.wcv_lower.proofs.CalmGrowth.{calm_grows}
 use Rattle.wcv_state.specs.Contents.{Contents, context_of, stack_of}
 use Rattle.wcv_state.specs.Promises.{MemoryOrCausedBy, numbers_of, Keeps}
+use Rattle.wcv_state.proofs.Stacks.{around_same}
 use Rattle.wcv_decls.specs.Declaring.{innermost, around}
 use Rattle.wcv_decls.specs.Stack.{IsOpen, AreCalm, ChangesLast, stay, contexts_around, stack_on, GrewOn, RefusedOn, DeclaresOn, RefusesOn, KeepsOn}
 use Rattle.wcv_decls.proofs.InnermostStates.{innermost_at, indexed, calm_all, open_here, open_around, outer_contexts, stays, last_changed}
 use Rattle.wcv_decls.proofs.Plain.{own_given}
 use Rattle.wcv_decls.proofs.ReadingOn.{grown_numbers, extends_on, innermost_kept}
 use Rattle.wcv_decls.proofs.SimpleDecls as simple
-use Rattle.wcv_decls.proofs.Stacks.{around_same}
 use Rattle.wcv_link.specs.Progress.{IsReady, RefusedAt, TakesItem, TakenOn, AcceptsItem, RefusesItem, LeavesItem, AllMayOpen}
-use Rattle.wcv_link.proofs.Steps.{OneStep, one_step, grew_here, step_refused, type_grew, type_caused, type_left_caused, caused_same_at}
+use Rattle.wcv_link.proofs.Steps.{OneStep, grew_here, step_refused, type_grew, type_caused, type_left_caused, caused_same_at}
 
 -- lists that end alike
 pub same_end : {X : Type 0} (xs ys : List X) (x y : X) → xs ++ x ∷ [] ≡ ys ++ y ∷ [] → (xs ≡ ys) × (x ≡ y)
@@ -104,7 +104,7 @@ refuses_last a b ss k s e some i f offset x w = record {
   arena = w.arena;
 }
 
--- ## Types and core types
+-- ## Items over all states, and types
 
 module _ (a b : Arena) (ss ss' : List Contents) (h : IsReady a ss) (keeps : KeepsOn a b ss ss') where
   kept_last : (last : ChangesLast stay ss ss') → Keeps a b last.old last.new
@@ -112,20 +112,20 @@ module _ (a b : Arena) (ss ss' : List Contents) (h : IsReady a ss) (keeps : Keep
       subst (λ (s : Contents). Keeps a b s last.new) (ap innermost last.was ∙ innermost_at last.outer last.old)
       (subst (Keeps a b (innermost ss)) (ap innermost last.becomes ∙ innermost_at last.outer last.new) (innermost_kept a b ss ss' h.some keeps))
 
-  -- a core type was taken
-  module _ (t : Core_type_form) (left : (s : Contents) → IsFree (left_checks (context_of a s) (core_type_item t))) (grew : (p : Place) → GrewOn a b p ss ss' (core_type_item t)) where
-    abbrev core_taken : (p : Place) → TakenOn a b p ss ss' (core_type_item t)
-    core_taken p =
+  -- an item that is read in one step was taken
+  module _ (f : Form) (one : OneStep f) (built : is_plain f ≡ true) (left : (s : Contents) → IsFree (left_checks (context_of a s) f)) (grew : (p : Place) → GrewOn a b p ss ss' f) where
+    abbrev one_taken : (p : Place) → TakenOn a b p ss ss' f
+    one_taken p =
         let g = grew p in
         record {
           last = g.last;
           around = g.around;
-          grew = grew_here a b g.last.old g.last.new (core_type_item t) (one_step (core_type_item t) refl) (contexts_around a g.last.outer) p refl (left g.last.old) g.grew;
+          grew = grew_here a b g.last.old g.last.new f one (contexts_around a g.last.outer) p built (left g.last.old) g.grew;
           features = (kept_last g.last).features;
         }
 
-    pub accepts_core : AcceptsItem a b ss ss' (core_type_item t)
-    accepts_core = accepts_step a b ss ss' h (core_type_item t) core_taken (kept_last (grew []).last) (grew []).grew.live (one_step (core_type_item t) refl)
+    pub accepts_one : AcceptsItem a b ss ss' f
+    accepts_one = accepts_step a b ss ss' h f one_taken (kept_last (grew []).last) (grew []).grew.live one
 
   -- a type was
   module _ (t : Type_form) (built : is_built_type t ≡ true) (left : IsFree (declared_left t)) (declares : (p : Place) → DeclaresOn true a b p ss ss' t) where
@@ -150,12 +150,12 @@ same_innermost a b ss f p offset x outer outer' s s' e e' w =
     subst (λ (y : Contents). RefusedAt a b (contexts_around a outer') y f p offset x) r.1 (subst (λ (os : List Contents). RefusedAt a b (contexts_around a os) s f p offset x) r.0 w)
 
 module _ {M : Type 0} (a b : Arena) (ss ss' : List Contents) (some : 0 < length ss) (keeps : KeepsOn a b ss ss') (offset : ℕ) (x : Error M) where
-  pub refuses_core : (t : Core_type_form) → ((p : Place) → RefusedOn a b p ss ss' (core_type_item t) offset x) → RefusesItem a b ss (core_type_item t) offset x
-  refuses_core t w = record {
+  pub refuses_one : (f : Form) → OneStep f → ((p : Place) → RefusedOn a b p ss ss' f offset x) → RefusesItem a b ss f offset x
+  refuses_one f one w = record {
     refused = λ outer s e p.
         let r = w p in
-        same_innermost a b ss (core_type_item t) p offset x r.last.outer outer r.last.old s r.last.was e
-        (step_refused a b r.last.old (core_type_item t) (one_step (core_type_item t) refl) offset x (contexts_around a r.last.outer) p r.refused.1);
+        same_innermost a b ss f p offset x r.last.outer outer r.last.old s r.last.was e
+        (step_refused a b r.last.old f one offset x (contexts_around a r.last.outer) p r.refused.1);
     arena = extends_on a b ss ss' some keeps;
   }
 

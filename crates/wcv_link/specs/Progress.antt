@@ -5,7 +5,7 @@ use Rattle.wcv_core.specs.Refusal.{error_kind, error_offset}
 use Rattle.wcv_core.specs.declared.error.Error.{Error}
 use Rattle.wcv_core.specs.declared.error.ErrorKind.TheVariants as kind
 use Rattle.wcv_core.specs.declared.features.WasmFeatures.{WasmFeatures}
-use Rattle.wcv_syntax.specs.Model.{Form, type_item, core_type_item, Items, no_items, next_item}
+use Rattle.wcv_syntax.specs.Model.{Form, type_item, core_type_item, alias_item, Items, no_items, next_item}
 use Rattle.wcv_syntax.specs.declared.component_type.ComponentTypeRef.{ComponentTypeRef}
 use Rattle.wcv_types.specs.Arena.{Arena}
 use Rattle.wcv_types.specs.Standing.{Extends}
@@ -28,11 +28,12 @@ pub record IsReady (a : Arena) (ss : List Contents) : Type 0 where
 
 -- ## One item
 
--- the item is a type or a core type, which looks at the states around it too
-abbrev pub declares_type : Form → Bool
-declares_type (type_item t) = true
-declares_type (core_type_item t) = true
-declares_type f = false
+-- the item is a type, a core type or an alias, which looks at the states around it too
+abbrev pub looks_around : Form → Bool
+looks_around (type_item t) = true
+looks_around (core_type_item t) = true
+looks_around (alias_item a) = true
+looks_around f = false
 
 -- the state grew by the item at that place, by names that the arena gave, in the contexts further out, and the item has no cause
 pub record GrewAt (a b : Arena) (outer : List Tree_context) (s s' : Contents) (f : Form) (p : Place) : Type 0 where

@@ -10,7 +10,7 @@ use Rattle.wcv_state.specs.Contents.{Contents}
 use Rattle.wcv_decls.specs.Stack.{IsOpen, GrewOn, RefusedOn, KeepsOn}
 use Rattle.wcv_decls.proofs.Stacks.{unmapped, kept_back}
 use Rattle.wcv_link.specs.Progress.{AcceptsItem}
-use Rattle.wcv_link.proofs.Open.{accepts_core, refuses_core, refuses_left}
+use Rattle.wcv_link.proofs.Open.{accepts_one, refuses_one, refuses_left}
 use Rattle.wcv_link.proofs.Steps.{one_step, built_refused}
 use Rattle.wcv_link.proofs.core_items.read_core_type.Goals as goal
 
@@ -40,7 +40,7 @@ returns-clause-ok c =
     let back = kept_back a b ss ys _ c.args.components.now.len c.args.components.now.ok.0 keeps in
     subst (λ (xs : List Contents). OnOk c.add_core_type.result (AcceptsItem a b ss xs (core_type_item t))) (sym back)
     (on_ok_weaker c.add_core_type.result
-    (λ g. accepts_core a b ss ys c.requires keeps t (λ s. c.in_ok-check_core_limits.ensures.ok)
+    (λ g. accepts_one a b ss ys c.requires keeps (core_type_item t) (one_step (core_type_item t) refl) refl (λ s. c.in_ok-check_core_limits.ensures.ok)
     (λ p. subst (λ (xs : List Contents). GrewOn a b p xs ys (core_type_item t)) same (unmapped (λ xs zs. GrewOn a b p xs zs (core_type_item t)) ws ys (g p))))
     c.add_core_type.ensures.ok)
 
@@ -55,6 +55,6 @@ returns-clause-err c =
     let t : Core_type_form = core_type_view c.args.ty in
     let keeps : KeepsOn a b ss ys = subst (λ (xs : List Contents). KeepsOn a b xs ys) same (unmapped (KeepsOn a b) ws ys c.add_core_type.ensures.keeps) in
     IfErr-weaker c.add_core_type.result _ _
-    (λ e g. refuses_core a b ss ys c.requires.some keeps c.args.offset e t
+    (λ e g. refuses_one a b ss ys c.requires.some keeps c.args.offset e (core_type_item t) (one_step (core_type_item t) refl)
     (λ p. subst (λ (xs : List Contents). RefusedOn a b p xs ys (core_type_item t) c.args.offset e) same (unmapped (λ xs zs. RefusedOn a b p xs zs (core_type_item t) c.args.offset e) ws ys (g p))))
     c.add_core_type.ensures.err
