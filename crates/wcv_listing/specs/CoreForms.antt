@@ -1,7 +1,8 @@
--- Core types and core modules.
+-- Core types, core modules and core instances.
 use Rattle.std.specs.Prelude.{ℕ, List, [], ◌∷◌, map, Bool, true, if◌then◌else◌, Option, Some, None, option_map, option_and_then, codes}
 use Rattle.serde_json.specs.Data.{Data}
 use Rattle.serde_json.specs.Find.{as_array, as_bool, as_str, get}
+use Rattle.wcv_core.specs.CoreForm.{CompositeForm, func_form, struct_form, array_form, SubForm, Group}
 use Rattle.wcv_core.specs.declared.core_types.FieldType.{FieldType}
 use Rattle.wcv_core.specs.declared.core_types.GlobalType.{GlobalType}
 use Rattle.wcv_core.specs.declared.core_types.MemoryType.{MemoryType}
@@ -12,12 +13,16 @@ use Rattle.wcv_core.specs.declared.core_types.SuperType.{SuperType}
 use Rattle.wcv_core.specs.declared.core_types.SuperType.TheVariants as parent
 use Rattle.wcv_core.specs.declared.core_types.TableType.{TableType}
 use Rattle.wcv_core.specs.declared.core_types.ValType.{ValType}
+use Rattle.wcv_syntax.specs.declared.core_section.Export.{Export}
+use Rattle.wcv_syntax.specs.declared.core_section.ExternalKind.{ExternalKind}
 use Rattle.wcv_syntax.specs.declared.core_section.Import.{Import}
+use Rattle.wcv_syntax.specs.declared.core_section.InstantiationArg.{InstantiationArg}
 use Rattle.wcv_syntax.specs.declared.core_section.TypeRef.{TypeRef}
 use Rattle.wcv_syntax.specs.declared.core_section.TypeRef.TheVariants as ref
-use Rattle.wcv_syntax.specs.Model.{Text, Composite_form, core_func, core_struct, core_array, Sub_form, Module_decl, module_type, module_import, module_export, module_outer, Core_type_form, core_rec, core_module_type}
+use Rattle.wcv_syntax.specs.Model.{Text, Module_decl, module_type, module_import, module_export, module_outer, Core_type_form, core_rec, core_module_type, Core_instance_form, core_instantiate, core_bag}
+use Rattle.wcv_listing.specs.Aliases.{core_sort_of}
 use Rattle.wcv_listing.specs.Core.{core_value_of, ref_type_of}
-use Rattle.wcv_listing.specs.Fields.{both, named, has_only, first_of, only_key, natural, natural_in, index, pair_of, triple_of, array_of, mark, optional, or_else}
+use Rattle.wcv_listing.specs.Fields.{both, named, has_only, first_of, only_key, natural, natural_in, index, index_in, pair_of, triple_of, array_of, mark, optional, or_else}
 
 -- ## Core types
 
@@ -40,15 +45,15 @@ field_of d =
     else None
 
 -- [[core value type, ..], [core value type, ..]], the parameters and the results
-abbrev pub core_func_of : Data → Option Composite_form
-core_func_of d = option_and_then (λ p. both core_func (array_of core_value_of p.0) (array_of core_value_of p.1)) (option_and_then pair_of (as_array d))
+abbrev pub core_func_of : Data → Option CompositeForm
+core_func_of d = option_and_then (λ p. both func_form (array_of core_value_of p.0) (array_of core_value_of p.1)) (option_and_then pair_of (as_array d))
 
 -- the forms by their names, and what stands under each
-abbrev pub composite_forms : List (List ℕ × (Data → Option Composite_form))
+abbrev pub composite_forms : List (List ℕ × (Data → Option CompositeForm))
 composite_forms =
-    (codes "func", core_func_of) ∷ (codes "struct", λ d. option_map core_struct (array_of field_of d)) ∷ (codes "array", λ d. option_map core_array (field_of d)) ∷ []
+    (codes "func", core_func_of) ∷ (codes "struct", λ d. option_map struct_form (array_of field_of d)) ∷ (codes "array", λ d. option_map array_form (field_of d)) ∷ []
 
-abbrev pub composite_of : List ℕ → Data → Option Composite_form
+abbrev pub composite_of : List ℕ → Data → Option CompositeForm
 composite_of name d = option_and_then (λ read. read d) (named composite_forms name)
 
 -- whether a type is final, which it is where nothing says so
@@ -60,20 +65,20 @@ abbrev pub super_of : Data → Option SuperType
 super_of d = option_map parent.Index (index d)
 
 -- {"final": Boolean, "super": index, "shared": Boolean, NAME: body}, all but the last absent or there
-abbrev pub sub_under : List ℕ → Data → Option Sub_form
+abbrev pub sub_under : List ℕ → Data → Option SubForm
 sub_under name d =
     if has_only (codes "final" ∷ codes "super" ∷ codes "shared" ∷ name ∷ []) d
-    then both (λ (place : Bool × (Option SuperType × Bool)) (inner : Composite_form). record { is_final = place.0; supertype = place.1.0; shared = place.1.1; inner = inner })
+    then both (λ (place : Bool × (Option SuperType × Bool)) (inner : CompositeForm). record { is_final = place.0; supertype = place.1.0; shared = place.1.1; inner = inner })
     (both (λ final rest. (final, rest)) (final_mark (get (codes "final") d)) (both (λ above shared. (above, shared)) (optional super_of (get (codes "super") d)) (mark (get (codes "shared") d))))
     (option_and_then (composite_of name) (get name d))
     else None
 
 -- the name is that of a form
-abbrev pub sub_of : Data → Option Sub_form
+abbrev pub sub_of : Data → Option SubForm
 sub_of d = option_and_then (λ name. sub_under name d) (first_of (map (λ row. row.0) composite_forms) d)
 
 -- [type, ..]
-abbrev pub rec_of : Data → Option (List Sub_form)
+abbrev pub rec_of : Data → Option Group
 rec_of = array_of sub_of
 
 -- ## What is imported and exported
@@ -165,3 +170,22 @@ core_type_of d =
 -- the body of `core-module`: [declaration, ..]
 abbrev pub core_module_of : Data → Option (List Module_decl)
 core_module_of = array_of module_decl_of
+
+-- ## Core instances
+
+-- [name, index]
+abbrev pub core_arg_of : Data → Option InstantiationArg
+core_arg_of d = option_and_then (λ p. both (λ (name : Text) (k : ℕ). record { name = name; index = k }) (as_str p.0) (index p.1)) (option_and_then pair_of (as_array d))
+
+-- [name, core sort, index]
+abbrev pub core_listed_of : Data → Option Export
+core_listed_of d =
+    option_and_then (λ t. both (λ (name : Text) (item : ExternalKind × ℕ). record { name = name; kind = item.0; index = item.1 }) (as_str t.0) (both (λ kind k. (kind, k)) (core_sort_of t.1.0) (index t.1.1)))
+    (option_and_then triple_of (as_array d))
+
+-- the body of `core-instance`: {"module": index, "args": [argument, ..]} or {"exports": [item, ..]}
+abbrev pub core_instance_of : Data → Option Core_instance_form
+core_instance_of d =
+    if has_only (codes "module" ∷ codes "args" ∷ []) d then both core_instantiate (index_in (codes "module") d) (option_and_then (array_of core_arg_of) (get (codes "args") d))
+    else if has_only (codes "exports" ∷ []) d then option_map core_bag (option_and_then (array_of core_listed_of) (get (codes "exports") d))
+    else None

@@ -1,12 +1,11 @@
 // Core types in a group.
 ghost use Rattle.std.specs.Prelude.{◌≡◌, IfOk, codes, map, option_map};
 ghost use Rattle.serde_json.specs.Find.{get};
+ghost use Rattle.wcv_core.specs.CoreForm.{SubForm, func_form, composite_form, sub_form, group_form};
 ghost use Rattle.wcv_listing.specs.Core.{core_value_of};
 ghost use Rattle.wcv_listing.specs.CoreForms.{storage_of, field_of, core_func_of, composite_forms, composite_of, final_mark, super_of, sub_of, rec_of};
 ghost use Rattle.wcv_listing.specs.Fields.{first_of, optional};
 ghost use Rattle.wcv_listing.specs.Seen.{view};
-ghost use Rattle.wcv_syntax.specs.Model.{Sub_form, core_func};
-ghost use Rattle.wcv_syntax.specs.View.{composite_view, sub_view, rec_view};
 
 use crate::core_value::{mark_at, read_core_value};
 use crate::list::{FromValue, read_list};
@@ -63,7 +62,7 @@ impl FromValue for ValType {
 
 // A function type.
 fn read_core_func(alloc: Global, value: Node<'_, '_>) -> Result<Option<FuncType>, OutOfMemory>
-    ensures { IfOk result (λ func. option_map (λ f. core_func f.params.items f.results.items) func ≡ core_func_of (view value.entry)) }
+    ensures { IfOk result (λ func. option_map (λ f. func_form f.params.items f.results.items) func ≡ core_func_of (view value.entry)) }
 {
     let Some((params, results)) = pair_of(value) else {
         return Ok(None);
@@ -83,7 +82,7 @@ fn read_composite(
     name: &str,
     body: Node<'_, '_>,
 ) -> Result<Option<CompositeInnerType>, OutOfMemory>
-    ensures { IfOk result (λ ty. option_map composite_view ty ≡ composite_of name.now (view body.entry)) }
+    ensures { IfOk result (λ ty. option_map composite_form ty ≡ composite_of name.now (view body.entry)) }
 {
     match name {
         "func" => Ok(read_core_func(alloc, body)?.map(CompositeInnerType::Func)),
@@ -135,9 +134,9 @@ fn read_super(value: Node<'_, '_>) -> Option<Option<SuperType>>
 
 // A core type with its place among the others.
 impl FromValue for SubType {
-    ghost Form = { Sub_form };
+    ghost Form = { SubForm };
 
-    ghost seen = { sub_view };
+    ghost seen = { sub_form };
 
     ghost meant = { sub_of };
 
@@ -174,7 +173,7 @@ impl FromValue for SubType {
 
 /// A group of core types.
 pub fn read_rec(alloc: Global, value: Node<'_, '_>) -> Result<Option<RecGroup>, OutOfMemory>
-    ensures { IfOk result (λ group. option_map rec_view group ≡ rec_of (view value.entry)) }
+    ensures { IfOk result (λ group. option_map group_form group ≡ rec_of (view value.entry)) }
 {
     Ok(read_list(alloc, value)?.map(|types| RecGroup { types }))
 }

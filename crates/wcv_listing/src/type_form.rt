@@ -5,6 +5,7 @@ ghost use Rattle.wcv_listing.specs.Forms.{resource_of, plain_type_of, declared_e
 ghost use Rattle.wcv_listing.specs.Seen.{view};
 ghost use Rattle.wcv_syntax.specs.View.{type_view, component_decl_view, instance_decl_view};
 
+use crate::alias::read_alias;
 use crate::core_form::read_core_type;
 use crate::core_value::read_core_value;
 use crate::defined::read_defined;
@@ -137,7 +138,7 @@ fn read_component_decl(
 
 // A declaration of an instance type, in which types nest at most so deep.
 #[cycle(types)]
-#[tactic(auto, using(crate::proofs::Made::instance_core_type_made, crate::proofs::Made::instance_ty_made))]
+#[tactic(auto, using(crate::proofs::Made::instance_core_type_made, crate::proofs::Made::instance_ty_made, crate::proofs::Made::instance_alias_made))]
 fn read_instance_decl(
     alloc: Global,
     value: Node<'_, '_>,
@@ -160,6 +161,11 @@ fn read_instance_decl(
             return Ok(None);
         };
         Ok(read_import(alloc, body)?.map(as_export))
+    } else if has_only_keys(value, &["alias"]) {
+        let Some(body) = member_at(value, "alias") else {
+            return Ok(None);
+        };
+        Ok(read_alias(alloc, body)?.map(InstanceTypeDeclaration::Alias))
     } else {
         Ok(None)
     }
