@@ -20,7 +20,7 @@ use Rattle.wcv_types.specs.declared.shapes.ComponentValType.TheVariants as v
 use Rattle.wcv_types.proofs.Unfolding.{head_in}
 use Rattle.wcv_text.specs.LineList.{entries_of}
 use Rattle.wcv_text.specs.Mentions.{entity_said, entry_said}
-use Rattle.wcv_text.specs.Numbers.{written, Shows, Appends}
+use Rattle.wcv_text.specs.Numbers.{so_far, Shows, Appends}
 use Rattle.wcv_text.specs.declared.numbers.Numbers.{Numbers}
 use Rattle.wcv_text.proofs.Folds.{all_there, piece_shown}
 use Rattle.wcv_text.proofs.Mentioned.{mention_is, mention_any}
@@ -61,7 +61,7 @@ pub entry_shown : (a : Arena) (numbers : Numbers) (before : Text × Text) (text 
     Shows numbers before text w → Shows numbers before next (entry_line w word (entry_name e) (entity_tree (trees a.nodes) e.1.ty))
 entry_shown a numbers before text next word w e s said h =
     let t : Type_tree = entity_tree (trees a.nodes) e.1.ty in
-    let line : entry_said word e (written numbers w.text) ≡ entry_text w word (entry_name e) t ++ codes "\n" =
+    let line : entry_said word e (so_far numbers w.text) ≡ entry_text w word (entry_name e) t ++ codes "\n" =
     ap (entry_said word e) (sym h.numbers_are) ∙ ap (λ (x : Text). word ++ quoted e.0 ++ codes " " ++ x ++ name_text (entry_name e) ++ codes "\n") (sym (entity_is a w e.1.ty s)) in
     record {
       text_is = piece_shown before.0 before.1 text next w.text (entry_text w word (entry_name e) t ++ codes "\n") (said w.text ∙ ap (λ (x : Text). text ++ x) line) h.text_is ∙
@@ -71,10 +71,10 @@ entry_shown a numbers before text next word w e s said h =
 
 -- the line of a resource and its path is appended
 pub path_shown : (old new : Numbers) (before : Text × Text) (text next word : Text) (w : Written) (r : Name) (path : List ℕ) →
-    ((x : Text) → written new x ≡ with_resource (written old x) r) → ((x : Text) → next ≡ text ++ (path_text (written new x) word r path ++ codes "\n")) →
+    ((x : Text) → so_far new x ≡ with_resource (so_far old x) r) → ((x : Text) → next ≡ text ++ (path_text (so_far new x) word r path ++ codes "\n")) →
     Shows old before text w → Shows new before next (path_line (with_resource w r) word r path)
 path_shown old new before text next word w r path given said h =
-    let u : Written = written new w.text in
+    let u : Written = so_far new w.text in
     let same : with_resource w r ≡ u = ap (λ (z : Written). with_resource z r) h.numbers_are ∙ sym (given w.text) in
     subst (λ (z : Written). Shows new before next (path_line z word r path)) (sym same) (record {
       text_is = piece_shown before.0 before.1 text next w.text (path_text u word r path ++ codes "\n") (said w.text) h.text_is ∙

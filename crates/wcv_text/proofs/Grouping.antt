@@ -13,7 +13,7 @@ use Rattle.wcv_core.specs.CoreIds.{ids_in_group}
 use Rattle.wcv_types.specs.CoreText.{group_text, group_first, group_at, older_ids}
 use Rattle.wcv_types.specs.Text.{Written, line_text, has_group, with_group, with_new_group, write_group, write_groups}
 use Rattle.wcv_types.specs.Tree.{Text}
-use Rattle.wcv_text.specs.Numbers.{written, Shows}
+use Rattle.wcv_text.specs.Numbers.{so_far, Shows}
 use Rattle.wcv_text.specs.declared.numbers.Numbers.{Numbers}
 use Rattle.wcv_text.specs.Groups.{done, all_done, visit_steps, steps_of, all_steps}
 use Rattle.wcv_text.proofs.Folds.{piece_shown}
@@ -115,13 +115,13 @@ visit_longer gs i =
 
 -- it is appended
 pub group_shown : (old new : Numbers) (before : Text × Text) (text next : Text) (w : Written) (i : ℕ) →
-    ((x : Text) → next ≡ text ++ (codes "g" ++ line_text (length (written old x).groups) (group_text (written old x).core (written old x).groups (group_at (written old x).core i)))) →
-    ((x : Text) → written new x ≡ record (written old x) { groups = (written old x).groups ++ group_first (written old x).core i ∷ [] }) →
+    ((x : Text) → next ≡ text ++ (codes "g" ++ line_text (length (so_far old x).groups) (group_text (so_far old x).core (so_far old x).groups (group_at (so_far old x).core i)))) →
+    ((x : Text) → so_far new x ≡ record (so_far old x) { groups = (so_far old x).groups ++ group_first (so_far old x).core i ∷ [] }) →
     Shows old before text w → Shows new before next (with_group w i)
 group_shown old new before text next w i said added h =
     let x : Text = w.text in
     let line : Written → Text = λ v. line_text (length v.groups) (group_text v.core v.groups (group_at v.core i)) in
-    let u : Written = written old x in
+    let u : Written = so_far old x in
     subst (λ (z : Written). Shows new before next (with_group z i)) (sym h.numbers_are) (record {
       text_is = piece_shown before.0 before.1 text next x (codes "g" ++ line u) (said x) h.text_is ∙ ap (λ (y : Text). before.1 ++ y) (sym (append_assoc x (codes "g") (line u)));
       numbers_are = sym (added (x ++ codes "g" ++ line u));

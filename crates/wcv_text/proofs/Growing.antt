@@ -17,7 +17,7 @@ use Rattle.wcv_types.specs.declared.item_map.ComponentItem.{ComponentItem}
 use Rattle.wcv_text.specs.EntryList.{write_items}
 use Rattle.wcv_text.specs.LineList.{entries_of, entry_word, paths_of, path_word, with_entry, with_path, say_node, say, say_all}
 use Rattle.wcv_text.specs.Nodes.{items_at, own_line}
-use Rattle.wcv_text.specs.Numbers.{name_of, written}
+use Rattle.wcv_text.specs.Numbers.{name_of, so_far}
 use Rattle.wcv_text.specs.TypeLines.{Leads, lines_left}
 use Rattle.wcv_text.specs.declared.line_list.Line.{Line}
 use Rattle.wcv_text.specs.declared.line_list.Line.TheVariants as line
@@ -115,7 +115,7 @@ line_grows a ty w (line.Path own k) = path_grows (path_word own) (slice_get (pat
 pub leads_on : (l : TypeLines) (said whole : Text) → Leads l said whole → (rest : Text) × (whole ≡ said ++ rest)
 leads_on l said whole h =
     let a : Arena = l.types.now in
-    let w : Written = written l.numbers h.lines in
+    let w : Written = so_far l.numbers h.lines in
     let g : Grows w (say_all a l.ty.now (drop l.at l.lines.items) w) = all_grow (λ v x. say a l.ty.now x v) (λ v x. line_grows a l.ty.now v x) w (drop l.at l.lines.items) in
     (g.0, h.whole_is ∙ ap (λ (x : Text). h.before ++ x) g.1 ∙ sym (append_assoc h.before h.lines g.0) ∙ ap (λ (x : Text). x ++ g.0) (sym h.said_is))
 
@@ -123,4 +123,4 @@ leads_on l said whole h =
 pub leads_to_end : (l : TypeLines) (said whole : Text) → lines_left l ≡ 0 → Leads l said whole → whole ≡ said
 leads_to_end l said whole none h =
     let past : length l.lines.items ≤ l.at = omega (arith, none) in
-    h.whole_is ∙ ap (λ (ls : List Line). h.before ++ (say_all l.types.now l.ty.now ls (written l.numbers h.lines)).text) (drop_of_length-le l.lines.items past) ∙ sym h.said_is
+    h.whole_is ∙ ap (λ (ls : List Line). h.before ++ (say_all l.types.now l.ty.now ls (so_far l.numbers h.lines)).text) (drop_of_length-le l.lines.items past) ∙ sym h.said_is

@@ -6,7 +6,7 @@ use Rattle.wcv_types.specs.CoreText.{item_ids, older_ids}
 use Rattle.wcv_types.specs.Text.{Written, has_group, with_group, with_new_group, write_group, write_groups}
 use Rattle.wcv_types.specs.Tree.{Text}
 use Rattle.wcv_text.specs.EntryList.{write_items}
-use Rattle.wcv_text.specs.Numbers.{written, Writes}
+use Rattle.wcv_text.specs.Numbers.{so_far, Writes}
 use Rattle.wcv_text.specs.declared.numbers.Numbers.{Numbers}
 
 pub items_fold : {X : Type 0} (f : X → EntityType) (xs : List X) (w : Written) → fold (λ v x. write_groups v (item_ids (f x))) w xs ≡ write_items (map f xs) w
@@ -45,7 +45,7 @@ pub items_keep : (es : List EntityType) (w : Written) → (write_items es w).nod
 items_keep [] w = refl
 items_keep (e ∷ es) w = items_keep es (write_groups w (item_ids e)) ∙ fold_keeps (λ v i. write_group (suc i) v i) (λ v i. group_keeps (suc i) v i) w (item_ids e)
 
-pub nodes_stay : (old new : Numbers) (text next : Text) (es : List EntityType) → Writes old text new next (write_items es) → (written new []).nodes ≡ (written old []).nodes
+pub nodes_stay : (old new : Numbers) (text next : Text) (es : List EntityType) → Writes old text new next (write_items es) → (so_far new []).nodes ≡ (so_far old []).nodes
 nodes_stay old new text next es h =
-    let shown = h ([], []) (written old text) (record { text_is = refl; numbers_are = refl }) in
-    sym (ap (λ (v : Written). v.nodes) shown.numbers_are) ∙ items_keep es (written old text)
+    let shown = h ([], []) (so_far old text) (record { text_is = refl; numbers_are = refl }) in
+    sym (ap (λ (v : Written). v.nodes) shown.numbers_are) ∙ items_keep es (so_far old text)

@@ -5,7 +5,7 @@ use Rattle.wcv_types.specs.Identity.{same_identity}
 use Rattle.wcv_types.specs.Text.{with_resource}
 use Rattle.wcv_types.specs.Tree.{Text}
 use Rattle.wcv_types.specs.declared.ids.ResourceId.{ResourceId}
-use Rattle.wcv_text.specs.Numbers.{name_of, written}
+use Rattle.wcv_text.specs.Numbers.{name_of, so_far}
 use Rattle.wcv_text.specs.declared.numbers.Numbers.{Numbers}
 use Rattle.wcv_types.specs.Positions.{position_of, is_there}
 use Rattle.wcv_text.specs.Identity.{known}
@@ -34,14 +34,14 @@ same_node (id.Reference a) (id.Reference b) = refl
 
 -- a resource gets the next number where it has none
 pub resource_new : (n m : Numbers) (r : ResourceId) → m ≡ record n { resources = n.resources ++ r ∷ [] } → is_there same (name_of r) (map name_of n.resources) ≡ false →
-    (t : Text) → written m t ≡ with_resource (written n t) (name_of r)
+    (t : Text) → so_far m t ≡ with_resource (so_far n t) (name_of r)
 resource_new n m r more absent t =
-    ap (λ (x : Numbers). written x t) more ∙
-    ap (λ (rs : List Name). record (written n t) { resources = rs }) (map-push name_of n.resources r) ∙
-    sym (ap (λ (b : Bool). cond b (written n t) (record (written n t) { resources = map name_of n.resources ++ name_of r ∷ [] })) absent)
+    ap (λ (x : Numbers). so_far x t) more ∙
+    ap (λ (rs : List Name). record (so_far n t) { resources = rs }) (map-push name_of n.resources r) ∙
+    sym (ap (λ (b : Bool). cond b (so_far n t) (record (so_far n t) { resources = map name_of n.resources ++ name_of r ∷ [] })) absent)
 
 pub resource_old : (n m : Numbers) (r : ResourceId) → m ≡ n → is_there same (name_of r) (map name_of n.resources) ≡ true →
-    (t : Text) → written m t ≡ with_resource (written n t) (name_of r)
+    (t : Text) → so_far m t ≡ with_resource (so_far n t) (name_of r)
 resource_old n m r same_numbers there t =
-    ap (λ (x : Numbers). written x t) same_numbers ∙
-    sym (ap (λ (b : Bool). cond b (written n t) (record (written n t) { resources = map name_of n.resources ++ name_of r ∷ [] })) there)
+    ap (λ (x : Numbers). so_far x t) same_numbers ∙
+    sym (ap (λ (b : Bool). cond b (so_far n t) (record (so_far n t) { resources = map name_of n.resources ++ name_of r ∷ [] })) there)

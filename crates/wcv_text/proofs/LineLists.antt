@@ -15,7 +15,7 @@ use Rattle.wcv_types.specs.declared.ids.Part.{Part}
 use Rattle.wcv_text.specs.EntryList.{write_items}
 use Rattle.wcv_text.specs.LineList.{LineStands, Lists, say, say_all}
 use Rattle.wcv_text.specs.Nodes.{items_at, own_line, write_all}
-use Rattle.wcv_text.specs.Numbers.{written}
+use Rattle.wcv_text.specs.Numbers.{so_far}
 use Rattle.wcv_text.specs.declared.line_list.Line.{Line}
 use Rattle.wcv_text.specs.declared.line_list.Line.TheVariants as line
 use Rattle.wcv_text.specs.declared.numbers.Numbers.{Numbers}
@@ -24,7 +24,7 @@ use Rattle.wcv_text.proofs.Lines.{resources_keep, write_new}
 
 -- one line more
 pub line_listed : (a : Arena) (ty : ComponentType) (seen more : Numbers) (lines next : List Line) (l : Line) (start w v : Written) → next ≡ lines ++ l ∷ [] → LineStands a l →
-    v ≡ say a ty l w → v.nodes ≡ (written more []).nodes → Lists a ty seen lines start w → Lists a ty more next start v
+    v ≡ say a ty l w → v.nodes ≡ (so_far more []).nodes → Lists a ty seen lines start w → Lists a ty more next start v
 line_listed a ty seen more lines next l start w v e s said nodes h = record {
   said = said ∙ ap (λ (u : Written). say a ty l u) h.said ∙ sym (fold-append (λ (u : Written) (x : Line). say a ty x u) start lines (l ∷ [])) ∙ ap (λ (ls : List Line). say_all a ty ls start) (sym e);
   nodes = nodes;
@@ -33,7 +33,7 @@ line_listed a ty seen more lines next l start w v e s said nodes h = record {
 
 -- that of a node which has none, behind those of its parts
 pub node_listed : (a : Arena) (q : Part) (ty : ComponentType) (seen more : Numbers) (lines next : List Line) (start w : Written) → HasIdentity q → Stands a q → Unfolds a q → next ≡ lines ++ line.Node q ∷ [] →
-    has_line w (Some (identity_of q)) ≡ false → has_line (written seen []) (Some (identity_of q)) ≡ false → (written more []).nodes ≡ (written seen []).nodes ++ identity_of q ∷ [] →
+    has_line w (Some (identity_of q)) ≡ false → has_line (so_far seen []) (Some (identity_of q)) ≡ false → (so_far more []).nodes ≡ (so_far seen []).nodes ++ identity_of q ∷ [] →
     Lists a ty seen lines start (write_all a w (parts_at a q)) → Lists a ty more next start (write w (tree_at a q))
 node_listed a q ty seen more lines next start w known stands unfolds e absent none added h =
     let v : Written = write_all a w (parts_at a q) in

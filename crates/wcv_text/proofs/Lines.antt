@@ -14,7 +14,7 @@ use Rattle.wcv_types.specs.declared.ids.Part.{Part}
 use Rattle.wcv_types.proofs.Unfolding.{known_stands}
 use Rattle.wcv_text.specs.EntryList.{write_items}
 use Rattle.wcv_text.specs.Nodes.{form_of, items_at, own_line, write_all}
-use Rattle.wcv_text.specs.Numbers.{written, Shows}
+use Rattle.wcv_text.specs.Numbers.{so_far, Shows}
 use Rattle.wcv_text.specs.declared.numbers.Numbers.{Numbers}
 use Rattle.wcv_text.proofs.Folds.{piece_shown}
 use Rattle.wcv_text.proofs.Parts.{parts_written}
@@ -54,15 +54,15 @@ resources_keep w (core_item e) = refl
 
 -- the line of a type is appended
 pub line_shown : (old mid new : Numbers) (before : Text × Text) (text next : Text) (w : Written) (number : ℕ) (q : Part) (t : Type_tree) →
-    number ≡ length (written old []).nodes → ((x : Text) → written mid x ≡ with_resources (written old x) (head t)) →
-    ((x : Text) → next ≡ text ++ line_text number (form_of (written mid x) t)) →
-    ((x : Text) → written new x ≡ record (written mid x) { nodes = (written mid x).nodes ++ identity_of q ∷ [] }) →
+    number ≡ length (so_far old []).nodes → ((x : Text) → so_far mid x ≡ with_resources (so_far old x) (head t)) →
+    ((x : Text) → next ≡ text ++ line_text number (form_of (so_far mid x) t)) →
+    ((x : Text) → so_far new x ≡ record (so_far mid x) { nodes = (so_far mid x).nodes ++ identity_of q ∷ [] }) →
     Shows old before text w → Shows new before next (own_line q t w)
 line_shown old mid new before text next w number q t count given said added h =
     let x : Text = w.text in
-    let u : Written = written mid x in
+    let u : Written = so_far mid x in
     let same : with_resources w (head t) ≡ u = ap (λ (z : Written). with_resources z (head t)) h.numbers_are ∙ sym (given x) in
-    let here : number ≡ length u.nodes = count ∙ sym (ap (λ (z : Written). length z.nodes) (given x) ∙ ap length (resources_keep (written old x) (head t))) in
+    let here : number ≡ length u.nodes = count ∙ sym (ap (λ (z : Written). length z.nodes) (given x) ∙ ap length (resources_keep (so_far old x) (head t))) in
     subst (λ (z : Written). Shows new before next (with_line z (identity_of q) (head t) (parts t))) (sym same) (record {
       text_is = piece_shown before.0 before.1 text next x (line_text (length u.nodes) (form_of u t)) (said x ∙ ap (λ (k : ℕ). text ++ line_text k (form_of u t)) here) h.text_is;
       numbers_are = sym (added (x ++ line_text (length u.nodes) (form_of u t)));

@@ -10,7 +10,7 @@ use Rattle.wcv_types.specs.Unfold.{rank}
 use Rattle.wcv_types.specs.declared.ids.Part.{Part}
 use Rattle.wcv_types.specs.declared.ids.Part.TheVariants as p
 use Rattle.wcv_text.specs.Nodes.{NoneFrom}
-use Rattle.wcv_text.specs.Numbers.{written}
+use Rattle.wcv_text.specs.Numbers.{so_far}
 use Rattle.wcv_text.specs.declared.numbers.Numbers.{Numbers}
 
 -- a line for another leaves it open whether there is one
@@ -39,17 +39,17 @@ apart (p.Module i) k s h = numbers_apart k i.index h
 apart (p.CoreInstance i) k s h = numbers_apart k i.index h
 
 -- the own line of a type
-pub older_own : (q : Part) (old new : Numbers) → HasIdentity q → (written new []).nodes ≡ (written old []).nodes ++ identity_of q ∷ [] → NoneFrom (rank q) old new
+pub older_own : (q : Part) (old new : Numbers) → HasIdentity q → (so_far new []).nodes ≡ (so_far old []).nodes ++ identity_of q ∷ [] → NoneFrom (rank q) old new
 older_own q old new s added k h =
     ap (λ (is : List Identity). is_there same_identity (of_node (number k)) is) added ∙
-    there_other same_identity (of_node (number k)) (identity_of q) (written old []).nodes (apart q k s h)
+    there_other same_identity (of_node (number k)) (identity_of q) (so_far old []).nodes (apart q k s h)
 
 -- one after another
 pub older_then : (b c d : ℕ) (old mid new : Numbers) → b ≤ d → c ≤ d → NoneFrom b old mid → NoneFrom c mid new → NoneFrom d old new
 older_then b c d old mid new l m first second k h = second k (omega (arith, h, m)) ∙ first k (omega (arith, h, l))
 
 -- a type has no line of its own after the lines of those before it
-pub still_none : (q r : Part) (old new : Numbers) → rank q < rank r → NoneFrom (rank q) old new → has_line (written old []) (Some (identity_of r)) ≡ false → has_line (written new []) (Some (identity_of r)) ≡ false
+pub still_none : (q r : Part) (old new : Numbers) → rank q < rank r → NoneFrom (rank q) old new → has_line (so_far old []) (Some (identity_of r)) ≡ false → has_line (so_far new []) (Some (identity_of r)) ≡ false
 still_none q (p.Resource i) old new l older h = absurd (omega (arith, l))
 still_none q (p.Core i) old new l older h = absurd (omega (arith, l))
 still_none q (p.Defined i) old new l older h = older i.index (omega (arith, l)) ∙ h

@@ -15,7 +15,7 @@ use Rattle.wcv_types.specs.declared.ids.ResourceId.{ResourceId}
 use Rattle.wcv_types.specs.declared.item_map.ComponentItem.{ComponentItem}
 use Rattle.wcv_text.specs.Entries.{write_entry, write_list, write_path, write_path_list, write_lines}
 use Rattle.wcv_text.specs.LineList.{Adds, LineStands, Lists, rest_of, say, say_all}
-use Rattle.wcv_text.specs.Numbers.{written}
+use Rattle.wcv_text.specs.Numbers.{so_far}
 use Rattle.wcv_text.specs.declared.line_list.Line.{Line}
 use Rattle.wcv_text.specs.declared.numbers.Numbers.{Numbers}
 
@@ -45,7 +45,7 @@ all_said a ty =
 
 -- ## The lines of the whole text
 
-module _ (a : Arena) (ty : ComponentType) (lines : List Line) (empty seen : Numbers) (fresh : written empty [] ≡ nothing_written a.core) (listed : Adds a ty empty [] seen lines (write_lines a ty)) where
+module _ (a : Arena) (ty : ComponentType) (lines : List Line) (empty seen : Numbers) (fresh : so_far empty [] ≡ nothing_written a.core) (listed : Adds a ty empty [] seen lines (write_lines a ty)) where
   all_listed : Lists a ty seen lines (nothing_written a.core) (write_lines a ty (nothing_written a.core))
   all_listed = listed (nothing_written a.core) (nothing_written a.core) (record {
     said = refl;
@@ -56,13 +56,13 @@ module _ (a : Arena) (ty : ComponentType) (lines : List Line) (empty seen : Numb
   pub all_stand : All (LineStands a) lines
   all_stand = all_listed.stand
 
-  pub all_left : (numbers : Numbers) → written numbers [] ≡ nothing_written a.core → type_text a.core (root_tree a ty) ≡ (rest_of a ty lines 0 (written numbers [])).text
+  pub all_left : (numbers : Numbers) → so_far numbers [] ≡ nothing_written a.core → type_text a.core (root_tree a ty) ≡ (rest_of a ty lines 0 (so_far numbers [])).text
   all_left numbers new = all_said a ty ∙ ap (λ (w : Written). w.text) all_listed.said ∙ ap (λ (w : Written). (say_all a ty lines w).text) (sym new)
 
 -- the next line is said
 pub next_left : (a : Arena) (ty : ComponentType) (lines : List Line) (at : ℕ) (l : Line) (old new : Numbers) (said : Text) → at < length lines → l ≡ get_or lines at l →
-    say a ty l (written old said) ≡ written new (say a ty l (written old said)).text →
-    (rest_of a ty lines at (written old said)).text ≡ (rest_of a ty lines (at + 1) (written new (say a ty l (written old said)).text)).text
+    say a ty l (so_far old said) ≡ so_far new (say a ty l (so_far old said)).text →
+    (rest_of a ty lines at (so_far old said)).text ≡ (rest_of a ty lines (at + 1) (so_far new (say a ty l (so_far old said)).text)).text
 next_left a ty lines at l old new said within is same =
-    let w : Written = written old said in
+    let w : Written = so_far old said in
     ap (λ (ls : List Line). (say_all a ty ls w).text) (drop_more lines at l within ∙ ap (λ (x : Line). x ∷ drop (at + 1) lines) (sym is)) ∙ ap (λ (u : Written). (say_all a ty (drop (at + 1) lines) u).text) same

@@ -14,7 +14,7 @@ use Rattle.wcv_types.specs.declared.item_map.ComponentItem.{ComponentItem}
 use Rattle.wcv_text.specs.Entries.{write_path}
 use Rattle.wcv_text.specs.EntryList.{write_items}
 use Rattle.wcv_text.specs.Nodes.{items_at, own_line}
-use Rattle.wcv_text.specs.Numbers.{written}
+use Rattle.wcv_text.specs.Numbers.{so_far}
 use Rattle.wcv_text.specs.declared.line_list.Line.{Line}
 use Rattle.wcv_text.specs.declared.line_list.Line.TheVariants as line
 use Rattle.wcv_text.specs.declared.numbers.Numbers.{Numbers}
@@ -69,7 +69,7 @@ LineStands a (line.Path defined k) = Unit {0}
 -- the lines say what is to be written from the start on, and the nodes that have lines then are those that were seen
 pub record Lists (a : Arena) (ty : ComponentType) (seen : Numbers) (lines : List Line) (start w : Written) : Type 0 where
   pub said : w ≡ say_all a ty lines start
-  pub nodes : w.nodes ≡ (written seen []).nodes
+  pub nodes : w.nodes ≡ (so_far seen []).nodes
   pub stand : All (LineStands a) lines
 
 -- where the lines said what was to be written so far, they now say what the step makes of that

@@ -12,7 +12,7 @@ use Rattle.wcv_types.specs.Unfold.{Type_tree, place, tree_at}
 use Rattle.wcv_types.specs.declared.arena.Node.{Node}
 use Rattle.wcv_types.specs.declared.ids.Part.{Part}
 use Rattle.wcv_types.specs.declared.ids.Part.TheVariants as p
-use Rattle.wcv_text.specs.Numbers.{written}
+use Rattle.wcv_text.specs.Numbers.{so_far}
 use Rattle.wcv_text.specs.declared.numbers.Numbers.{Numbers}
 
 -- the form of the root of a tree
@@ -40,4 +40,4 @@ items_at a q = items_if (slice_get a.nodes (place q))
 
 -- the nodes from that place on have lines where they had them
 abbrev pub NoneFrom : ℕ → Numbers → Numbers → Type 0
-NoneFrom bound old new = (k : ℕ) → bound ≤ k → has_line (written new []) (Some (of_node (number k))) ≡ has_line (written old []) (Some (of_node (number k)))
+NoneFrom bound old new = (k : ℕ) → bound ≤ k → has_line (so_far new []) (Some (of_node (number k))) ≡ has_line (so_far old []) (Some (of_node (number k)))

@@ -3,7 +3,7 @@ use Rattle.std.specs.Prelude.{ℕ, ◌-◌, ◌≡◌, ◌++◌, length, All}
 use Rattle.wcv_types.specs.ComponentTrees.{ComponentStands}
 use Rattle.wcv_types.specs.Tree.{Text}
 use Rattle.wcv_text.specs.LineList.{LineStands, rest_of}
-use Rattle.wcv_text.specs.Numbers.{written}
+use Rattle.wcv_text.specs.Numbers.{so_far}
 use Rattle.wcv_text.specs.declared.type_lines.TypeLines.{TypeLines}
 
 -- how many lines are left
@@ -21,4 +21,4 @@ pub record Leads (l : TypeLines) (said whole : Text) : Type 0 where
   pub before : Text
   pub lines : Text
   pub said_is : said ≡ before ++ lines
-  pub whole_is : whole ≡ before ++ (rest_of l.types.now l.ty.now l.lines.items l.at (written l.numbers lines)).text
+  pub whole_is : whole ≡ before ++ (rest_of l.types.now l.ty.now l.lines.items l.at (so_far l.numbers lines)).text

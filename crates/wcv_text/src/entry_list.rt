@@ -6,7 +6,7 @@ ghost use Rattle.wcv_types.specs.Tree.{Text};
 ghost use Rattle.wcv_types.specs.Unfold.{resource_names, resource_path};
 ghost use Rattle.wcv_text.specs.EntryList.{one_entry, entries_said, own_said, paths_said, instance_said, component_said};
 ghost use Rattle.wcv_text.specs.Mentions.{comma, entry_said};
-ghost use Rattle.wcv_text.specs.Numbers.{Appends, name_of, written};
+ghost use Rattle.wcv_text.specs.Numbers.{Appends, name_of, so_far};
 
 use crate::mentions::{comma_at, push_entity, push_name};
 use crate::numbers::Numbers;
@@ -70,7 +70,7 @@ fn push_list(
 
 /// Gives numbers to resources that have none, in order.
 fn number_owned(numbers: &mut Numbers<'_>, owned: &ResourceSet) -> Result<(), AllocError>
-    ensures { OnOk result ((t : Text) → written numbers.new t ≡ with_each (written numbers.old t) (resource_names owned.now)) }
+    ensures { OnOk result ((t : Text) → so_far numbers.new t ≡ with_each (so_far numbers.old t) (resource_names owned.now)) }
 {
     for k in 0..owned.len() {
         match owned.get_index(k) {
@@ -85,7 +85,7 @@ fn number_owned(numbers: &mut Numbers<'_>, owned: &ResourceSet) -> Result<(), Al
 
 /// Gives numbers to resources with paths that have none, in order.
 fn number_paths(numbers: &mut Numbers<'_>, paths: &Paths) -> Result<(), AllocError>
-    ensures { OnOk result ((t : Text) → written numbers.new t ≡ with_paths (written numbers.old t) (map resource_path paths.now)) }
+    ensures { OnOk result ((t : Text) → so_far numbers.new t ≡ with_paths (so_far numbers.old t) (map resource_path paths.now)) }
 {
     for k in 0..paths.len() {
         match paths.get_index(k) {
@@ -148,7 +148,7 @@ pub fn push_instance(
     numbers: &mut Numbers<'_>,
     instance: &ComponentInstanceType,
 ) -> Result<(), AllocError>
-    ensures given { OnOk result ((t : Text) → written numbers.new t ≡ with_each (written numbers.old t) (resource_names instance.now.defined_resources)) }
+    ensures given { OnOk result ((t : Text) → so_far numbers.new t ≡ with_each (so_far numbers.old t) (resource_names instance.now.defined_resources)) }
     ensures form { OnOk result (Appends numbers.new (string_bytes text.old) (string_bytes text.new) (λ w. instance_said w instance.now)) }
 {
     let owned = &instance.defined_resources;
@@ -197,7 +197,7 @@ pub fn push_component(
     numbers: &mut Numbers<'_>,
     component: &ComponentType,
 ) -> Result<(), AllocError>
-    ensures given { OnOk result ((t : Text) → written numbers.new t ≡ with_paths (with_paths (written numbers.old t) (map resource_path component.now.imported_resources)) (map resource_path component.now.defined_resources)) }
+    ensures given { OnOk result ((t : Text) → so_far numbers.new t ≡ with_paths (with_paths (so_far numbers.old t) (map resource_path component.now.imported_resources)) (map resource_path component.now.defined_resources)) }
     ensures form { OnOk result (Appends numbers.new (string_bytes text.old) (string_bytes text.new) (λ w. component_said w component.now)) }
 {
     number_paths(numbers, &component.imported_resources)?;

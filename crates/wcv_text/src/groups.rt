@@ -6,7 +6,7 @@ ghost use Rattle.wcv_types.specs.Quoting.{listed};
 ghost use Rattle.wcv_types.specs.Text.{Written, has_group, with_group, write_groups};
 ghost use Rattle.wcv_types.specs.Tree.{Text};
 ghost use Rattle.wcv_text.specs.Groups.{done, all_done, visit_steps, steps_of, all_steps};
-ghost use Rattle.wcv_text.specs.Numbers.{Appends, Writes, Shows, written};
+ghost use Rattle.wcv_text.specs.Numbers.{Appends, Writes, Shows, so_far};
 
 use crate::core_ids::{Ids, named_by, older_in};
 use crate::core_line::push_sub;
@@ -50,7 +50,7 @@ fn push_form(text: &mut String, numbers: &Numbers<'_>, id: CoreTypeId) -> Result
 
 /// Appends the line of that group, which has none.
 fn push_line(text: &mut String, numbers: &mut Numbers<'_>, id: CoreTypeId) -> Result<(), AllocError>
-    requires { has_group (written numbers.old []) id.index ≡ false }
+    requires { has_group (so_far numbers.old []) id.index ≡ false }
     ensures shows { OnOk result (Writes numbers.old (string_bytes text.old) numbers.new (string_bytes text.new) (λ w. with_group w id.index)) }
     ensures core { numbers.new.core ≡ numbers.old.core }
 {
@@ -81,8 +81,8 @@ fn unfold(
     numbers: &Numbers<'_>,
     id: CoreTypeId,
 ) -> Result<(), AllocError>
-    requires no_line { has_group (written numbers.now []) id.index ≡ false }
-    ensures done { OnOk result ((t : Text) → all_done steps.new.items (written numbers.now t) ≡ all_done steps.old.items (done (Step.Visit id) (written numbers.now t))) }
+    requires no_line { has_group (so_far numbers.now []) id.index ≡ false }
+    ensures done { OnOk result ((t : Text) → all_done steps.new.items (so_far numbers.now t) ≡ all_done steps.old.items (done (Step.Visit id) (so_far numbers.now t))) }
     ensures count { OnOk result (all_steps numbers.now.core.now steps.new.items < all_steps numbers.now.core.now steps.old.items + steps_of numbers.now.core.now (Step.Visit id)) }
 {
     let named = older_in(alloc, numbers.core, id)?;

@@ -6,7 +6,7 @@ ghost use Rattle.wcv_types.specs.Tree.{Text, head};
 ghost use Rattle.wcv_types.specs.Unfold.{tree_at};
 ghost use Rattle.wcv_text.specs.LineList.{say_node};
 ghost use Rattle.wcv_text.specs.Nodes.{form_of, own_line};
-ghost use Rattle.wcv_text.specs.Numbers.{written, Appends, Writes};
+ghost use Rattle.wcv_text.specs.Numbers.{so_far, Appends, Writes};
 
 use crate::core_item_line::push_module;
 use crate::defined_line::push_defined;
@@ -29,7 +29,7 @@ fn push_form(
 ) -> Result<(), AllocError>
     requires stands { Stands types.now part }
     requires line { HasIdentity part }
-    ensures given { OnOk result ((t : Text) → written numbers.new t ≡ with_resources (written numbers.old t) (head (tree_at types.now part))) }
+    ensures given { OnOk result ((t : Text) → so_far numbers.new t ≡ with_resources (so_far numbers.old t) (head (tree_at types.now part))) }
     ensures form { OnOk result (Appends numbers.new (string_bytes text.old) (string_bytes text.new) (λ w. form_of w (tree_at types.now part))) }
 {
     match part {
@@ -53,7 +53,7 @@ fn push_line(
 ) -> Result<(), AllocError>
     requires stands { Stands types.now part }
     requires line { HasIdentity part }
-    requires no_line { has_line (written numbers.old []) (Some (identity_of part)) ≡ false }
+    requires no_line { has_line (so_far numbers.old []) (Some (identity_of part)) ≡ false }
     ensures { OnOk result (Writes numbers.old (string_bytes text.old) numbers.new (string_bytes text.new) (own_line part (tree_at types.now part))) }
 {
     let number = numbers.lines();

@@ -7,7 +7,7 @@ ghost use Rattle.wcv_types.specs.Positions.{position_of};
 ghost use Rattle.wcv_types.specs.Text.{nothing_written, has_group, has_line, with_resource};
 ghost use Rattle.wcv_types.specs.Tree.{Text};
 ghost use Rattle.wcv_text.specs.Identity.{known};
-ghost use Rattle.wcv_text.specs.Numbers.{name_of, written};
+ghost use Rattle.wcv_text.specs.Numbers.{name_of, so_far};
 
 use crate::core_place::place;
 use crate::identity::Identity;
@@ -29,7 +29,7 @@ pub struct Numbers<'a> {
 impl<'a> Numbers<'a> {
     /// No number is given yet.
     pub fn new(alloc: Global, core: &'a CoreTypes) -> Numbers<'a>
-        ensures { written result [] ≡ nothing_written core.now }
+        ensures { so_far result [] ≡ nothing_written core.now }
     {
         Numbers {
             core,
@@ -41,37 +41,37 @@ impl<'a> Numbers<'a> {
 
     /// How many lines there are.
     pub fn lines(&self) -> usize
-        ensures { result ≡ length (written self.now []).nodes }
+        ensures { result ≡ length (so_far self.now []).nodes }
     {
         self.nodes.len()
     }
 
     /// Whether the node has a line.
     pub fn has_line(&self, node: Identity) -> bool
-        ensures { result ≡ has_line (written self.now []) (Some (known node)) }
+        ensures { result ≡ has_line (so_far self.now []) (Some (known node)) }
     {
         self.nodes.has(&node)
     }
 
     /// The number of the line of the node. One that has none would get that number next.
     pub fn line(&self, node: Identity) -> usize
-        ensures { result ≡ position_of same_identity (known node) (written self.now []).nodes }
+        ensures { result ≡ position_of same_identity (known node) (so_far self.now []).nodes }
     {
         self.nodes.number(&node)
     }
 
     /// Gives the next line to a node that has none.
     pub fn add_line(&mut self, node: Identity) -> Result<(), AllocError>
-        requires { has_line (written self.old []) (Some (known node)) ≡ false }
-        ensures { OnOk result ((t : Text) → written self.new t ≡ record (written self.old t) { nodes = (written self.old t).nodes ++ known node ∷ [] }) }
+        requires { has_line (so_far self.old []) (Some (known node)) ≡ false }
+        ensures { OnOk result ((t : Text) → so_far self.new t ≡ record (so_far self.old t) { nodes = (so_far self.old t).nodes ++ known node ∷ [] }) }
     {
         self.nodes.push(node)
     }
 
     /// The number of the resource, which gets the next where it has none.
     pub fn resource(&mut self, resource: ResourceId) -> Result<usize, AllocError>
-        ensures given { OnOk result ((t : Text) → written self.new t ≡ with_resource (written self.old t) (name_of resource)) }
-        ensures number { IfOk result (λ n. n ≡ position_of same (name_of resource) (written self.new []).resources) }
+        ensures given { OnOk result ((t : Text) → so_far self.new t ≡ with_resource (so_far self.old t) (name_of resource)) }
+        ensures number { IfOk result (λ n. n ≡ position_of same (name_of resource) (so_far self.new []).resources) }
     {
         if !self.resources.has(&resource) {
             self.resources.push(resource)?;
@@ -81,36 +81,36 @@ impl<'a> Numbers<'a> {
 
     /// The number of the resource. One that has none would get that number next.
     pub fn resource_number(&self, resource: ResourceId) -> usize
-        ensures { result ≡ position_of same (name_of resource) (written self.now []).resources }
+        ensures { result ≡ position_of same (name_of resource) (so_far self.now []).resources }
     {
         self.resources.number(&resource)
     }
 
     /// The first type of the group that a core type stands in.
     fn first(&self, id: CoreTypeId) -> CoreTypeId
-        ensures { result.index ≡ group_first (written self.now []).core id.index }
+        ensures { result.index ≡ group_first (so_far self.now []).core id.index }
     {
         place(self.core, id).0
     }
 
     /// How many groups have a line.
     pub fn group_lines(&self) -> usize
-        ensures { result ≡ length (written self.now []).groups }
+        ensures { result ≡ length (so_far self.now []).groups }
     {
         self.groups.len()
     }
 
     /// Whether the group of the core type has a line.
     pub fn has_group(&self, id: CoreTypeId) -> bool
-        ensures { result ≡ has_group (written self.now []) id.index }
+        ensures { result ≡ has_group (so_far self.now []) id.index }
     {
         self.groups.has(&self.first(id))
     }
 
     /// The number of the line of the core type's group, and its place there. A group that has none would get that number next.
     pub fn group(&self, id: CoreTypeId) -> (usize, u64)
-        ensures number { result.0 ≡ position_of eqb (group_first (written self.now []).core id.index) (written self.now []).groups }
-        ensures place { result.1 ≡ id.index - group_first (written self.now []).core id.index }
+        ensures number { result.0 ≡ position_of eqb (group_first (so_far self.now []).core id.index) (so_far self.now []).groups }
+        ensures place { result.1 ≡ id.index - group_first (so_far self.now []).core id.index }
     {
         let first = self.first(id);
         (
@@ -121,9 +121,9 @@ impl<'a> Numbers<'a> {
 
     /// Gives the next line of a group to that of the core type. It has none.
     pub fn add_group(&mut self, id: CoreTypeId) -> Result<(), AllocError>
-        requires { has_group (written self.old []) id.index ≡ false }
+        requires { has_group (so_far self.old []) id.index ≡ false }
         ensures core { self.new.core ≡ self.old.core }
-        ensures line { OnOk result ((t : Text) → written self.new t ≡ record (written self.old t) { groups = (written self.old t).groups ++ group_first (written self.old t).core id.index ∷ [] }) }
+        ensures line { OnOk result ((t : Text) → so_far self.new t ≡ record (so_far self.old t) { groups = (so_far self.old t).groups ++ group_first (so_far self.old t).core id.index ∷ [] }) }
     {
         let first = self.first(id);
         self.groups.push(first)

@@ -3,7 +3,7 @@ use Rattle.std.proofs.lemmas.Result.{on_ok_weaker}
 use Rattle.wcv_types.specs.CoreText.{item_text}
 use Rattle.wcv_types.specs.Quoting.{quoted}
 use Rattle.wcv_types.specs.Tree.{Text}
-use Rattle.wcv_text.specs.Numbers.{written}
+use Rattle.wcv_text.specs.Numbers.{so_far}
 use Rattle.wcv_text.proofs.core_item_line.push_export.Goals as goal
 
 pub returns : goal.returns
@@ -12,7 +12,7 @@ returns c =
     let name : Text = quoted c.args.entry.now.0 in
     let first : string_bytes c.push_str-2.new.self ≡ start ++ codes "export " ++ name ++ codes " " = search rules in
     on_ok_weaker c.push_item.result
-    (λ said t. behind start (string_bytes c.push_str-2.new.self) _ name (item_text (written c.args.numbers.now t).core (written c.args.numbers.now t).groups c.args.entry.now.1) first (said t))
+    (λ said t. behind start (string_bytes c.push_str-2.new.self) _ name (item_text (so_far c.args.numbers.now t).core (so_far c.args.numbers.now t).groups c.args.entry.now.1) first (said t))
     c.push_item.ensures
   where
     behind : (start a b name item : Text) → a ≡ start ++ codes "export " ++ name ++ codes " " → b ≡ a ++ item → b ≡ start ++ (codes "export " ++ name ++ codes " " ++ item)

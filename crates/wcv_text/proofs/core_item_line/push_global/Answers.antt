@@ -3,7 +3,7 @@ use Rattle.std.proofs.lemmas.Result.{on_ok_weaker}
 use Rattle.wcv_core.specs.declared.core_types.EntityType.TheVariants as entity
 use Rattle.wcv_types.specs.CoreText.{item_text, mark_text, val_text}
 use Rattle.wcv_types.specs.Tree.{Text}
-use Rattle.wcv_text.specs.Numbers.{written, Appends}
+use Rattle.wcv_text.specs.Numbers.{so_far, Appends}
 use Rattle.wcv_text.proofs.core_item_line.push_global.Goals as goal
 
 pub returns : goal.returns
@@ -16,7 +16,7 @@ returns c =
     let end : OnOk c.push_str-3.result (string_bytes c.push_str-3.new.self ≡ string_bytes c.push_str-2.new.self ++ shared) = search rules in
     on_ok_weaker {Q = Appends c.args.numbers.now start (string_bytes c.push_str-3.new.self) (λ w. item_text w.core w.groups (entity.Global c.args.ty))} c.push_str-3.result
     (λ last t. said start (string_bytes c.push_str.new.self) (string_bytes c.push_val.new.text) (string_bytes c.push_str-2.new.self) _
-    (val_text (written c.args.numbers.now t).core (written c.args.numbers.now t).groups c.args.ty.content_type) mut shared first (c.in_ok-push_val.ensures t) third last)
+    (val_text (so_far c.args.numbers.now t).core (so_far c.args.numbers.now t).groups c.args.ty.content_type) mut shared first (c.in_ok-push_val.ensures t) third last)
     end
   where
     said : (start a b d e val m s : Text) → a ≡ start ++ codes "global " → b ≡ a ++ val → d ≡ b ++ m → e ≡ d ++ s → e ≡ start ++ (codes "global " ++ val ++ m ++ s)

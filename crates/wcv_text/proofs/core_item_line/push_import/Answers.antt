@@ -3,7 +3,7 @@ use Rattle.std.proofs.lemmas.Result.{on_ok_weaker}
 use Rattle.wcv_types.specs.CoreText.{item_text}
 use Rattle.wcv_types.specs.Quoting.{quoted}
 use Rattle.wcv_types.specs.Tree.{Text}
-use Rattle.wcv_text.specs.Numbers.{written}
+use Rattle.wcv_text.specs.Numbers.{so_far}
 use Rattle.wcv_text.proofs.core_item_line.push_import.Goals as goal
 
 pub returns : goal.returns
@@ -14,7 +14,7 @@ returns c =
     let first : string_bytes c.push_str-2.new.self ≡ start ++ codes "import " ++ of ++ codes " " = search rules in
     let second : string_bytes c.push_str-3.new.self ≡ string_bytes c.push_str-2.new.self ++ name ++ codes " " = search rules in
     on_ok_weaker c.push_item.result
-    (λ said t. behind start (string_bytes c.push_str-2.new.self) (string_bytes c.push_str-3.new.self) _ of name (item_text (written c.args.numbers.now t).core (written c.args.numbers.now t).groups c.args.entry.now.1) first second (said t))
+    (λ said t. behind start (string_bytes c.push_str-2.new.self) (string_bytes c.push_str-3.new.self) _ of name (item_text (so_far c.args.numbers.now t).core (so_far c.args.numbers.now t).groups c.args.entry.now.1) first second (said t))
     c.push_item.ensures
   where
     behind : (start a b d of name item : Text) → a ≡ start ++ codes "import " ++ of ++ codes " " → b ≡ a ++ name ++ codes " " → d ≡ b ++ item →

@@ -4,7 +4,7 @@ use Rattle.std.proofs.lemmas.Result.{on_ok_weaker}
 use Rattle.wcv_core.specs.declared.core_types.EntityType.TheVariants as entity
 use Rattle.wcv_types.specs.CoreText.{greatest_text, item_text, mark_text, ref_text}
 use Rattle.wcv_types.specs.Tree.{Text}
-use Rattle.wcv_text.specs.Numbers.{written, Appends}
+use Rattle.wcv_text.specs.Numbers.{so_far, Appends}
 use Rattle.wcv_text.proofs.core_item_line.push_table.Goals as goal
 
 pub returns : goal.returns
@@ -19,7 +19,7 @@ returns c =
     let end : OnOk c.push_str-3.result (string_bytes c.push_str-3.new.self ≡ string_bytes c.push_str-2.new.self ++ shared) = search rules in
     on_ok_weaker {Q = Appends c.args.numbers.now start (string_bytes c.push_str-3.new.self) (λ w. item_text w.core w.groups (entity.Table c.args.ty))} c.push_str-3.result
     (λ last t. said start (string_bytes c.push_str.new.self) (string_bytes c.push_ref.new.text) (string_bytes c.write.new.self) (string_bytes c.push_greatest.new.text) (string_bytes c.push_str-2.new.self) _
-    (ref_text (written c.args.numbers.now t).core (written c.args.numbers.now t).groups c.args.ty.element_type) initial (greatest_text c.args.ty.maximum) wide shared
+    (ref_text (so_far c.args.numbers.now t).core (so_far c.args.numbers.now t).groups c.args.ty.element_type) initial (greatest_text c.args.ty.maximum) wide shared
     first (c.in_ok-push_ref.ensures t) number c.in_ok-push_greatest.ensures fifth last)
     end
   where

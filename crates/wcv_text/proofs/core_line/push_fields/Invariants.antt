@@ -3,10 +3,10 @@ use Rattle.wcv_types.specs.CoreText.{field_text}
 use Rattle.wcv_types.specs.Quoting.{listed}
 use Rattle.wcv_types.specs.Tree.{Text}
 use Rattle.wcv_text.specs.Mentions.{separator}
-use Rattle.wcv_text.specs.Numbers.{written}
+use Rattle.wcv_text.specs.Numbers.{so_far}
 use Rattle.wcv_text.proofs.core_line.push_fields.Given as goal
 
 abbrev pub invariant-loop-index : goal.invariant-loop-index
 invariant-loop-index l =
-    (t : Text) → string_bytes l.text ++ listed (separator (codes ", ") l.index) (map (field_text (written l.numbers t).core (written l.numbers t).groups) (drop l.index l.fields)) ≡
-    string_bytes l.initial.text ++ listed [] (map (field_text (written l.numbers t).core (written l.numbers t).groups) l.fields)
+    (t : Text) → string_bytes l.text ++ listed (separator (codes ", ") l.index) (map (field_text (so_far l.numbers t).core (so_far l.numbers t).groups) (drop l.index l.fields)) ≡
+    string_bytes l.initial.text ++ listed [] (map (field_text (so_far l.numbers t).core (so_far l.numbers t).groups) l.fields)

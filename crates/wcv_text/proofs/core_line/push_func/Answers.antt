@@ -2,7 +2,7 @@ use Rattle.std.proofs.Common.{◌≡◌, ◌++◌, [], ◌∙◌, ap, codes, map
 use Rattle.std.proofs.lemmas.Result.{on_ok_weaker}
 use Rattle.wcv_types.specs.CoreText.{spaced, val_text}
 use Rattle.wcv_types.specs.Tree.{Text}
-use Rattle.wcv_text.specs.Numbers.{written, Appends}
+use Rattle.wcv_text.specs.Numbers.{so_far, Appends}
 use Rattle.wcv_text.proofs.core_line.push_func.Goals as goal
 
 pub returns : goal.returns
@@ -14,7 +14,7 @@ returns c =
     on_ok_weaker {Q = Appends c.args.numbers.now start (string_bytes c.push_str-3.new.self)
     (λ w. codes "func (" ++ spaced [] (map (val_text w.core w.groups) c.args.params.now) ++ codes ") -> (" ++ spaced [] (map (val_text w.core w.groups) c.args.results.now) ++ codes ")")} c.push_str-3.result
     (λ last t. said start (string_bytes c.push_str.new.self) (string_bytes c.push_vals.new.text) (string_bytes c.push_str-2.new.self) (string_bytes c.push_vals-2.new.text) _
-    (spaced [] (map (val_text (written c.args.numbers.now t).core (written c.args.numbers.now t).groups) c.args.params.now)) (spaced [] (map (val_text (written c.args.numbers.now t).core (written c.args.numbers.now t).groups) c.args.results.now))
+    (spaced [] (map (val_text (so_far c.args.numbers.now t).core (so_far c.args.numbers.now t).groups) c.args.params.now)) (spaced [] (map (val_text (so_far c.args.numbers.now t).core (so_far c.args.numbers.now t).groups) c.args.results.now))
     first (c.in_ok-push_vals.ensures t) arrow (c.in_ok-push_vals-2.ensures t) last)
     end
   where

@@ -3,7 +3,7 @@ use Rattle.std.proofs.lemmas.Result.{on_ok_weaker}
 use Rattle.wcv_core.specs.CoreForm.{composite_form}
 use Rattle.wcv_types.specs.CoreText.{composite_text, mark_text, super_text}
 use Rattle.wcv_types.specs.Tree.{Text}
-use Rattle.wcv_text.specs.Numbers.{written}
+use Rattle.wcv_text.specs.Numbers.{so_far}
 use Rattle.wcv_text.proofs.core_line.push_sub.Goals as goal
 
 pub returns : goal.returns
@@ -15,7 +15,7 @@ returns c =
     let third : string_bytes c.push_str-2.new.self ≡ string_bytes c.push_super.new.text ++ shared = search rules in
     on_ok_weaker c.push_composite.result
     (λ form t. said start (string_bytes c.push_str.new.self) (string_bytes c.push_super.new.text) (string_bytes c.push_str-2.new.self) _ open_word
-    (super_text (written c.args.numbers.now t).core (written c.args.numbers.now t).groups c.args.ty.now.supertype) shared (composite_text (written c.args.numbers.now t).core (written c.args.numbers.now t).groups (composite_form c.args.ty.now.inner))
+    (super_text (so_far c.args.numbers.now t).core (so_far c.args.numbers.now t).groups c.args.ty.now.supertype) shared (composite_text (so_far c.args.numbers.now t).core (so_far c.args.numbers.now t).groups (composite_form c.args.ty.now.inner))
     first (c.in_ok-push_super.ensures t) third (form t))
     c.push_composite.ensures
   where

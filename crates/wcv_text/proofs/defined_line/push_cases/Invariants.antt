@@ -3,10 +3,10 @@ use Rattle.wcv_types.specs.Text.{listed}
 use Rattle.wcv_types.specs.Tree.{Text}
 use Rattle.wcv_text.specs.DefinedLine.{cases_said}
 use Rattle.wcv_text.specs.Mentions.{separator}
-use Rattle.wcv_text.specs.Numbers.{written}
+use Rattle.wcv_text.specs.Numbers.{so_far}
 use Rattle.wcv_text.proofs.defined_line.push_cases.Given as goal
 
 abbrev pub invariant-loop-index : goal.invariant-loop-index
 invariant-loop-index l =
-    (t : Text) → string_bytes l.text ++ listed (separator (codes ", ") l.index) (cases_said (written l.numbers t) (drop l.index l.cases)) ≡
-    string_bytes l.initial.text ++ listed [] (cases_said (written l.numbers t) l.cases)
+    (t : Text) → string_bytes l.text ++ listed (separator (codes ", ") l.index) (cases_said (so_far l.numbers t) (drop l.index l.cases)) ≡
+    string_bytes l.initial.text ++ listed [] (cases_said (so_far l.numbers t) l.cases)

@@ -3,7 +3,7 @@ use Rattle.std.specs.Fmt.{decimal}
 use Rattle.std.proofs.lemmas.Result.{on_ok_weaker}
 use Rattle.wcv_types.specs.Tree.{Text}
 use Rattle.wcv_text.specs.Mentions.{value_text}
-use Rattle.wcv_text.specs.Numbers.{written, Appends}
+use Rattle.wcv_text.specs.Numbers.{so_far, Appends}
 use Rattle.wcv_text.proofs.defined_line.push_fixed_list.Goals as goal
 
 pub returns : goal.returns
@@ -12,7 +12,7 @@ returns c =
     let mid : Text = string_bytes c.push_one.new.text in
     let end : OnOk c.write.result (string_bytes c.write.new.self ≡ mid ++ (codes " " ++ decimal c.args.length)) = search rules in
     on_ok_weaker {Q = Appends c.args.numbers.now start (string_bytes c.write.new.self) (λ w. codes "fixed-list " ++ value_text w c.args.value ++ codes " " ++ decimal c.args.length)} c.write.result
-    (λ last t. last ∙ ap (λ (x : Text). x ++ (codes " " ++ decimal c.args.length)) (c.in_ok-push_one.ensures t) ∙ regroup start (codes "fixed-list " ++ value_text (written c.args.numbers.now t) c.args.value) (decimal c.args.length))
+    (λ last t. last ∙ ap (λ (x : Text). x ++ (codes " " ++ decimal c.args.length)) (c.in_ok-push_one.ensures t) ∙ regroup start (codes "fixed-list " ++ value_text (so_far c.args.numbers.now t) c.args.value) (decimal c.args.length))
     end
   where
     regroup : (a b d : Text) → (a ++ b) ++ (codes " " ++ d) ≡ a ++ (b ++ codes " " ++ d)

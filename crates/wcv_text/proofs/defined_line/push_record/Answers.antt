@@ -2,7 +2,7 @@ use Rattle.std.proofs.Common.{◌≡◌, ◌++◌, [], codes, rules, string_byte
 use Rattle.std.proofs.lemmas.Result.{on_ok_weaker}
 use Rattle.wcv_types.specs.Tree.{Text}
 use Rattle.wcv_text.specs.DefinedLine.{fields_said}
-use Rattle.wcv_text.specs.Numbers.{written, Appends}
+use Rattle.wcv_text.specs.Numbers.{so_far, Appends}
 use Rattle.wcv_text.proofs.Pieces.{in_braces}
 use Rattle.wcv_text.proofs.defined_line.push_record.Goals as goal
 
@@ -12,5 +12,5 @@ returns c =
     let first : string_bytes c.push_str.new.self ≡ start ++ codes "record {" = search rules in
     let end : OnOk c.push_str-2.result (string_bytes c.push_str-2.new.self ≡ string_bytes c.push_fields.new.text ++ codes "}") = search rules in
     on_ok_weaker {Q = Appends c.args.numbers.now start (string_bytes c.push_str-2.new.self) (λ w. codes "record {" ++ fields_said w [] c.args.fields.now ++ codes "}")} c.push_str-2.result
-    (λ last t. in_braces start (string_bytes c.push_str.new.self) (string_bytes c.push_fields.new.text) _ (codes "record {") (fields_said (written c.args.numbers.now t) [] c.args.fields.now) first (c.in_ok-push_fields.ensures t) last)
+    (λ last t. in_braces start (string_bytes c.push_str.new.self) (string_bytes c.push_fields.new.text) _ (codes "record {") (fields_said (so_far c.args.numbers.now t) [] c.args.fields.now) first (c.in_ok-push_fields.ensures t) last)
     end

@@ -3,7 +3,7 @@ use Rattle.std.proofs.lemmas.Result.{on_ok_weaker}
 use Rattle.wcv_types.specs.Text.{listed}
 use Rattle.wcv_types.specs.Tree.{Text}
 use Rattle.wcv_text.specs.DefinedLine.{types_said}
-use Rattle.wcv_text.specs.Numbers.{written, Appends}
+use Rattle.wcv_text.specs.Numbers.{so_far, Appends}
 use Rattle.wcv_text.proofs.Pieces.{in_braces}
 use Rattle.wcv_text.proofs.defined_line.push_tuple.Goals as goal
 
@@ -13,5 +13,5 @@ returns c =
     let first : string_bytes c.push_str.new.self ≡ start ++ codes "tuple {" = search rules in
     let end : OnOk c.push_str-2.result (string_bytes c.push_str-2.new.self ≡ string_bytes c.push_types.new.text ++ codes "}") = search rules in
     on_ok_weaker {Q = Appends c.args.numbers.now start (string_bytes c.push_str-2.new.self) (λ w. codes "tuple {" ++ listed [] (types_said w c.args.types.now) ++ codes "}")} c.push_str-2.result
-    (λ last t. in_braces start (string_bytes c.push_str.new.self) (string_bytes c.push_types.new.text) _ (codes "tuple {") (listed [] (types_said (written c.args.numbers.now t) c.args.types.now)) first (c.in_ok-push_types.ensures t) last)
+    (λ last t. in_braces start (string_bytes c.push_str.new.self) (string_bytes c.push_types.new.text) _ (codes "tuple {") (listed [] (types_said (so_far c.args.numbers.now t) c.args.types.now)) first (c.in_ok-push_types.ensures t) last)
     end

@@ -5,13 +5,13 @@ use Rattle.wcv_types.specs.Text.{Written, with_paths}
 use Rattle.wcv_types.specs.Tree.{Text}
 use Rattle.wcv_types.specs.Unfold.{resource_path}
 use Rattle.wcv_text.specs.EntryList.{entries_said, paths_said, component_said}
-use Rattle.wcv_text.specs.Numbers.{written, Appends}
+use Rattle.wcv_text.specs.Numbers.{so_far, Appends}
 use Rattle.wcv_text.proofs.Pieces.{in_braces}
 use Rattle.wcv_text.proofs.entry_list.push_component.Goals as goal
 
 pub returns-clause-given : goal.returns-clause-given
 returns-clause-given c =
-    let both : (t : Text) → written c.number_paths-2.new.numbers t ≡ with_paths (with_paths (written c.args.numbers.now t) (map resource_path c.args.component.now.imported_resources)) (map resource_path c.args.component.now.defined_resources) =
+    let both : (t : Text) → so_far c.number_paths-2.new.numbers t ≡ with_paths (with_paths (so_far c.args.numbers.now t) (map resource_path c.args.component.now.imported_resources)) (map resource_path c.args.component.now.defined_resources) =
     λ t. c.in_ok-number_paths-2.ensures t ∙ ap (λ (w : Written). with_paths w (map resource_path c.args.component.now.defined_resources)) (c.in_ok-number_paths.ensures t) in
     search rules
 
@@ -22,7 +22,7 @@ returns-clause-form c =
     let end : OnOk c.push_str-2.result (string_bytes c.push_str-2.new.self ≡ string_bytes c.push_lists.new.text ++ codes "}") = search rules in
     on_ok_weaker {Q = Appends c.number_paths-2.new.numbers start (string_bytes c.push_str-2.new.self) (λ w. component_said w c.args.component.now)} c.push_str-2.result
     (λ last t.
-    let w : Written = written c.number_paths-2.new.numbers t in
+    let w : Written = so_far c.number_paths-2.new.numbers t in
     in_braces start (string_bytes c.push_str.new.self) (string_bytes c.push_lists.new.text) _ (codes "component {")
     (listed [] (entries_said w (codes "import ") c.args.component.now.imports ++ entries_said w (codes "export ") c.args.component.now.exports ++ paths_said w (codes "imported ") c.args.component.now.imported_resources ++ paths_said w (codes "defined ") c.args.component.now.defined_resources))
     first (c.in_ok-push_lists.ensures t) last)

@@ -6,7 +6,7 @@ use Rattle.wcv_types.specs.Text.{name_text}
 use Rattle.wcv_types.specs.Tree.{Text}
 use Rattle.wcv_text.specs.EntryList.{one_entry}
 use Rattle.wcv_text.specs.Mentions.{entity_said}
-use Rattle.wcv_text.specs.Numbers.{written, Appends}
+use Rattle.wcv_text.specs.Numbers.{so_far, Appends}
 use Rattle.wcv_text.proofs.entry_list.push_entry.Goals as goal
 
 pub returns : goal.returns
@@ -17,7 +17,7 @@ returns c =
     let beside : Text = name_text (entry_name c.args.entry.now) in
     let first : string_bytes c.push_str-2.new.self ≡ start ++ word ++ name ++ codes " " = search rules in
     on_ok_weaker {Q = Appends c.args.numbers.now start (string_bytes c.push_name.new.text) (λ w. one_entry w word c.args.entry.now)} c.push_name.result
-    (λ last t. said start (string_bytes c.push_str-2.new.self) (string_bytes c.push_entity.new.text) _ word name (entity_said (written c.args.numbers.now t) c.args.entry.now.1.ty) beside first (c.in_ok-push_entity.ensures t) last)
+    (λ last t. said start (string_bytes c.push_str-2.new.self) (string_bytes c.push_entity.new.text) _ word name (entity_said (so_far c.args.numbers.now t) c.args.entry.now.1.ty) beside first (c.in_ok-push_entity.ensures t) last)
     c.push_name.ensures
   where
     said : (start a b d word name entity beside : Text) → a ≡ start ++ word ++ name ++ codes " " → b ≡ a ++ entity → d ≡ b ++ beside → d ≡ start ++ (word ++ name ++ codes " " ++ entity ++ beside)

@@ -7,7 +7,7 @@ use Rattle.wcv_types.specs.declared.component_type.ComponentType.{ComponentType}
 use Rattle.wcv_types.specs.declared.ids.ResourceId.{ResourceId}
 use Rattle.wcv_text.specs.EntryList.{entries_said, one_entry, paths_said}
 use Rattle.wcv_text.specs.Mentions.{comma}
-use Rattle.wcv_text.specs.Numbers.{name_of, written}
+use Rattle.wcv_text.specs.Numbers.{name_of, so_far}
 use Rattle.wcv_text.proofs.Listing.{both_listed}
 use Rattle.wcv_text.proofs.entry_list.push_lists.Goals as goal
 
@@ -23,7 +23,7 @@ returns c =
     let paths_are : paths ≡ (entries || some c.len-paths.result) = search rules in
     on_ok_weaker c.push_path_list-2.result
     (λ last t.
-    let w : Written = written c.args.numbers.now t in
+    let w : Written = so_far c.args.numbers.now t in
     let one : List Text = entries_said w (codes "import ") shape.imports in
     let two : List Text = entries_said w (codes "export ") shape.exports in
     let three : List Text = paths_said w (codes "imported ") shape.imported_resources in

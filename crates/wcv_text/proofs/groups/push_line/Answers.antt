@@ -4,7 +4,7 @@ use Rattle.std.proofs.lemmas.Result.{on_ok_weaker}
 use Rattle.wcv_types.specs.CoreText.{group_text, group_at}
 use Rattle.wcv_types.specs.Text.{Written, line_text}
 use Rattle.wcv_types.specs.Tree.{Text}
-use Rattle.wcv_text.specs.Numbers.{written}
+use Rattle.wcv_text.specs.Numbers.{so_far}
 use Rattle.wcv_text.proofs.Grouping.{group_shown}
 use Rattle.wcv_text.proofs.groups.push_line.Goals as goal
 
@@ -16,7 +16,7 @@ returns-clause-shows c =
     on_ok_weaker c.add_group.result
     (λ added before w h. group_shown c.args.numbers.now c.add_group.new.self before start (string_bytes c.push_str.new.self) w c.args.id.index
     (λ x.
-    let u : Written = written c.args.numbers.now x in
+    let u : Written = so_far c.args.numbers.now x in
     said start (group_text u.core u.groups (group_at u.core c.args.id.index)) (string_bytes c.write.new.self) (string_bytes c.push_form.new.text) (string_bytes c.push_str.new.self) c.group_lines-number.result (length u.groups) c.group_lines-number.ensures first (c.in_ok-push_form.ensures x) end)
     added h)
     c.add_group.ensures.line

@@ -10,7 +10,7 @@ use Rattle.wcv_types.specs.declared.item_map.ComponentItem.{ComponentItem}
 use Rattle.wcv_text.specs.Entries.{write_path}
 use Rattle.wcv_text.specs.LineList.{entries_of, entry_word, path_word, paths_of, say, with_entry, with_path}
 use Rattle.wcv_text.specs.Mentions.{entry_said}
-use Rattle.wcv_text.specs.Numbers.{written, Appends, Shows, Writes}
+use Rattle.wcv_text.specs.Numbers.{so_far, Appends, Shows, Writes}
 use Rattle.wcv_text.specs.declared.line_list.Line.{Line}
 use Rattle.wcv_text.specs.declared.numbers.Numbers.{Numbers}
 use Rattle.wcv_text.proofs.EntryLines.{entry_shown, entry_stands}
@@ -29,7 +29,7 @@ returns-in-Some c =
     ap (λ (es : List (Text × ComponentItem)). slice_get es c.in-Entry.k) (sym c.entries_in.ensures) ∙ sym c.get_index.ensures ∙ ap option_copied c.in-Some.is in
     on_ok_weaker {Q = Writes numbers text numbers next (say a ty c.args.line)} c.push_entry_line.result
     (λ said before w h.
-    let appended : Appends numbers text next (entry_said word e) = λ t. said t ∙ ap (λ (x : Text). text ++ entry_said x e (written numbers t)) c.entry_word.ensures in
+    let appended : Appends numbers text next (entry_said word e) = λ t. said t ∙ ap (λ (x : Text). text ++ entry_said x e (so_far numbers t)) c.entry_word.ensures in
     subst (λ (l : Line). Shows numbers before next (say a ty l w)) (sym c.in-Entry.is)
     (subst (λ (o : Option (Text × ComponentItem)). Shows numbers before next (with_entry word (trees a.nodes) o w)) (sym found)
     (entry_shown a numbers before text next word w e (entry_stands a ty c.in-Entry.exported c.in-Entry.k e c.requires.entries found) appended h)))

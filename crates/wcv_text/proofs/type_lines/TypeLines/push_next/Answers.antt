@@ -3,7 +3,7 @@ use Rattle.wcv_types.specs.Arena.{Arena}
 use Rattle.wcv_types.specs.Tree.{Text}
 use Rattle.wcv_types.specs.declared.component_type.ComponentType.{ComponentType}
 use Rattle.wcv_text.specs.LineList.{say}
-use Rattle.wcv_text.specs.Numbers.{written, Shows}
+use Rattle.wcv_text.specs.Numbers.{so_far, Shows}
 use Rattle.wcv_text.specs.declared.line_list.Line.{Line}
 use Rattle.wcv_text.specs.declared.numbers.Numbers.{Numbers}
 use Rattle.wcv_text.proofs.Whole.{next_left}
@@ -18,11 +18,11 @@ returns-clause-leads c = λ sent whole h.
     let x : Line = c.index-line.result.now in
     let old : Numbers = c.args.self.now.numbers in
     let new : Numbers = c.push_line.new.numbers in
-    let shown : Shows new (sent, h.before) (string_bytes c.push_line.new.text) (say a ty x (written old h.lines)) =
-    c.in_ok-push_line.ensures (sent, h.before) (written old h.lines) (record { text_is = h.said_is; numbers_are = refl }) in
+    let shown : Shows new (sent, h.before) (string_bytes c.push_line.new.text) (say a ty x (so_far old h.lines)) =
+    c.in_ok-push_line.ensures (sent, h.before) (so_far old h.lines) (record { text_is = h.said_is; numbers_are = refl }) in
     record {
       before = h.before;
-      lines = (say a ty x (written old h.lines)).text;
+      lines = (say a ty x (so_far old h.lines)).text;
       said_is = shown.text_is;
       whole_is = h.whole_is ∙ ap (λ (t : Text). h.before ++ t) (next_left a ty lines at x old new h.lines (search rules) c.index-line.ensures shown.numbers_are);
     }
