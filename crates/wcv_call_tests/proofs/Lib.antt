@@ -2,3 +2,4 @@ pub mod Closing
 pub mod Owning
 pub mod Standing
 pub mod Opened
+pub mod RowWords

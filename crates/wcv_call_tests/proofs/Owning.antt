@@ -59,6 +59,7 @@ bare_fits a es e =
       led = tt;
       within = All-nil (IsEntityWithin (total a.core));
       stated = refl;
+      apart = tt;
     })
 
 -- ## A new resource

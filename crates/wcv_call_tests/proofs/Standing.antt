@@ -1,8 +1,10 @@
 -- What stands in an arena.
-use Rattle.std.proofs.Common.{◌≡◌, sym, subst}
+use Rattle.std.proofs.Common.{◌≡◌, ◌∙◌, ap, bytes_eq, sym, subst}
+use Rattle.std.specs.List.{IsDistinct}
 use Rattle.std.specs.Prelude.{List, [], ◌∷◌, ◌++◌, All}
 use Rattle.std.proofs.lemmas.List.Elements.{All-nil, All-cons, All-head, All-tail, All-push, All-append}
 use Rattle.wcv_types.specs.Arena.{Arena}
+use Rattle.wcv_types.specs.ByName.{NamesDiffer}
 use Rattle.wcv_types.specs.Entities.{EntityStands, EntryStands, SlotStands}
 use Rattle.wcv_types.specs.Standing.{Stands}
 use Rattle.wcv_types.specs.Tree.{Text, Extern_name, Role, export, import}
@@ -18,6 +20,13 @@ Entry = Text × ComponentItem
 -- one entry behind none
 pub one_stands : (a : Arena) (es later : List Entry) (n : ComponentExternName) (x : ComponentEntityType) → es ≡ [] → later ≡ es ++ entry_of n x ∷ [] → EntityStands a x → All (EntryStands a) later
 one_stands a es later n x e q h = subst (All (EntryStands a)) (sym q) (All-push (EntryStands a) es (entry_of n x) (subst (All (EntryStands a)) (sym e) (All-nil (EntryStands a))) h)
+
+single : (k : Text) → IsDistinct bytes_eq (k ∷ [])
+unfolding IsDistinct
+single k = (tt, tt)
+
+pub one_apart : (es later : List Entry) (n : ComponentExternName) (x : ComponentEntityType) → es ≡ [] → later ≡ es ++ entry_of n x ∷ [] → NamesDiffer later
+one_apart es later n x e q = subst (λ (xs : List Entry). NamesDiffer xs) (sym (q ∙ ap (λ (xs : List Entry). xs ++ entry_of n x ∷ []) e)) (single n.name)
 
 -- ## The parts of entries that stand
 

@@ -1,6 +1,7 @@
 // What is asked of an arena: one function owns it.
 use crate::core_types::equal_closed_forms_are_one;
 use crate::externs::names_are_for_their_sorts;
+use crate::row_types::rows_append_their_types;
 use crate::sort_calls::{
     a_reference_has_no_parts, nodes_are_read, resources_are_free, types_get_new_identities,
     types_have_their_text, value_types_are_equal,
@@ -22,6 +23,7 @@ pub enum Asked {
     Identities,
     Reference,
     Equal,
+    Rows,
 }
 
 /// Whether the answer is the one that is due.
@@ -39,6 +41,7 @@ fn holds(alloc: Global, asked: Asked, types: &mut TypeAlloc) -> bool {
         Asked::Identities => types_get_new_identities(types, ids),
         Asked::Reference => a_reference_has_no_parts(types),
         Asked::Equal => value_types_are_equal(types),
+        Asked::Rows => rows_append_their_types(types),
     }
 }
 

@@ -5,7 +5,7 @@ ghost use Rattle.wcv_decls.specs.Stack.{IsOpen};
 ghost use Rattle.wcv_types.specs.Entities.{EntityStands, SlotStands};
 ghost use Rattle.wcv_types.specs.Unfold.{value_slot};
 
-use crate::written::written;
+use crate::written::{written, written_func};
 use std::alloc::{AllocError, Global};
 use wcv_core::{Error, ValType};
 use wcv_decls::Declare;
@@ -50,8 +50,22 @@ pub fn a_resource_is_represented(states: &mut Vec<ComponentState>, types: &mut T
     }
 }
 
+/// A function type joins.
+pub fn add_func(
+    alloc: Global,
+    text: &str,
+    states: &mut Vec<ComponentState>,
+    types: &mut TypeAlloc,
+) -> Result<(), Error>
+    requires { AreReady types.old states.old.items }
+    ensures { OnOk result (AreReady types.new states.new.items) }
+{
+    let func = written_func(alloc, text)?;
+    add(ComponentType::Func(func), states, types)
+}
+
 /// Defined types join, behind a resource and its handles.
-fn add_all(
+pub fn add_all(
     alloc: Global,
     row: &str,
     states: &mut Vec<ComponentState>,
@@ -102,13 +116,17 @@ fn layout_words(alloc: Global, abi: AbiInfo, free: bool) -> Result<String, Alloc
     format!(in alloc; "{size32} {align32} {size64} {align64}{pointer}{marks}")
 }
 
+/// The index of the last type.
+pub fn last_index(state: &ComponentState) -> u32 {
+    let last = state.space_len(Space::Types).saturating_sub(1);
+    u32::try_from(last).unwrap_or(0)
+}
+
 /// Whether the last type has the layout that is due.
 fn is_laid_out(alloc: Global, due: &str, state: &ComponentState, types: &TypeAlloc) -> bool
     requires { IsOpen types.now state.now }
 {
-    let last = state.space_len(Space::Types).saturating_sub(1);
-    let index = u32::try_from(last).unwrap_or(0);
-    match state.defined_type_at(index, 0) {
+    match state.defined_type_at(last_index(state), 0) {
         Ok(id) => {
             let ty = ComponentValType::Ty(id);
             match layout_words(alloc, types.abi_info(&ty), is_free(types, ty)) {

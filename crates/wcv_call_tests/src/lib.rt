@@ -10,7 +10,13 @@ mod base;
 mod core_types;
 #[cfg(test)]
 mod externs;
+#[cfg(test)]
+mod flat;
+#[cfg(test)]
+mod flat_rows;
 mod ids;
+#[cfg(test)]
+mod items;
 #[cfg(test)]
 mod joining;
 #[cfg(test)]
@@ -23,6 +29,8 @@ mod modules;
 mod names;
 #[cfg(test)]
 mod printed;
+#[cfg(test)]
+mod row_types;
 #[cfg(test)]
 mod sort_calls;
 #[cfg(test)]

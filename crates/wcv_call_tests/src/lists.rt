@@ -2,13 +2,11 @@
 use std::alloc::Global;
 use wcv_core::{EntityType, MemoryType, OutOfMemory, Text};
 use wcv_types::{
-    ComponentAnyTypeId, ComponentEntityType, ComponentFuncTypeId, ComponentItem, ExportMap,
-    ItemMap, Part, Parts, ResourceId, ResourceSet, TypeSet, TypeSort,
+    ByName, ComponentEntityType, ComponentFuncTypeId, ComponentItem, ExportMap, ItemMap, Part,
+    Parts, ResourceId, ResourceSet, TypeSort,
 };
 
 const FUNC: ComponentFuncTypeId = ComponentFuncTypeId { index: 3 };
-
-const ANY: ComponentAnyTypeId = ComponentAnyTypeId::Func(FUNC);
 
 const RESOURCE: ResourceId = ResourceId { index: 3 };
 
@@ -32,27 +30,12 @@ pub fn a_list_has_its_parts(alloc: Global) -> bool {
     has_part(&parts)
 }
 
-// Whether the one type stands in a set.
-fn has_type(set: &TypeSet) -> bool {
-    set.len() == 1 && set.get_index(0) == Some(&ANY)
-}
-
-// A copy of a set of types has what joined the set.
-pub fn a_set_of_types_is_copied(alloc: Global) -> bool {
-    let mut set = TypeSet::new(alloc);
-    let _ = set.push(ANY);
-    match set.copy() {
-        Ok(copy) => has_type(&copy),
-        Err(_) => false,
-    }
-}
-
 // Whether the one resource stands in a set.
 fn has_resource(set: &ResourceSet) -> bool {
     set.len() == 1 && set.get_index(0) == Some(&RESOURCE)
 }
 
-// So has a copy of a set of resources.
+// A copy of a set of resources has what joined the set.
 pub fn a_set_of_resources_is_copied(alloc: Global) -> bool {
     let mut set = ResourceSet::new(alloc);
     let _ = set.push(RESOURCE);
@@ -104,6 +87,52 @@ fn finds(items: &ItemMap, name: Result<Text, OutOfMemory>) -> bool {
 pub fn items_are_found(alloc: Global) -> bool {
     match items(alloc, "f") {
         Ok(items) => finds(&items, Text::new(alloc, "f")),
+        Err(_) => false,
+    }
+}
+
+// A name is found among those of a list.
+fn has_name<V>(names: &ByName<'_, V>, name: Result<Text, OutOfMemory>) -> bool {
+    match name {
+        Ok(name) => names.get(&name).is_some(),
+        Err(_) => false,
+    }
+}
+
+fn finds_by_name(items: &ItemMap, alloc: Global) -> bool {
+    match items.by_name(alloc) {
+        Ok(names) => has_name(&names, Text::new(alloc, "f")),
+        Err(_) => false,
+    }
+}
+
+pub fn items_are_found_by_name(alloc: Global) -> bool {
+    match items(alloc, "f") {
+        Ok(items) => finds_by_name(&items, alloc),
+        Err(_) => false,
+    }
+}
+
+// So it is among exports, and by a walk.
+fn exports_by_name(exports: &ExportMap, alloc: Global) -> bool {
+    match exports.by_name(alloc) {
+        Ok(names) => has_name(&names, Text::new(alloc, "e")),
+        Err(_) => false,
+    }
+}
+
+fn exports_by_walk(exports: &ExportMap, name: Result<Text, OutOfMemory>) -> bool {
+    match name {
+        Ok(name) => exports.get(&name).is_some(),
+        Err(_) => false,
+    }
+}
+
+pub fn exports_are_found(alloc: Global) -> bool {
+    match exports(alloc) {
+        Ok(exports) => {
+            exports_by_walk(&exports, Text::new(alloc, "e")) && exports_by_name(&exports, alloc)
+        }
         Err(_) => false,
     }
 }

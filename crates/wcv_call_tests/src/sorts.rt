@@ -1,6 +1,7 @@
 // Types of the sorts that no item makes yet: an instance, a component and a core instance.
 ghost use Rattle.std.specs.Prelude.{◌≡◌, All, IfOk, OnOk};
 ghost use Rattle.wcv_call_tests.specs.Sorts.{AreOf};
+ghost use Rattle.wcv_types.specs.ByName.{NamesDiffer};
 ghost use Rattle.wcv_types.specs.Entities.{EntityStands, EntryStands};
 ghost use Rattle.wcv_types.specs.Standing.{KeepsTrees, Stands};
 ghost use Rattle.wcv_types.specs.declared.ids.Part.TheVariants as part;
@@ -44,7 +45,7 @@ fn whole_name(alloc: Global, words: &str) -> Result<ComponentExternName, OutOfMe
 }
 
 /// An entity joins a list with nothing in it.
-#[tactic(auto, using(crate::proofs::Standing::one_stands))]
+#[tactic(auto, using(crate::proofs::Standing::one_stands, crate::proofs::Standing::one_apart))]
 fn join(
     name: &ComponentExternName,
     ty: ComponentEntityType,
@@ -53,6 +54,7 @@ fn join(
 ) -> Result<ItemMap, Error>
     requires { EntityStands types.old ty }
     ensures items { IfOk result (All (EntryStands types.old)) }
+    ensures apart { IfOk result (λ es. NamesDiffer es) }
     ensures types { types.new ≡ types.old }
 {
     let alloc = types.allocator();
@@ -85,6 +87,7 @@ pub fn one_entry(
 ) -> Result<ItemMap, Error>
     requires { EntityStands types.old ty }
     ensures items { IfOk result (All (EntryStands types.old)) }
+    ensures apart { IfOk result (λ es. NamesDiffer es) }
     ensures types { types.new ≡ types.old }
 {
     match whole_name(types.allocator(), words) {
@@ -117,6 +120,7 @@ fn add_instance(
 fn over(imports: ItemMap, exports: ItemMap, types: &mut TypeAlloc) -> Result<ComponentTypeId, Error>
     requires imports { All (EntryStands types.old) imports }
     requires exports { All (EntryStands types.old) exports }
+    requires apart { NamesDiffer imports × NamesDiffer exports }
     ensures stands { IfOk result (λ id. Stands types.new (part.Component id)) }
     ensures stay { OnOk result (KeepsTrees types.old types.new) }
 {

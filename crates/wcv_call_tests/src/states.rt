@@ -3,6 +3,7 @@ ghost use Rattle.std.specs.Prelude.{IfOk};
 ghost use Rattle.wcv_decls.specs.Declaring.{AreReady};
 ghost use Rattle.wcv_types.specs.Arena.{Arena};
 
+use crate::flat::{a_function_is_lowered, types_are_flat};
 use crate::joining::{a_resource_is_represented, types_are_laid_out};
 use crate::modules::a_module_is_exported;
 use crate::state::what_is_pushed_stands;
@@ -28,6 +29,8 @@ pub enum Question {
     Module,
     Resource,
     Layout,
+    Flat,
+    Lowered,
 }
 
 /// Whether the answer is the one that is due.
@@ -45,6 +48,8 @@ fn answers(
         Question::Module => a_module_is_exported(alloc, &mut states[0], types),
         Question::Resource => a_resource_is_represented(states, types),
         Question::Layout => types_are_laid_out(alloc, line, states, types),
+        Question::Flat => types_are_flat(alloc, line, states, types),
+        Question::Lowered => a_function_is_lowered(alloc, line, states, types),
     }
 }
 
@@ -59,10 +64,10 @@ pub fn holds(alloc: Global, question: Question, line: &str) -> bool {
     }
 }
 
-/// The first layout that is another than is due, or no text.
-pub fn other_layout<'a>(alloc: Global, lines: &'a str) -> &'a str {
+/// The first line of which the answer is another than is due, or no text.
+pub fn other_answer<'a>(alloc: Global, question: Question, lines: &'a str) -> &'a str {
     for line in lines.split('\n') {
-        if !holds(alloc, Question::Layout, line) {
+        if !holds(alloc, question, line) {
             return line;
         }
     }

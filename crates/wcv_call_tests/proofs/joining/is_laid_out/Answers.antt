@@ -4,7 +4,7 @@ use Rattle.wcv_state.proofs.Found.{stands_at}
 use Rattle.wcv_call_tests.proofs.joining.is_laid_out.Goals as goal
 
 pub abi_info-requires : goal.abi_info-requires
-abi_info-requires c = (stands_at c.args.types.now c.args.state.now c.requires.stands in_types c.unwrap_or-index.result (any.Defined c.in-Ok.id) c.in-Ok.ensures.ok).0
+abi_info-requires c = (stands_at c.args.types.now c.args.state.now c.requires.stands in_types c.last_index.result (any.Defined c.in-Ok.id) c.in-Ok.ensures.ok).0
 
 pub is_free-requires : goal.is_free-requires
-is_free-requires c = (stands_at c.args.types.now c.args.state.now c.requires.stands in_types c.unwrap_or-index.result (any.Defined c.in-Ok.id) c.in-Ok.ensures.ok).0
+is_free-requires c = (stands_at c.args.types.now c.args.state.now c.requires.stands in_types c.last_index.result (any.Defined c.in-Ok.id) c.in-Ok.ensures.ok).0
