@@ -5,8 +5,8 @@
 
 The listings that are changed are those in examples/, one for each example of a form in the schema, one for
 each canonical function, and the .json files below each FOLDER; each second change is one of a listing whose
-forms are all built. In five of examples/ (functions, defined, resources, modules and component-type) each
-place is also changed in each way. The same seed makes the same listings. What disagrees is printed, and the last line has
+forms are all built. In six of examples/ (functions, defined, resources, modules, linked and component-type)
+each place is also changed in each way. The same seed makes the same listings. What disagrees is printed, and the last line has
 counts. Needs Python 3.10 and its package `jsonschema`, 4.0, or later versions of both.
 
 What must hold of each text:
@@ -42,7 +42,7 @@ FORMS = [key for key in PARTS["item"]["properties"] if key != "at"]
 WHOLE = Draft202012Validator(SCHEMA)
 LONGEST = 8_000  # bytes of a listing of a folder that is changed
 DEEPEST = 127  # levels of nesting that are JSON
-WHOLLY_CHANGED = ("functions.json", "defined.json", "resources.json", "modules.json", "component-type.json")
+WHOLLY_CHANGED = ("functions.json", "defined.json", "resources.json", "modules.json", "linked.json", "component-type.json")
 
 
 class NotJson(Exception):
@@ -139,8 +139,6 @@ def is_built_type(body):
     match body:
         case {"component": declarations} | {"instance": declarations}:
             return all(map(is_built_declaration, declarations))
-        case {"resource": resource}:
-            return "dtor" not in resource
     return True
 
 
@@ -161,12 +159,14 @@ def is_built(item):
     match item:
         case {"type": body}:
             return is_built_type(body)
-        case {"core-type": _} | {"core-module": _}:
+        case {"core-type": _} | {"core-module": _} | {"core-instance": _}:
             return True
+        case {"alias": alias}:
+            return "core-export" in alias
         case {"import": {"type": ty}}:
             return "value" not in ty
-        case {"export": {"sort": "module" | "func" | "type", **others}}:
-            return "type" not in others
+        case {"export": export}:
+            return export["sort"] != "value" and "type" not in export
     return False
 
 
