@@ -300,6 +300,35 @@ def core_modules(limit):
         yield {"import": {"name": words_name("module", k), "type": {"module": k}}}
 
 
+CHAIN = 400  # core modules, and as many core instances: of each 1,000 are allowed
+
+
+def linked(limit):
+    """Core modules in a chain, each instantiated with the one before: what a module imports has the names of what
+    the module before it exports."""
+    count = max(limit // (CHAIN * 145), 1)
+    for k in range(CHAIN):
+        decls = [{"type": [{"func": [["i32", "i64"], ["i32"]]}]}]
+        if k > 0:
+            decls += [{"import": ["before", words_name("function", n), {"func": 0}]} for n in range(count)]
+        decls += [{"export": [words_name("function", n), {"func": 0}]} for n in range(count)]
+        yield {"core-module": decls}
+        yield {"core-instance": {"module": k, "args": [["before", k - 1]] if k > 0 else []}}
+
+
+def aliased(limit):
+    """A core module that exports functions, an alias of each, and core instances that list 1,000 of them each."""
+    count = max(limit // 220, 1)
+    decls = [{"type": [{"func": [["i32"], []]}]}]
+    decls += [{"export": [words_name("function", n), {"func": 0}]} for n in range(min(count, 90_000))]
+    yield {"core-module": decls}
+    yield {"core-instance": {"module": 0, "args": []}}
+    for n in range(min(count, 90_000)):
+        yield {"alias": {"core-export": [0, "func", words_name("function", n)]}}
+    for first in range(0, min(count, 90_000) - 1_000, 1_000):
+        yield {"core-instance": {"exports": [[words_name("function", n), "func", n] for n in range(first, first + 1_000)]}}
+
+
 def exported_resources(limit):
     """Resources that are defined, each with its export behind it: at the end of the component each of them is
     looked for among the exports. The largest listing keeps below the limits on types."""

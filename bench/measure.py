@@ -4,7 +4,7 @@
     bench/measure.py [RUNS] [TABLE ..]
 
 The tables are `overview`, `small`, `front`, `long`, `nested`, `types`, `resources`, `names`, `core`, `ends`,
-`setters`, `reports` and `declared`, all of them if none is named. Times are the smallest of RUNS runs, 5 if not given, in
+`setters`, `reports`, `declared` and `instances`, all of them if none is named. Times are the smallest of RUNS runs, 5 if not given, in
 which the programs that are compared take turns: what else the machine does can only add to them. Peak memory is
 the largest resident size of one more run, in which the bytes that it writes are counted too. Where valgrind is
 there, the instructions of one run are counted: they do not depend on what else the machine does. Memory and
@@ -203,6 +203,12 @@ def declared(runs):
     print_table("Listing of an instance type with 100 resources, imported again", ALL, rows, runs)
 
 
+def instances(runs):
+    print_table("Listing of core modules linked in a chain", ALL, by_size(make_listings.linked, (1,)), runs)
+    sizes = [(f"{n} KB", make_listings.aliased(n * 1_000), True) for n in (250, 500, 1_000)]
+    print_table("Listing of aliases of each export of one core instance, and of core instances that list them", ALL, sizes, runs)
+
+
 KINDS = (
     ("functions", make_listings.ordinary),
     ("tuples that name the type before twice", make_listings.twice),
@@ -250,6 +256,7 @@ TABLES = {
     "setters": setters,
     "reports": reports,
     "declared": declared,
+    "instances": instances,
 }
 
 
