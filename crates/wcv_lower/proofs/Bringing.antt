@@ -34,7 +34,7 @@ use Rattle.wcv_lower.specs.Context.{Side, importing, exporting, in_types, in_fun
 use Rattle.wcv_lower.specs.CoreInstances.{space_of, core_module_at, core_instance_at, item_listed, items_listed, listed_size, core_instance_made, instance_joins, core_instance_step, core_export_of, if_of, item_joins, core_alias_step}
 use Rattle.wcv_lower.specs.CoreItems.{core_entries, is_closable, types_join, closed_step, module_joins, core_type_made, core_type_step, core_module_made, core_module_step}
 use Rattle.wcv_lower.specs.Defined.{former, written_parts, handle_index, made_of, defined_made}
-use Rattle.wcv_lower.specs.Entries.{extern_name, module_type_at, again_brought, written, items_of, exported_at, exported_as, exported, import_step, export_step}
+use Rattle.wcv_lower.specs.Entries.{extern_name, module_type_at, again_brought, written, items_of, exported_at, exported_as, exported_by, exported, import_step, export_step}
 use Rattle.wcv_lower.specs.Growth.{step}
 use Rattle.wcv_lower.specs.Names.{Names, Origin, introduced, again}
 use Rattle.wcv_lower.specs.NewTypes.{path_or_none}
@@ -78,6 +78,15 @@ any_then P Q f h (Some x) w = h x w
 pub any_cond : {A : Type 0} (P : A → Type 0) (b : Bool) (x : A) → P x → OfAny P (cond b (Some x) None)
 any_cond P true x w = w
 any_cond P false x w = tt
+
+-- the items of a sort
+pub items_have : (P : Type_tree → Type 0) (c : Tree_context) → AllEntries P c → (k : ComponentExternalKind) → All P (items_of c k)
+items_have P c all kind.Module = all.core core_modules
+items_have P c all kind.Func = all.space in_funcs
+items_have P c all kind.Value = all.space in_values
+items_have P c all kind.Ty = all.space in_types
+items_have P c all kind.Instance = all.space in_instances
+items_have P c all kind.Component = all.space in_components
 
 -- ## What a change brings
 
@@ -175,14 +184,6 @@ module _ {P : Type_tree → Type 0} {In : Parts Name Name → Type 0} (law : Inh
     func_has : (f : Func_form) → OfAny (MadeOf law) (func_made c f)
     func_has f = any_mapped (All Of) (MadeOf law) (func_node f.async) (λ ps w. w) (parts_entries c (func_parts f)) (entries_found (func_parts f))
 
-    items_have : (k : ComponentExternalKind) → All P (items_of c k)
-    items_have kind.Module = all.core core_modules
-    items_have kind.Func = all.space in_funcs
-    items_have kind.Value = all.space in_values
-    items_have kind.Ty = all.space in_types
-    items_have kind.Instance = all.space in_instances
-    items_have kind.Component = all.space in_components
-
     -- ## What is made
 
     module _ (names : Names) (p : Place) (fresh : (o : Origin) → New (names.resource o)) where
@@ -216,8 +217,12 @@ module _ {P : Type_tree → Type 0} {In : Parts Name Name → Type 0} (law : Inh
       exported_as_has kind.Instance x w = bare_of x w
       exported_as_has kind.Component x w = bare_of x w
 
+      exported_by_has : (e : ComponentExport) (o : Option ComponentTypeRef) → OfAny BroughtOf (exported_by mk c e o)
+      exported_by_has e None = any_mapped P BroughtOf (exported_as mk e.kind) (exported_as_has e.kind) (exported_at c e) (any_at P (items_of c e.kind) e.index (items_have P c all e.kind))
+      exported_by_has e (Some r) = any_then P BroughtOf (λ x. written mk c r) (λ x w. written_has r) (exported_at c e) (any_at P (items_of c e.kind) e.index (items_have P c all e.kind))
+
       pub exported_has : (e : ComponentExport) → OfAny BroughtOf (exported mk c e)
-      exported_has e = any_mapped P BroughtOf (exported_as mk e.kind) (exported_as_has e.kind) (exported_at c e) (any_at P (items_of c e.kind) e.index (items_have e.kind))
+      exported_has e = exported_by_has e e.ty
 
       -- ## One line for each family of forms
 

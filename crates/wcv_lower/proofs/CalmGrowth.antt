@@ -62,7 +62,7 @@ module _ (In : Place → Type 0) (a b : Numbers) where
 -- ## Items and declared exports
 
 module _ (In : Place → Type 0) (a b : Numbers) (n : GivenNames) (p : Place) (s : Tree_stack) (l : AtMost a b) (g : GivesAt In a b n) (h : IsCalm a s) where
-  fresh : (o : Origin) → IsLate a ((names_of n).resource o)
+  pub fresh : (o : Origin) → IsLate a ((names_of n).resource o)
   fresh = names_late In a b n g
 
   -- an entity of a written type enters
@@ -73,7 +73,7 @@ module _ (In : Place → Type 0) (a b : Numbers) (n : GivenNames) (p : Place) (s
       (λ y all. enters_bring (owns_not_inherited y) (IsLate a) d x e (of_some (BroughtOf (owns_not_inherited y) (IsLate a)) (written (tree_maker (names_of n) p) s.top r) e (written_has (owns_not_inherited y) (IsLate a) s.top (all zero s.top refl) (names_of n) p fresh r) q))
 
   -- a step that leads to a stack
-  step_calm : (q : Step tree_reader) (t : Tree_stack) → IsGentle a s q → Some (apply q s) ≡ Some t → AllOwn b t.top → IsCalm b t
+  pub step_calm : (q : Step tree_reader) (t : Tree_stack) → IsGentle a s q → Some (apply q s) ≡ Some t → AllOwn b t.top → IsCalm b t
   step_calm q t w e own =
       let f : apply q s ≡ t = some-inj e in
       subst (IsCalm b) f (calm_applied a b s q l h w (subst (λ (x : Tree_stack). AllOwn b x.top) (sym f) own))

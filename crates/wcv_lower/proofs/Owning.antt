@@ -1,5 +1,5 @@
 -- What a type owns, inside and out, and what it becomes when it is made again: a property of trees that goes down to parts.
-use Rattle.std.proofs.Common.{◌≡◌, suc, List, [], ◌∷◌, refl, sym, ◌∙◌, ap, subst, Bool, true, false, ◌||◌, Some, None}
+use Rattle.std.proofs.Common.{◌≡◌, suc, List, [], ◌∷◌, refl, sym, ◌∙◌, subst, Bool, true, false, ◌||◌, Some, None}
 use Rattle.std.specs.Prelude.{Option, All}
 use Rattle.std.proofs.lemmas.Bool.{false≢true}
 use Rattle.std.proofs.lemmas.List.Elements.{All-head, All-tail}
@@ -16,7 +16,7 @@ use Rattle.wcv_types.specs.Tree.{Text, Extern_name, Role, Head, nothing, primiti
 use Rattle.wcv_types.specs.Unfold.{Type_tree, capped}
 use Rattle.wcv_lower.specs.Names.{Names, introduced, stamp_at}
 use Rattle.wcv_lower.specs.NewTypes.{type_entry, renewed_head, renewed, new_reference, owned_anew, instance_tree}
-use Rattle.wcv_lower.specs.Owned.{OwnsNot, OwnsNotIn, OwnsApart, OwnApart, OwnApartIn, IsOnce, OwnsOnce, OwnsOnceIn}
+use Rattle.wcv_lower.specs.Owned.{OwnsNot, OwnsNotIn, OwnsApart, OwnApart, OwnApartIn, EachGiven, EachGivenIn, GivesApart, GivesApartIn, IsOnce, OwnsOnce, OwnsOnceIn}
 use Rattle.wcv_lower.specs.Readers.{New_node, func_node, defined_node, module_node, core_instance_node, core_exports_node, instance_node, component_node}
 use Rattle.wcv_lower.proofs.Given.{or_left}
 use Rattle.wcv_lower.specs.Trees.{created, referenced, tree_parts, module_tree, node_tree, tree_reader}
@@ -78,48 +78,79 @@ head_owned m false (core_instance i k) = refl
 head_owned m false (core_type i) = refl
 head_owned m false (core_item x) = refl
 
-module _ (m : Replacement) (plain : (i : Identity) → m.nodes i ≡ None) where
-  none_given : (h : Head Name Name) → given_at m h ≡ None
-  none_given h = go (identity_at h)
-    where
-      go : (o : Option Identity) → elim o as (λ o. Option Type_tree) [ None ↦ None | Some i ↦ m.nodes i ] ≡ None
-      go None = refl
-      go (Some i) = plain i
-
-  -- the tree as it is where no node is given
+module _ (m : Replacement) where
+  -- the tree where no node is given in its place
   abbrev rebuilt : Head Name Name → Parts Name Name → Type_tree
   rebuilt h ps = node (new_head m (moves m h || changed_in m ps) h) (replaced_in m ps)
-
-  as_rebuilt : (h : Head Name Name) (ps : Parts Name Name) → replaced m (node h ps) ≡ rebuilt h ps
-  as_rebuilt h ps = ap (λ (o : Option Type_tree). given_or o (rebuilt h ps)) (none_given h)
 
   rebuilt_owns : (h : Head Name Name) (ps : Parts Name Name) (r : Name) → owns (new_head m (moves m h || changed_in m ps) h) r ≡ owns h r
   rebuilt_owns h ps r = head_owns m (moves m h || changed_in m ps) h r
 
-  mutual
-    owns_not-replaced : (r : Name) (t : Type_tree) → OwnsNot r t → OwnsNot r (replaced m t)
-    owns_not-replaced r (node h ps) w = subst (OwnsNot r) (sym (as_rebuilt h ps)) (rebuilt_owns h ps r ∙ w.0, owns_not_in-replaced r ps w.1)
-
-    owns_not_in-replaced : (r : Name) (ps : Parts Name Name) → OwnsNotIn r ps → OwnsNotIn r (replaced_in m ps)
-    owns_not_in-replaced r none w = tt
-    owns_not_in-replaced r (part k t ps) w = (owns_not-replaced r t w.0, owns_not_in-replaced r ps w.1)
-
-  mutual
-    own_apart-replaced : (t : Type_tree) → OwnApart t → OwnApart (replaced m t)
-    own_apart-replaced (node h ps) w =
-        subst OwnApart (sym (as_rebuilt h ps)) ((λ r e. owns_not_in-replaced r ps (w.0 r (sym (rebuilt_owns h ps r) ∙ e))), own_apart_in-replaced ps w.1)
-
-    own_apart_in-replaced : (ps : Parts Name Name) → OwnApartIn ps → OwnApartIn (replaced_in m ps)
-    own_apart_in-replaced none w = tt
-    own_apart_in-replaced (part k t ps) w = (own_apart-replaced t w.0, own_apart_in-replaced ps w.1)
+  given_has : (P : Type_tree → Type 0) (h : Head Name Name) (x : Type_tree) → ((u : Type_tree) → given_at m h ≡ Some u → P u) → P x → P (given_or (given_at m h) x)
+  given_has P h x g w = go (given_at m h) refl
+    where
+      go : (o : Option Type_tree) → given_at m h ≡ o → P (given_or o x)
+      go None e = w
+      go (Some u) e = g u e
 
   mutual
-    owns_once-replaced : (t : Type_tree) → OwnsOnce t → OwnsOnce (replaced m t)
-    owns_once-replaced (node h ps) w = subst OwnsOnce (sym (as_rebuilt h ps)) (subst IsOnce (sym (head_owned m (moves m h || changed_in m ps) h)) w.0, owns_once_in-replaced ps w.1)
+    owns_not-replaced : (r : Name) (t : Type_tree) → EachGiven m (OwnsNot r) t → OwnsNot r t → OwnsNot r (replaced m t)
+    owns_not-replaced r (node h ps) g w = given_has (OwnsNot r) h (rebuilt h ps) g.0 (rebuilt_owns h ps r ∙ w.0, owns_not_in-replaced r ps g.1 w.1)
 
-    owns_once_in-replaced : (ps : Parts Name Name) → OwnsOnceIn ps → OwnsOnceIn (replaced_in m ps)
-    owns_once_in-replaced none w = tt
-    owns_once_in-replaced (part k t ps) w = (owns_once-replaced t w.0, owns_once_in-replaced ps w.1)
+    owns_not_in-replaced : (r : Name) (ps : Parts Name Name) → EachGivenIn m (OwnsNot r) ps → OwnsNotIn r ps → OwnsNotIn r (replaced_in m ps)
+    owns_not_in-replaced r none g w = tt
+    owns_not_in-replaced r (part k t ps) g w = (owns_not-replaced r t g.0 w.0, owns_not_in-replaced r ps g.1 w.1)
+
+  mutual
+    pub own_apart-replaced : (t : Type_tree) → GivesApart m t → EachGiven m OwnApart t → OwnApart t → OwnApart (replaced m t)
+    own_apart-replaced (node h ps) a g w =
+        given_has OwnApart h (rebuilt h ps) g.0 ((λ r e. let o : owns h r ≡ true = sym (rebuilt_owns h ps r) ∙ e in owns_not_in-replaced r ps (a.0 r o) (w.0 r o)), own_apart_in-replaced ps a.1 g.1 w.1)
+
+    own_apart_in-replaced : (ps : Parts Name Name) → GivesApartIn m ps → EachGivenIn m OwnApart ps → OwnApartIn ps → OwnApartIn (replaced_in m ps)
+    own_apart_in-replaced none a g w = tt
+    own_apart_in-replaced (part k t ps) a g w = (own_apart-replaced t a.0 g.0 w.0, own_apart_in-replaced ps a.1 g.1 w.1)
+
+  mutual
+    owns_once-replaced : (t : Type_tree) → EachGiven m OwnsOnce t → OwnsOnce t → OwnsOnce (replaced m t)
+    owns_once-replaced (node h ps) g w = given_has OwnsOnce h (rebuilt h ps) g.0 (subst IsOnce (sym (head_owned m (moves m h || changed_in m ps) h)) w.0, owns_once_in-replaced ps g.1 w.1)
+
+    owns_once_in-replaced : (ps : Parts Name Name) → EachGivenIn m OwnsOnce ps → OwnsOnceIn ps → OwnsOnceIn (replaced_in m ps)
+    owns_once_in-replaced none g w = tt
+    owns_once_in-replaced (part k t ps) g w = (owns_once-replaced t g.0 w.0, owns_once_in-replaced ps g.1 w.1)
+
+  -- ## What is given
+
+  module _ (P : Type_tree → Type 0) (gives : (i : Identity) (u : Type_tree) → m.nodes i ≡ Some u → P u) where
+    given_at_has : (h : Head Name Name) (u : Type_tree) → given_at m h ≡ Some u → P u
+    given_at_has h u = go (identity_at h)
+      where
+        go : (o : Option Identity) → elim o as (λ o. Option Type_tree) [ None ↦ None | Some i ↦ m.nodes i ] ≡ Some u → P u
+        go None e = cc
+        go (Some i) e = gives i u e
+
+    mutual
+      pub each_given : (t : Type_tree) → EachGiven m P t
+      each_given (node h ps) = (given_at_has h, each_given_in ps)
+
+      each_given_in : (ps : Parts Name Name) → EachGivenIn m P ps
+      each_given_in none = tt
+      each_given_in (part k t ps) = (each_given t, each_given_in ps)
+
+  module _ (plain : (i : Identity) → m.nodes i ≡ None) where
+    none_given : (P : Type_tree → Type 0) (i : Identity) (u : Type_tree) → m.nodes i ≡ Some u → P u
+    none_given P i u e = go (m.nodes i) (plain i) e
+      where
+        go : (o : Option Type_tree) → o ≡ None → o ≡ Some u → P u
+        go None d e = cc
+        go (Some x) d e = cc
+
+    mutual
+      gives_apart : (t : Type_tree) → GivesApart m t
+      gives_apart (node h ps) = ((λ r e. each_given_in (OwnsNot r) (none_given (OwnsNot r)) ps), gives_apart_in ps)
+
+      gives_apart_in : (ps : Parts Name Name) → GivesApartIn m ps
+      gives_apart_in none = tt
+      gives_apart_in (part k t ps) = (gives_apart t, gives_apart_in ps)
 
 -- ## The properties
 
@@ -132,7 +163,7 @@ owns_not_inherited r = record {
   inner = λ h ps w. w.1;
   bare = λ h ps e w. (e r, w);
   alike = λ h g ps e f w. (e r ∙ w.0, w.1);
-  again = λ m plain t w. owns_not-replaced m plain r t w;
+  again = λ m plain t w. owns_not-replaced m r t (each_given m (OwnsNot r) (none_given m plain (OwnsNot r)) t) w;
 }
 
 pub own_apart_inherited : Inherited OwnApart OwnApartIn
@@ -144,7 +175,7 @@ own_apart_inherited = record {
   inner = λ h ps w. w.1;
   bare = λ h ps e w. ((λ r o. absurd (false≢true (sym (e r) ∙ o))), w);
   alike = λ h g ps e f w. ((λ r o. w.0 r (sym (e r) ∙ o)), w.1);
-  again = λ m plain t w. own_apart-replaced m plain t w;
+  again = λ m plain t w. own_apart-replaced m t (gives_apart m plain t) (each_given m OwnApart (none_given m plain OwnApart) t) w;
 }
 
 none_once : (h : Head Name Name) → ((r : Name) → owns h r ≡ false) → IsOnce (owned_at h)
@@ -171,8 +202,18 @@ owns_once_inherited = record {
   inner = λ h ps w. w.1;
   bare = λ h ps e w. (none_once h e, w);
   alike = λ h g ps e f w. (subst IsOnce (sym f) w.0, w.1);
-  again = λ m plain t w. owns_once-replaced m plain t w;
+  again = λ m plain t w. owns_once-replaced m t (each_given m OwnsOnce (none_given m plain OwnsOnce) t) w;
 }
+
+-- so where nodes are given that have it
+abbrev pub KeptWhereGiven : (Type_tree → Type 0) → Type 0
+KeptWhereGiven P = (m : Replacement) → ((i : Identity) (u : Type_tree) → m.nodes i ≡ Some u → P u) → (t : Type_tree) → P t → P (replaced m t)
+
+pub owns_not_given : (r : Name) → KeptWhereGiven (OwnsNot r)
+owns_not_given r m gives t w = owns_not-replaced m r t (each_given m (OwnsNot r) gives t) w
+
+pub owns_once_given : KeptWhereGiven OwnsOnce
+owns_once_given m gives t w = owns_once-replaced m t (each_given m OwnsOnce gives t) w
 
 pub apart_outside : (t : Type_tree) → OwnApart t → OwnsApart t
 apart_outside (node h ps) w = w.0
@@ -312,7 +353,8 @@ module _ {P : Type_tree → Type 0} {In : Parts Name Name → Type 0} (law : Inh
   MadeOf (module_node m) = Unit {0}
   MadeOf (core_instance_node t) = P t
   MadeOf (core_exports_node n es) = Unit {0}
-  MadeOf (instance_node own es) = ⊥
+  MadeOf (instance_node [] es) = All (λ e. P e.1) es
+  MadeOf (instance_node (r ∷ own) es) = ⊥
   MadeOf (component_node ins outs es es') = ⊥
 
   pub node_has : (i : Name) (n : New_node tree_reader) → MadeOf n → P (node_tree i n)
@@ -321,5 +363,6 @@ module _ {P : Type_tree → Type 0} {In : Parts Name Name → Type 0} (law : Inh
   node_has i (module_node m) w = module_has i m
   node_has i (core_instance_node t) w = law.bare (core_instance i (capped (suc (size t)))) (part here t none) (λ r. refl) (law.part_in here t none w law.none_in)
   node_has i (core_exports_node n es) w = law.bare (core_instance i (capped n)) (core_exports es none) (λ r. refl) (core_exports_have es none law.none_in)
-  node_has i (instance_node own es) w = absurd w
+  node_has i (instance_node [] es) w = law.bare (instance i []) (entries export es none) (λ r. refl) (entries_have export es none w law.none_in)
+  node_has i (instance_node (r ∷ own) es) w = absurd w
   node_has i (component_node ins outs es es') w = absurd w

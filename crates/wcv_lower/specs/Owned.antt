@@ -1,12 +1,17 @@
 -- Which resources types own, inside and out: what a type owns, no type inside it owns, and none that stands elsewhere.
 use Rattle.std.specs.Prelude.{ℕ, List, [], ◌∷◌, ◌++◌, map, All, true, false, ◌≡◌, ◌≤◌, ◌<◌, Some}
 use Rattle.wcv_core.specs.Names.{Name, Place, number, base, at, member}
+use Rattle.wcv_syntax.specs.Model.{Instance_form, instantiate, bag}
 use Rattle.wcv_types.specs.Led.{HasPath}
+use Rattle.wcv_types.specs.Replacing.{Replacement, given_at}
 use Rattle.wcv_types.specs.Resources.{owns}
-use Rattle.wcv_types.specs.Tree.{node, Parts, none, part, owned_at}
+use Rattle.wcv_types.specs.Tree.{exports, node, Parts, none, part, owned_at}
 use Rattle.wcv_types.specs.Unfold.{Type_tree}
 use Rattle.wcv_lower.specs.Context.{Space, Core_space, Side, exporting, at_distance}
 use Rattle.wcv_lower.specs.Given.{Numbers}
+use Rattle.wcv_lower.specs.Instances.{component_at, arguments}
+use Rattle.wcv_lower.specs.Instantiated.{opening}
+use Rattle.wcv_lower.specs.Names.{Names}
 use Rattle.wcv_lower.specs.Trees.{Tree_context, Tree_stack}
 
 -- ## Types
@@ -32,6 +37,26 @@ abbrev mutual
   pub OwnApartIn : Parts Name Name → Type 0
   OwnApartIn none = Unit {0}
   OwnApartIn (part k t ps) = OwnApart t × OwnApartIn ps
+
+-- ## Where nodes are given in place of others
+
+-- each node that is given in place of one in the tree has it
+abbrev mutual
+  pub EachGiven : Replacement → (Type_tree → Type 0) → Type_tree → Type 0
+  EachGiven m P (node h ps) = ((u : Type_tree) → given_at m h ≡ Some u → P u) × EachGivenIn m P ps
+
+  pub EachGivenIn : Replacement → (Type_tree → Type 0) → Parts Name Name → Type 0
+  EachGivenIn m P none = Unit {0}
+  EachGivenIn m P (part k t ps) = EachGiven m P t × EachGivenIn m P ps
+
+-- what a type in the tree owns, no node owns that is given inside it
+abbrev mutual
+  pub GivesApart : Replacement → Type_tree → Type 0
+  GivesApart m (node h ps) = ((r : Name) → owns h r ≡ true → EachGivenIn m (OwnsNot r) ps) × GivesApartIn m ps
+
+  pub GivesApartIn : Replacement → Parts Name Name → Type 0
+  GivesApartIn m none = Unit {0}
+  GivesApartIn m (part k t ps) = GivesApart m t × GivesApartIn m ps
 
 -- ## Contexts
 
@@ -69,6 +94,11 @@ pub record IsCalm (a : Numbers) (s : Tree_stack) : Type 0 where
   pub apart : Everywhere OwnApart s
   pub spared : (j : ℕ) (c : Tree_context) (r : Name) → at_distance j s ≡ Some c → IsOwn c r → Everywhere (OwnsNot r) s
   pub late : (k : ℕ) → a.resources ≤ k → Everywhere (OwnsNot (number k)) s
+
+-- where an instantiation opens a component: what a type in its exports owns, no node owns that is given inside it
+abbrev pub InstanceApart : Names → Place → Tree_stack → Instance_form → Type 0
+InstanceApart names p s (instantiate i args) = (c : Type_tree) → component_at s.top i ≡ Some c → All (λ e. GivesApart (opening names p (arguments s.top args) c) e.1) (exports c)
+InstanceApart names p s (bag es) = Unit {0}
 
 -- a path leads to each defined resource in the exports
 abbrev pub IsLed : Tree_context → Type 0
