@@ -28,3 +28,11 @@ pub mod AtomTests
 pub mod PassRenamed
 pub mod SameHeights
 pub mod ArenaHeights
+pub mod Walking
+pub mod AtomLists
+pub mod PassSteps
+pub mod PassIds
+pub mod Exporting
+pub mod EntityLaws
+pub mod IdPasses
+pub mod SameValues

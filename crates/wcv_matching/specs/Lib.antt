@@ -14,3 +14,7 @@ pub mod OnePass
 pub mod IdTests
 pub mod AtomTests
 pub mod Formed
+pub mod Readings
+pub mod SeenValues
+pub mod IdPasses
+pub mod IdCounterparts

@@ -2,11 +2,17 @@
 #![tactic(auto)]
 
 mod by_name;
+mod comparisons;
 mod core_args;
 mod core_items;
+mod counterparts;
 mod laws;
 mod modules;
+mod passes;
+mod readings;
+mod values;
 
+pub use comparisons::{component_entity_type, component_val_type};
 pub use core_args::{core_arguments, core_exports};
 pub use core_items::{entity_type, memory_type, same_val, table_type};
 pub use laws::{
