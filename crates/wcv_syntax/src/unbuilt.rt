@@ -3,7 +3,7 @@ use crate::built::{is_built_in_component, is_built_in_instance};
 use crate::component_type::{
     ComponentType, ComponentTypeDeclaration, ComponentTypeRef, InstanceTypeDeclaration,
 };
-use crate::instance::{ComponentAlias, ComponentExternalKind};
+use crate::instance::{ComponentAlias, ComponentExternalKind, ComponentInstance};
 use crate::item::ItemForm;
 use crate::name::{ComponentExport, ComponentImport};
 use std::fmt;
@@ -23,6 +23,10 @@ pub struct ImportForm<'a>(pub &'a ComponentImport);
 /// Shows what of an export is not built.
 #[derive(Clone, Copy)]
 pub struct ExportForm<'a>(pub &'a ComponentExport);
+
+/// Shows what of an instance is not built.
+#[derive(Clone, Copy)]
+pub struct InstanceForm<'a>(pub &'a ComponentInstance);
 
 /// Shows what of an alias is not built.
 #[derive(Clone, Copy)]
@@ -159,18 +163,6 @@ fn ref_word(ty: &ComponentTypeRef) -> &'static str {
     }
 }
 
-/// What the items of that sort are called.
-fn sort_word(sort: ComponentExternalKind) -> &'static str {
-    match sort {
-        ComponentExternalKind::Module => "core modules",
-        ComponentExternalKind::Func => "functions",
-        ComponentExternalKind::Value => "values",
-        ComponentExternalKind::Ty => "types",
-        ComponentExternalKind::Instance => "instances",
-        ComponentExternalKind::Component => "components",
-    }
-}
-
 impl fmt::Display for ImportForm<'_> {
     fn fmt<W: fmt::Write>(&self, f: &mut fmt::Formatter<W>) -> fmt::Result {
         write_entry(f, "imports", ref_word(&self.0.ty))
@@ -179,10 +171,22 @@ impl fmt::Display for ImportForm<'_> {
 
 impl fmt::Display for ExportForm<'_> {
     fn fmt<W: fmt::Write>(&self, f: &mut fmt::Formatter<W>) -> fmt::Result {
-        if self.0.ty.is_some() {
-            return f.write_str("exports with a written type are not built yet");
+        let word = match self.0.kind {
+            ComponentExternalKind::Value => "values",
+            _ => "items as values",
+        };
+        write_entry(f, "exports", word)
+    }
+}
+
+impl fmt::Display for InstanceForm<'_> {
+    fn fmt<W: fmt::Write>(&self, f: &mut fmt::Formatter<W>) -> fmt::Result {
+        match self.0 {
+            ComponentInstance::Instantiate { .. } => {
+                f.write_str("instances of components are not built yet")
+            }
+            ComponentInstance::FromExports(_) => write_entry(f, "exports", "values"),
         }
-        write_entry(f, "exports", sort_word(self.0.kind))
     }
 }
 
