@@ -78,7 +78,7 @@ led_at j k (n.Component s) ps l = l
 led_at j k (n.Module s) ps l = l
 led_at j k (n.CoreInstance s) ps l = l
 
-leaves_led : HoldsOfLeaves HeadLed
+pub leaves_led : HoldsOfLeaves HeadLed
 leaves_led = record { left_out = tt; primitives = λ q. tt; references = λ r s. tt; types = λ i. tt; items = λ e. tt; entities = λ c r. tt }
 
 pub all_led : (a : Arena) → AllFit a → (q : Part) → Stands a q → AllPathsLead (tree_at a q)

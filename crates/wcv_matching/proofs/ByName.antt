@@ -14,14 +14,14 @@ use Rattle.wcv_matching.specs.ByName.{held, held_pair}
 
 -- ## Lists
 
-some_one : {A : Type 0} (x y : A) → Some x ≡ Some y → x ≡ y
+pub some_one : {A : Type 0} (x y : A) → Some x ≡ Some y → x ≡ y
 some_one x y e = cc
 
-drop_none : {A : Type 0} (xs : List A) → drop zero xs ≡ xs
+pub drop_none : {A : Type 0} (xs : List A) → drop zero xs ≡ xs
 drop_none [] = refl
 drop_none (x ∷ xs) = refl
 
-from_entry : {A : Type 0} (xs : List A) (i : ℕ) (x : A) → Some x ≡ slice_get xs i → drop i xs ≡ x ∷ drop (suc i) xs
+pub from_entry : {A : Type 0} (xs : List A) (i : ℕ) (x : A) → Some x ≡ slice_get xs i → drop i xs ≡ x ∷ drop (suc i) xs
 from_entry [] i x h = cc
 from_entry (y ∷ xs) zero x h = let e : y ≡ x = sym (some_one x y h) in λ j. e j ∷ sym (drop_none xs) j
 from_entry (y ∷ xs) (suc i) x h = from_entry xs i x h

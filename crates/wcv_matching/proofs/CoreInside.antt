@@ -87,7 +87,7 @@ module _ (W : EntityType → Type 0) (ts : List Type_tree) where
   }
   node_within (n.CoreInstance s) w = kind_within s.kind w
 
-nothing_named : (W : EntityType → Type 0) → HoldsOfLeaves (λ h ps. EachItem W (items_in ps))
+pub nothing_named : (W : EntityType → Type 0) → HoldsOfLeaves (λ h ps. EachItem W (items_in ps))
 nothing_named W = record {
   left_out = record { imports = All-nil _; exports = All-nil _ };
   primitives = λ q. record { imports = All-nil _; exports = All-nil _ };

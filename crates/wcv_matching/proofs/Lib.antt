@@ -24,3 +24,7 @@ pub mod SlotRoles
 pub mod NamesInside
 pub mod CoreInside
 pub mod PassByIds
+pub mod AtomTests
+pub mod PassRenamed
+pub mod SameHeights
+pub mod ArenaHeights

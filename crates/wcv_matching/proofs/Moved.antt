@@ -107,7 +107,7 @@ core_exports-move g k u (part (core_export n) (node x qs) ps) = λ j. before n (
 core_exports-move g k u (part _ t ps) = core_exports-move g k u ps
 
 -- what a core module imports and exports mentions no resource
-module_items-move : (g k u : Name → Name) (t : Type_tree) → module_items (move g k u t) ≡ module_items t
+pub module_items-move : (g k u : Name → Name) (t : Type_tree) → module_items (move g k u t) ≡ module_items t
 module_items-move g k u (node x ps) = λ j. record { imports = core_imports-move g k (moved k x u) ps j; exports = core_exports-move g k (moved k x u) ps j }
 
 second-move : (g k u : Name → Name) (ps : Parts Name Name) → first_part (rest_parts (move_parts g k u ps)) ≡ move g k u (first_part (rest_parts ps))

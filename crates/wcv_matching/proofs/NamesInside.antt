@@ -87,7 +87,7 @@ module _ (ts : List Type_tree) where
   node-apart (n.Module s) h = bare-apart (slots_of (n.Module s)) (module-bare s.imports s.exports)
   node-apart (n.CoreInstance s) h = bare-apart (slots_of (n.CoreInstance s)) (kind-bare s.kind)
 
-leaves-apart : HoldsOfLeaves (λ h ps. AreNamedApart ps)
+pub leaves-apart : HoldsOfLeaves (λ h ps. AreNamedApart ps)
 leaves-apart = record {
   left_out = (no-names, no-names);
   primitives = λ q. (no-names, no-names);

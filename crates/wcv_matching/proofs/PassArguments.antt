@@ -1,5 +1,6 @@
 -- The pass decides whether arguments open the imports of a component, and finds the one substitution.
-use Rattle.std.proofs.Common.{◌≡◌, ℕ, suc, ◌+◌, ◌≤◌, List, [], ◌∷◌, Bool, true, false, refl, ap, sym, ◌∙◌, arith, inl}
+use Rattle.std.proofs.Common.{◌≡◌, ℕ, suc, ◌+◌, ◌≤◌, List, [], ◌∷◌, Bool, true, false, refl, ap, sym, subst, ◌∙◌, arith, inl}
+use Rattle.std.proofs.Math.Path.{fun_ext}
 use Rattle.std.specs.Prelude.{Contains, All}
 use Rattle.std.specs.Bool.{Decides}
 use Rattle.std.proofs.lemmas.Bool.Decides.{Decides-like}
@@ -7,7 +8,7 @@ use Rattle.std.proofs.lemmas.List.Elements.{All-cons, All-nil, All-weaker, All-c
 use Rattle.wcv_core.specs.Names.{Name, member}
 use Rattle.wcv_types.specs.Tree.{Text, head, imported_at}
 use Rattle.wcv_types.specs.Unfold.{Type_tree}
-use Rattle.wcv_matching.specs.Matching.{Item_rule, Entries, MatchBelow, opened_by, OpensImports, named_imports}
+use Rattle.wcv_matching.specs.Matching.{Item_rule, Entries, Reading, MatchBelow, opened_by, OpensImports, named_imports}
 use Rattle.wcv_matching.specs.OnePass.{Atom, given, imported_paths, enough, Tests, match_pass, argument_for, opens_pass, AreRight}
 use Rattle.wcv_matching.specs.Orderly.{Orderly, EachOrderly, height}
 use Rattle.wcv_matching.proofs.MatchingKept.{MatchBelow-map}
@@ -56,6 +57,12 @@ opened-same s t c k r = go (member r (imported_at (head c))) refl
     go : (b : Bool) → member r (imported_at (head c)) ≡ b → opened_by s c r ≡ opened_by t c r
     go true i = rw i (k r i)
     go false i = rw i refl
+
+-- so what the paths find opens, where something does
+module _ (C : Item_rule) where
+  pub found-opens : (s : Name → Name) (args : List (Text × Type_tree)) (c : Type_tree) → Orderly c → OpensImports C s args c → OpensImports C (argument_for args c) args c
+  found-opens s args c oc m =
+      subst (λ (u : Reading Name). Entries (λ x y. (d : ℕ) × MatchBelow C d Name (λ r. r) u x y) args (named_imports c)) (fun_ext (opened-same s (argument_for args c) c (λ r i. sym (argument-found C s args c oc m r i)))) m
 
 module _ (C : Item_rule) where
   pub opens-decided : (test : Tests) → AreRight C test → (args : List (Text × Type_tree)) (c : Type_tree) → EachOrderly args → Orderly c → Decides (opens_pass test args c) ((s : Name → Name) × OpensImports C s args c)

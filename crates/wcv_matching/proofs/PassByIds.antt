@@ -42,7 +42,7 @@ module _ {K X : Type 0} (same : K → K → Bool) (test : X → X → Bool) wher
     λ e. all-pass (found same test xs) ys (λ x c. let f = e x.0 x.1 c in found-from (lookup (same x.0) xs) x.1 f.0 f.1 f.2),
   )
 
-modules-decide : (gs : List Group) (m n : Module_items EntityType) → Decides (modules_match gs m n) (ModuleMatches (ByIds gs) m n)
+pub modules-decide : (gs : List Group) (m n : Module_items EntityType) → Decides (modules_match gs m n) (ModuleMatches (ByIds gs) m n)
 modules-decide gs m n =
     Decides-like (modules_match gs m n)
     (λ w. record { imports = w.0; exports = w.1 })

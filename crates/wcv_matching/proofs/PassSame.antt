@@ -97,7 +97,7 @@ along : {X : Type 0} (P : X → Type 0) (v x : X) → v ≡ x → P v → P x
 along P v x e p = subst P e p
 
 -- a test of pairs that is right on the entries is right on the lists
-pairs-decide : {X : Type 0} (T : X → X → Bool) (R : X → X → Type 0) (xs ys : List (Text × X)) → NamesDiffer xs →
+pub pairs-decide : {X : Type 0} (T : X → X → Bool) (R : X → X → Type 0) (xs ys : List (Text × X)) → NamesDiffer xs →
     ((n : Text) (x y : X) → Contains xs (n, x) → Contains ys (n, y) → Decides (T x y) (R x y)) → Decides (pairs_pass T xs ys) (Pairs R xs ys)
 pairs-decide {X} T R xs ys i k = (to, from)
   where

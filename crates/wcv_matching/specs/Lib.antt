@@ -12,3 +12,6 @@ pub mod NamedPaths
 pub mod SameTypes
 pub mod OnePass
 pub mod IdTests
+pub mod AtomTests
+pub mod Formed
+pub mod GivenTypes

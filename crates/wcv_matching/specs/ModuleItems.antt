@@ -18,8 +18,8 @@ abbrev pub item_at : {R I : Type 0} → Head R I → Option EntityType
 item_at (core_item e) = Some e
 item_at h = None
 
--- the item under the name, before others
-abbrev pub before : {K : Type 0} → K → Option EntityType → List (K × EntityType) → List (K × EntityType)
+-- what stands under a name, before others
+abbrev pub before : {K X : Type 0} → K → Option X → List (K × X) → List (K × X)
 before k None es = es
 before k (Some e) es = (k, e) ∷ es
 

@@ -1,5 +1,5 @@
 // Laws of matching, over trees whose core types are of one table.
-ghost use Rattle.std.specs.Prelude.{◌≡◌, ℕ, List, ◌++◌, Bool, true};
+ghost use Rattle.std.specs.Prelude.{◌≡◌, ℕ, List, ◌++◌, map, Bool, true};
 ghost use Rattle.std.specs.Bool.{Decides};
 ghost use Rattle.wcv_core.specs.CoreForm.{Group};
 ghost use Rattle.wcv_core.specs.Names.{Name, member};
@@ -13,11 +13,13 @@ ghost use Rattle.wcv_types.specs.Unfold.{Type_tree, tree_at};
 ghost use Rattle.wcv_types.specs.declared.ids.Part.{Part};
 ghost use Rattle.wcv_closed.specs.ClosedMatching.{SupersKeepForm};
 ghost use Rattle.wcv_closed.specs.ClosedTable.{IsTable};
+ghost use Rattle.wcv_matching.specs.AtomTests.{id_tests};
+ghost use Rattle.wcv_matching.specs.Formed.{Formed, HeightByIdentity};
 ghost use Rattle.wcv_matching.specs.IdTests.{tests_by_ids};
 ghost use Rattle.wcv_matching.specs.Matching.{Matches, OpensImports};
 ghost use Rattle.wcv_matching.specs.ModuleItems.{ItemsMatch};
 ghost use Rattle.wcv_matching.specs.OnePass.{AreRight, Seen_tree, Tests, argument_for, opens_pass, passes_match, passes_same};
-ghost use Rattle.wcv_matching.specs.Orderly.{AllNamesDiffer, EachOrderly, Orderly};
+ghost use Rattle.wcv_matching.specs.Orderly.{AllNamesDiffer, EachNode, EachOrderly, Orderly, height};
 ghost use Rattle.wcv_matching.specs.TableMatching.{ByIds, CoreWithin, EachCoreWithin, MatchesByOnce, ModulesMatchThemselves, Opens, SameTypes, TypeMatches};
 
 /// Each type whose names differ matches itself.
@@ -96,6 +98,7 @@ pub fn one_pass_decides_matching()
 pub fn one_pass_decides_openings()
     ensures opens { (gs : List Group) (test : Tests) (args : List (Text × Type_tree)) (c : Type_tree) → AreRight (ItemsMatch gs) test → EachOrderly args → Orderly c → Decides (opens_pass test args c) ((s : Name → Name) × Opens gs s args c) }
     ensures found { (gs : List Group) (s : Name → Name) (args : List (Text × Type_tree)) (c : Type_tree) (r : Name) → Orderly c → Opens gs s args c → member r (imported_at (head c)) ≡ true → argument_for args c r ≡ s r }
+    ensures finds { (gs : List Group) (s : Name → Name) (args : List (Text × Type_tree)) (c : Type_tree) → Orderly c → Opens gs s args c → Opens gs (argument_for args c) args c }
 {}
 
 /// Over a table whose core types both name, the pass may tell core modules by ids: of its tests the one of values alone has to be given.
@@ -104,4 +107,26 @@ pub fn one_pass_goes_by_ids()
         → Decides (passes_match (tests_by_ids gs same_seen) a b) (TypeMatches gs a b) }
     ensures opens { (gs : List Group) (same_seen : Seen_tree → Seen_tree → Bool) (args : List (Text × Type_tree)) (c : Type_tree) → ((s t : Seen_tree) → Decides (same_seen s t) (s ≡ t)) → IsTable gs
         → EachOrderly args → Orderly c → EachCoreWithin gs args → CoreWithin gs c → Decides (opens_pass (tests_by_ids gs same_seen) args c) ((s : Name → Name) × Opens gs s args c) }
+{}
+
+/// The pass by ids is the same under a renaming of all names, where resources have a way back.
+pub fn renaming_keeps_the_pass()
+    ensures matches { (gs : List Group) (f g back : Name → Name) (a b : Type_tree) → ((r : Name) → back (f r) ≡ r) → passes_match (id_tests gs) (rename f g a) (rename f g b) ≡ passes_match (id_tests gs) a b }
+    ensures opens { (gs : List Group) (f g back : Name → Name) (args : List (Text × Type_tree)) (c : Type_tree) → ((r : Name) → back (f r) ≡ r) → opens_pass (id_tests gs) (map (λ e. (e.0, rename f g e.1)) args) (rename f g c) ≡ opens_pass (id_tests gs) args c }
+{}
+
+/// The tests by ids are right over a table whose core types both name: the pass with them decides matching, and openings.
+pub fn the_tests_by_ids_are_right()
+    ensures matches { (gs : List Group) (a b : Type_tree) → IsTable gs → Orderly a → Orderly b → CoreWithin gs a → CoreWithin gs b → Decides (passes_match (id_tests gs) a b) (TypeMatches gs a b) }
+    ensures opens { (gs : List Group) (args : List (Text × Type_tree)) (c : Type_tree) → IsTable gs → EachOrderly args → Orderly c → EachCoreWithin gs args → CoreWithin gs c → Decides (opens_pass (id_tests gs) args c) ((s : Name → Name) × Opens gs s args c) }
+{}
+
+/// Types that the pass finds the same are of one height, where names differ in them and they are formed.
+pub fn same_types_have_one_height()
+    ensures { (gs : List Group) (a b : Type_tree) → AllNamesDiffer a → AllNamesDiffer b → Formed a → Formed b → passes_same (id_tests gs) a b ≡ true → height a ≡ height b }
+{}
+
+/// Inside the types of an arena, nodes of one identity are of one height.
+pub fn nodes_of_an_arena_are_of_one_height()
+    ensures { (a : Arena) (q : Part) → AllFit a → Stands a q → EachNode (HeightByIdentity a) (tree_at a q) }
 {}

@@ -176,7 +176,12 @@ fn imports_match(types: &TypeAlloc, a: &ImportMap, b: &ImportMap, offset: u64) -
 
 /// Whether each import of the one is an import of the other, which matches it, and each export of the other is one
 /// of its own, which matches that.
-fn shapes_match(types: &TypeAlloc, a: &ModuleType, b: &ModuleType, offset: u64) -> Result<(), Error>
+pub fn shapes_match(
+    types: &TypeAlloc,
+    a: &ModuleType,
+    b: &ModuleType,
+    offset: u64,
+) -> Result<(), Error>
     requires a { All (IsEntityWithin (total types.now.core)) (core_items (n.Module a.now)) }
     requires b { All (IsEntityWithin (total types.now.core)) (core_items (n.Module b.now)) }
     ensures ok { OnOk result (ModuleMatches (ItemsMatch types.now.core) (items_of a.now) (items_of b.now)) }
