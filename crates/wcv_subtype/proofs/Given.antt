@@ -19,7 +19,7 @@ use Rattle.wcv_subtype.specs.Remap.{EntryServed, Serves, Sends, Sound}
 use Rattle.wcv_subtype.proofs.Maps.{Entries}
 use Rattle.wcv_subtype.proofs.Parts.{same_part-refl, one_identity, type_identity}
 
-identity_true : (i j : Identity) → same_identity i j ≡ true → i ≡ j
+pub identity_true : (i j : Identity) → same_identity i j ≡ true → i ≡ j
 identity_true (of_node a) (of_node b) h = ap of_node (same-true a b h)
 identity_true (of_reference q a) (of_reference r b) h =
     let x : q ≡ r = same-true q r (and_left (same q r) (same a b) h) in
@@ -28,7 +28,7 @@ identity_true (of_reference q a) (of_reference r b) h =
 identity_true (of_node a) (of_reference r b) h = absurd (let e = h in cc)
 identity_true (of_reference q a) (of_node b) h = absurd (let e = h in cc)
 
-identity_refl : (i : Identity) → same_identity i i ≡ true
+pub identity_refl : (i : Identity) → same_identity i i ≡ true
 identity_refl (of_node a) = same-refl a
 identity_refl (of_reference q a) = both (same q q) (same a a) (same-refl q) (same-refl a)
   where

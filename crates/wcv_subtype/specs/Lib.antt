@@ -2,3 +2,9 @@ pub mod Map
 pub mod Hygiene
 pub mod Remap
 pub mod Entities
+pub mod Readings
+pub mod SeenValues
+pub mod IdPasses
+pub mod IdCounterparts
+pub mod Openings
+pub mod OwnResources

@@ -1,10 +1,19 @@
-//! Types that are made again where a map replaces something in them.
+//! Whether types match, what opens the imports of a component, and types that are made again where a map replaces
+//! something in them.
 #![tactic(auto)]
 
+mod comparisons;
+mod counterparts;
 mod entity;
+mod giving;
 mod ids;
 mod map;
+mod openings;
+mod own_resources;
+mod passes;
+mod readings;
 mod remap;
+mod values;
 
 ghost use Rattle.std.specs.Prelude.{◌≡◌, ℕ, ◌+◌, ◌<◌, ◌≤◌, List, [], Contains, length, true, false, None};
 ghost use Rattle.std.specs.List.{IsDistinct};
@@ -24,8 +33,10 @@ ghost use Rattle.wcv_subtype.specs.Hygiene.{Hygienic};
 ghost use Rattle.wcv_subtype.specs.Map.{Map, Sent, same_part};
 ghost use Rattle.wcv_subtype.specs.Remap.{ReachedFrom, Sends, Serves, Sound};
 
+pub use comparisons::{component_entity_type, component_val_type};
 pub use entity::remap_component_entity;
 pub use map::Remapping;
+pub use openings::{EntityMap, open_instance_type};
 
 /// A map that replaces resources by resources of the arena, and has no entry yet, is sound.
 #[tactic(auto, using(crate::proofs::Starting::sound_new))]

@@ -1,0 +1,205 @@
+// What stands on the other side for the own resources of a component type, by the paths that are recorded for them.
+ghost use Rattle.std.specs.Prelude.{◌≡◌, ℕ, true, None, map, is_some, option_map, option_copied, Some, All, IfOk, IfSome, OnOk};
+ghost use Rattle.std.specs.BTreeMap.{get_by};
+ghost use Rattle.std.specs.Ordering.{nat_cmp};
+ghost use Rattle.wcv_types.specs.Entities.{entity_tree, EntityStands, EntryStands};
+ghost use Rattle.wcv_types.specs.Tree.{head, referenced};
+ghost use Rattle.wcv_types.specs.Unfold.{resource_path, trees};
+ghost use Rattle.wcv_subtype.specs.IdCounterparts.{counterparts_of, exporter, exports_by_ids, lands_on, AreExports};
+ghost use Rattle.wcv_subtype.specs.IdPasses.{named_trees};
+ghost use Rattle.wcv_matching.specs.Matching.{named_exports};
+ghost use Rattle.wcv_matching.specs.NamedPaths.{entry, follow as follows, resource_at};
+ghost use Rattle.wcv_subtype.specs.Readings.{resource_name};
+
+use crate::passes::as_resource;
+use std::alloc::Global;
+use std::collections::BTreeMap;
+use wcv_core::{OutOfMemory, Text};
+use wcv_types::{
+    ByName, ComponentEntityType, ComponentItem, ItemMap, Paths, ResourceId, TypeAlloc,
+};
+
+/// What an entry exports, where it may export something.
+fn exports_of(types: &TypeAlloc, ty: ComponentEntityType) -> Option<&ItemMap>
+    requires { EntityStands types.now ty }
+    ensures exports { named_exports (entity_tree (trees types.now.nodes) ty) ≡ exports_by_ids types.now (option_copied result) }
+    ensures some { is_some (option_copied result) ≡ is_some (exporter ty) }
+    ensures stand { IfSome (option_copied result) (All (EntryStands types.now)) }
+{
+    types.nodes_fit();
+    match ty {
+        ComponentEntityType::Instance(id) => Some(&types.get(id).exports),
+        ComponentEntityType::Component(id) => Some(&types.get(id).exports),
+        _ => None,
+    }
+}
+
+/// The place of a node that may export something.
+fn place_of(ty: ComponentEntityType) -> Option<u64>
+    ensures { result ≡ exporter ty }
+{
+    match ty {
+        ComponentEntityType::Instance(id) => Some(id.index),
+        ComponentEntityType::Component(id) => Some(id.index),
+        _ => None,
+    }
+}
+
+/// The resource that an entry of a type refers to.
+fn resource_of(types: &TypeAlloc, ty: ComponentEntityType) -> Option<ResourceId>
+    requires { EntityStands types.now ty }
+    ensures { option_map resource_name result ≡ resource_at (head (referenced (entity_tree (trees types.now.nodes) ty))) }
+{
+    types.nodes_fit();
+    match ty {
+        ComponentEntityType::Ty { referenced, .. } => as_resource(referenced),
+        _ => None,
+    }
+}
+
+/// Maps by name of the exports of nodes, by places. Each is made when it is asked for first.
+#[derive(Drop)]
+pub(crate) struct Exports<'a> {
+    maps: BTreeMap<u64, ByName<'a, ComponentItem>>,
+}
+
+impl<'a> Exports<'a> {
+    /// No map.
+    pub(crate) fn new(alloc: Global) -> Exports<'a>
+        ensures { (k : ℕ) → get_by (λ j. nat_cmp k j) result.maps ≡ None }
+    {
+        Exports {
+            maps: BTreeMap::new(alloc),
+        }
+    }
+
+    /// The map of what the node at the place exports is made, where there is none yet.
+    fn keep(
+        &mut self,
+        types: &'a TypeAlloc,
+        ty: ComponentEntityType,
+        place: u64,
+    ) -> Result<(), OutOfMemory>
+        requires stands { EntityStands types.now ty }
+        requires place { exporter ty ≡ Some place }
+        requires maps { AreExports types.now self.old.maps }
+        ensures maps { OnOk result (AreExports types.now self.new.maps) }
+        ensures there { OnOk result (is_some (get_by (λ k. nat_cmp place k) self.new.maps) ≡ true) }
+    {
+        if self.maps.get(&place).is_some() {
+            return Ok(());
+        }
+        match exports_of(types, ty) {
+            Some(exports) => {
+                let map = exports.by_name(types.allocator())?;
+                self.maps.insert(place, map)?;
+                Ok(())
+            }
+            None => unreachable!(),
+        }
+    }
+
+    /// What the entry exports under the name.
+    pub(crate) fn find(
+        &mut self,
+        types: &'a TypeAlloc,
+        ty: ComponentEntityType,
+        name: &Text,
+    ) -> Result<Option<ComponentEntityType>, OutOfMemory>
+        requires stands { EntityStands types.now ty }
+        requires maps { AreExports types.now self.old.maps }
+        ensures maps { OnOk result (AreExports types.now self.new.maps) }
+        ensures stands { IfOk result (λ found. IfSome found (EntityStands types.now)) }
+        ensures found { IfOk result (λ found. option_map (entity_tree (trees types.now.nodes)) found ≡ entry name.now (named_exports (entity_tree (trees types.now.nodes) ty))) }
+    {
+        let place = match place_of(ty) {
+            Some(place) => place,
+            None => {
+                let _ = exports_of(types, ty);
+                return Ok(None);
+            }
+        };
+        self.keep(types, ty, place)?;
+        match self.maps.get(&place) {
+            Some(map) => match map.get(name) {
+                Some(item) => Ok(Some(item.ty)),
+                None => Ok(None),
+            },
+            None => unreachable!(),
+        }
+    }
+}
+
+/// The resource to which the path leads by the names of the entries that it takes.
+fn follow<'a>(
+    types: &'a TypeAlloc,
+    seen: &mut Exports<'a>,
+    path: &[u64],
+    entries: &ItemMap,
+    others: &ByName<'_, ComponentItem>,
+) -> Result<Option<ResourceId>, OutOfMemory>
+    requires maps { AreExports types.now seen.old.maps }
+    requires entries { All (EntryStands types.now) entries.now }
+    requires others { All (EntryStands types.now) others.now }
+    ensures maps { OnOk result (AreExports types.now seen.new.maps) }
+    ensures found { IfOk result (λ found. option_map resource_name found ≡ follows path.now (named_trees (trees types.now.nodes) entries.now) (named_trees (trees types.now.nodes) others.now)) }
+{
+    let first = match path.first() {
+        Some(first) => *first,
+        None => return Ok(None),
+    };
+    let entry = match entries.get_index(first as usize) {
+        Some(entry) => entry,
+        None => return Ok(None),
+    };
+    let mut here = entry.1.ty;
+    let mut there = match others.get(&entry.0) {
+        Some(item) => item.ty,
+        None => return Ok(None),
+    };
+    for k in 1..path.len() {
+        let entry = match exports_of(types, here) {
+            Some(exports) => match exports.get_index(path[k] as usize) {
+                Some(entry) => entry,
+                None => return Ok(None),
+            },
+            None => return Ok(None),
+        };
+        there = match seen.find(types, there, &entry.0)? {
+            Some(ty) => ty,
+            None => return Ok(None),
+        };
+        here = entry.1.ty;
+    }
+    Ok(resource_of(types, there))
+}
+
+/// The own resources with what stands for each on the other side: itself, where its path leads to none.
+pub(crate) fn counterparts(
+    types: &TypeAlloc,
+    paths: &Paths,
+    entries: &ItemMap,
+    others: &ItemMap,
+) -> Result<Vec<(ResourceId, ResourceId)>, OutOfMemory>
+    requires entries { All (EntryStands types.now) entries.now }
+    requires others { All (EntryStands types.now) others.now }
+    ensures { IfOk result (λ found. map lands_on found.items ≡ counterparts_of (map resource_path paths.now) (named_trees (trees types.now.nodes) entries.now) (named_trees (trees types.now.nodes) others.now)) }
+{
+    let alloc = types.allocator();
+    let mut found = Vec::new(alloc);
+    if paths.len() == 0 {
+        return Ok(found);
+    }
+    let by_name = others.by_name(alloc)?;
+    let mut seen = Exports::new(alloc);
+    for k in 0..paths.len() {
+        match paths.get_index(k) {
+            Some((resource, path)) => {
+                let other = follow(types, &mut seen, path.positions(), entries, &by_name)?;
+                found.push((*resource, other.unwrap_or(*resource)))?;
+            }
+            None => unreachable!(),
+        }
+    }
+    Ok(found)
+}

@@ -1,0 +1,239 @@
+// What opens the imports of a component.
+ghost use Rattle.std.specs.Prelude.{◌≡◌, [], ◌∷◌, ◌++◌, List, map, All, Some, true, IfErr, IfOk, OnErr, OnOk};
+ghost use Rattle.std.specs.List.{IsDistinct};
+ghost use Rattle.std.specs.Map.{keys_of};
+ghost use Rattle.wcv_core.specs.Names.{Name};
+ghost use Rattle.wcv_core.specs.Refusal.{error_kind, error_offset};
+ghost use Rattle.wcv_types.specs.Entities.{entity_tree, EntityStands, EntryStands};
+ghost use Rattle.wcv_types.specs.Sets.{same_resource};
+ghost use Rattle.wcv_types.specs.Standing.{Stands};
+ghost use Rattle.wcv_types.specs.Unfold.{tree_at, trees};
+ghost use Rattle.wcv_types.specs.declared.ids.Part.TheVariants as p;
+ghost use Rattle.wcv_matching.specs.AtomTests.{id_tests};
+ghost use Rattle.wcv_matching.specs.GivenTypes.{given_for};
+ghost use Rattle.wcv_matching.specs.NamedPaths.{entry};
+ghost use Rattle.wcv_matching.specs.OnePass.{each_passes, found_in, given, match_pass};
+ghost use Rattle.wcv_matching.specs.Refusals.{MemoryOrMismatch};
+ghost use Rattle.wcv_matching.specs.TableMatching.{Opens};
+ghost use Rattle.wcv_subtype.specs.IdPasses.{named_trees};
+ghost use Rattle.wcv_subtype.specs.Openings.{named_args, ArgumentStands, Fits, Gives, IsOpening};
+ghost use Rattle.wcv_subtype.specs.Readings.{atoms_of, reads, resource_name};
+
+use crate::comparisons::sort_name;
+use crate::counterparts::{Exports, counterparts};
+use crate::giving::give;
+use crate::map::Remapping;
+use crate::passes::entity_passes;
+use crate::readings::{Readings, ResourceAtom};
+use std::alloc::Global;
+use std::marker::Model;
+use wcv_core::{Error, ErrorKind, Excerpt, OutOfMemory, Text};
+use wcv_types::{
+    ByName, ComponentEntityType, ComponentItem, ComponentTypeId, ItemMap, ResourceId, TypeAlloc,
+};
+
+/// Types by name, in order: of a name that stands more than once the first counts. Contracts see it as the list of
+/// its pairs.
+#[derive(Drop)]
+pub struct EntityMap {
+    /// Each with nothing beside its name.
+    items: ItemMap,
+}
+
+impl Model for EntityMap {
+    ghost use Rattle.std.specs.Prelude.{List, map};
+    ghost use Rattle.wcv_types.specs.Tree.{Text};
+    ghost use Rattle.wcv_types.specs.declared.shapes.ComponentEntityType.{ComponentEntityType};
+
+    ghost Value = { List (Text × ComponentEntityType) };
+
+    ghost view = { λ m. map (λ e. (e.0, e.1.ty)) m.items };
+}
+
+impl EntityMap {
+    /// A map with no pair.
+    pub fn new(alloc: Global) -> EntityMap
+        ensures { result ≡ [] }
+    {
+        EntityMap {
+            items: ItemMap::new(alloc),
+        }
+    }
+
+    /// Appends a pair. Out of memory nothing changes.
+    pub fn push(&mut self, name: Text, ty: ComponentEntityType) -> Result<(), OutOfMemory>
+        ensures ok { OnOk result (self.new ≡ self.old ++ (name, ty) ∷ []) }
+        ensures err { OnErr result (self.new ≡ self.old) }
+    {
+        self.items.push((
+            name,
+            ComponentItem {
+                ty,
+                implements: None,
+                version_suffix: None,
+                external_id: None,
+            },
+        ))
+    }
+}
+
+/// The map that replaces resources as the list says, and no type.
+fn replacing(alloc: Global, found: &[(ResourceId, ResourceId)]) -> Result<Remapping, OutOfMemory>
+    requires { IsDistinct same_resource (keys_of found.now) }
+    ensures { IfOk result (λ m. m ≡ record { resources = found.now; types = [] }) }
+{
+    let mut replaced = Remapping::new(alloc);
+    for k in 0..found.len() {
+        replaced.push_resource(found[k].0, found[k].1)?;
+    }
+    Ok(replaced)
+}
+
+/// Reads each resource as the list says.
+fn read_as(
+    alloc: Global,
+    found: &[(ResourceId, ResourceId)],
+) -> Result<Vec<(ResourceId, ResourceAtom)>, OutOfMemory>
+    ensures { IfOk result (λ atoms. atoms_of atoms.items ≡ map (λ e. (resource_name e.0, given (resource_name e.1))) found.now) }
+{
+    let mut atoms = Vec::new(alloc);
+    for k in 0..found.len() {
+        atoms.push((found[k].0, ResourceAtom::Given(found[k].1)))?;
+    }
+    Ok(atoms)
+}
+
+/// The refusal of an argument that is not there, or is not as the import expects.
+fn unfit_argument(
+    name: &Text,
+    found: Option<ComponentEntityType>,
+    expected: &ComponentEntityType,
+    offset: u64,
+) -> Error
+    ensures kind { error_kind result ≡ ErrorKind.Mismatch }
+    ensures offset { error_offset result ≡ offset }
+{
+    let name = name.as_str();
+    match found {
+        Some(found) => Error::told(
+            ErrorKind::Mismatch,
+            offset,
+            format_args!(
+                "import `{}`: expected {} of another type, found {}",
+                Excerpt(name),
+                sort_name(expected),
+                sort_name(&found)
+            ),
+        ),
+        None => Error::told(
+            ErrorKind::Mismatch,
+            offset,
+            format_args!(
+                "import `{}`: expected {}, and there is no argument of that name",
+                Excerpt(name),
+                sort_name(expected)
+            ),
+        ),
+    }
+}
+
+/// The argument for an import, where it may stand there.
+fn argument_for(
+    types: &TypeAlloc,
+    args: &ByName<'_, ComponentItem>,
+    right: &mut Readings,
+    import: &(Text, ComponentItem),
+    offset: u64,
+) -> Result<ComponentEntityType, Error>
+    requires args { All (EntryStands types.now) args.now }
+    requires import { EntryStands types.now import.now }
+    ensures fits { IfOk result (Fits types.now (reads right.old) (named_trees (trees types.now.nodes) args.now) import.now) }
+    ensures right { OnOk result (reads right.new ≡ reads right.old) }
+    ensures err { IfErr result (MemoryOrMismatch offset (found_in (match_pass (id_tests types.now.core) 0 given (reads right.old)) (named_trees (trees types.now.nodes) args.now) (import.now.0, entity_tree (trees types.now.nodes) import.now.1.ty) ≡ true)) }
+{
+    let mut left = Readings::new(types.allocator());
+    match args.get(&import.0) {
+        Some(item) => {
+            if entity_passes(types, false, &mut left, right, 0, item.ty, import.1.ty)? {
+                Ok(item.ty)
+            } else {
+                Err(unfit_argument(&import.0, Some(item.ty), &import.1.ty, offset))
+            }
+        }
+        None => Err(unfit_argument(&import.0, None, &import.1.ty, offset)),
+    }
+}
+
+/// What the arguments give for the types that the imports create joins the map, where each import has an argument that
+/// may stand there.
+fn open_imports(
+    types: &TypeAlloc,
+    args: &ItemMap,
+    imports: &ItemMap,
+    right: &mut Readings,
+    opening: &mut Remapping,
+    offset: u64,
+) -> Result<(), Error>
+    requires args { All (EntryStands types.now) args.now }
+    requires imports { All (EntryStands types.now) imports.now }
+    requires none { opening.old.types ≡ [] }
+    ensures passes { OnOk result (each_passes (match_pass (id_tests types.now.core) 0 given (reads right.old)) (named_trees (trees types.now.nodes) args.now) (named_trees (trees types.now.nodes) imports.now) ≡ true) }
+    ensures given { OnOk result (Gives types.now (given_for (named_trees (trees types.now.nodes) args.now) (named_trees (trees types.now.nodes) imports.now)) opening.new) }
+    ensures resources { OnOk result (opening.new.resources ≡ opening.old.resources) }
+    ensures err { IfErr result (MemoryOrMismatch offset (each_passes (match_pass (id_tests types.now.core) 0 given (reads right.old)) (named_trees (trees types.now.nodes) args.now) (named_trees (trees types.now.nodes) imports.now) ≡ true)) }
+{
+    let by_name = args.by_name(types.allocator())?;
+    let mut seen = Exports::new(types.allocator());
+    for k in 0..imports.len() {
+        match imports.get_index(k) {
+            Some(import) => {
+                let argument = argument_for(types, &by_name, right, import, offset)?;
+                give(types, &mut seen, argument, import.1.ty, opening)?;
+            }
+            None => unreachable!(),
+        }
+    }
+    Ok(())
+}
+
+/// What opens the imports of the component by the arguments: each imported resource is replaced by that of its
+/// argument, and each type that an import creates, itself or inside an instance, by the one that the argument creates
+/// there.
+pub fn open_instance_type(
+    types: &TypeAlloc,
+    args: &EntityMap,
+    component: ComponentTypeId,
+    offset: u64,
+) -> Result<Remapping, Error>
+    requires args { All (ArgumentStands types.now) args.now }
+    requires component { Stands types.now (p.Component component) }
+    ensures ok { OnOk result ((s : Name → Name) × Opens types.now.core s (named_args types.now args.now) (tree_at types.now (p.Component component))) }
+    ensures map { IfOk result (IsOpening types.now args.now component) }
+    ensures err { IfErr result (MemoryOrMismatch offset ((s : Name → Name) × Opens types.now.core s (named_args types.now args.now) (tree_at types.now (p.Component component)))) }
+{
+    types.nodes_fit();
+    types.names_given();
+    let _count = types.core_types().len();
+    let alloc = types.allocator();
+    let shape = types.get(component);
+    let _unique = shape.imported_resources.len();
+    let found = counterparts(
+        types,
+        &shape.imported_resources,
+        &shape.imports,
+        &args.items,
+    )?;
+    let mut opening = replacing(alloc, &found)?;
+    let mut right = Readings::new(alloc);
+    right.enter(&read_as(alloc, &found)?)?;
+    open_imports(
+        types,
+        &args.items,
+        &shape.imports,
+        &mut right,
+        &mut opening,
+        offset,
+    )?;
+    opening.entries_differ();
+    Ok(opening)
+}

@@ -1,0 +1,239 @@
+// How both sides of a comparison of component types read their own resources.
+ghost use Rattle.std.specs.Prelude.{◌≡◌, ◌++◌, List, map, cond, true, false, IfOk, OnOk};
+ghost use Rattle.std.specs.List.{list_all};
+ghost use Rattle.wcv_core.specs.Names.{Name, member};
+ghost use Rattle.wcv_types.specs.Sets.{resource_names};
+ghost use Rattle.wcv_types.specs.Standing.{Stands};
+ghost use Rattle.wcv_types.specs.Tree.{firsts};
+ghost use Rattle.wcv_types.specs.Unfold.{resource_path, tree_at};
+ghost use Rattle.wcv_types.specs.declared.ids.Part.TheVariants as p;
+ghost use Rattle.wcv_matching.specs.OnePass.{is_made_in, made_in, one_to_one as are_one_to_one, owned_in};
+ghost use Rattle.wcv_subtype.specs.IdCounterparts.{lands_on};
+ghost use Rattle.wcv_subtype.specs.OwnResources.{going, read_as, Opened, Paired};
+ghost use Rattle.wcv_subtype.specs.Readings.{atoms_of, over, read_by, reads};
+
+use crate::counterparts::counterparts;
+use crate::readings::{Readings, ResourceAtom};
+use std::alloc::Global;
+use std::collections::BTreeMap;
+use wcv_core::OutOfMemory;
+use wcv_types::{ComponentTypeId, Paths, ResourceId, ResourceSet, TypeAlloc};
+
+/// What the own resources of two component types are read as: on the left and on the right in the imports, and what
+/// is read otherwise in the exports. That is the left side where both are to be the same, and else the right one.
+#[derive(Drop)]
+pub(crate) struct OwnAtoms {
+    pub left: Vec<(ResourceId, ResourceAtom)>,
+    pub right: Vec<(ResourceId, ResourceAtom)>,
+    pub exports: Vec<(ResourceId, ResourceAtom)>,
+}
+
+/// The own resources of an instance type, as atoms of the level.
+pub(crate) fn owned_atoms(
+    alloc: Global,
+    level: u64,
+    owned: &ResourceSet,
+) -> Result<Vec<(ResourceId, ResourceAtom)>, OutOfMemory>
+    ensures { IfOk result (λ atoms. atoms_of atoms.items ≡ read_by (owned_in level) (resource_names owned.now)) }
+{
+    let mut atoms = Vec::new(alloc);
+    for k in 0..owned.len() {
+        match owned.get_index(k) {
+            Some(resource) => atoms.push((*resource, ResourceAtom::Owned(level, *resource)))?,
+            None => unreachable!(),
+        }
+    }
+    Ok(atoms)
+}
+
+/// Each of the resources with itself.
+fn themselves(alloc: Global, paths: &Paths) -> Result<Vec<(ResourceId, ResourceId)>, OutOfMemory>
+    ensures { IfOk result (λ pairs. map lands_on pairs.items ≡ going (λ r. r) (firsts (map resource_path paths.now))) }
+{
+    let mut pairs = Vec::new(alloc);
+    for k in 0..paths.len() {
+        match paths.get_index(k) {
+            Some((resource, _)) => pairs.push((*resource, *resource))?,
+            None => unreachable!(),
+        }
+    }
+    Ok(pairs)
+}
+
+/// Each resource joins the list, as the atom of the level for the one that it goes with.
+fn push_own(
+    atoms: &mut Vec<(ResourceId, ResourceAtom)>,
+    made: bool,
+    level: u64,
+    pairs: &[(ResourceId, ResourceId)],
+) -> Result<(), OutOfMemory>
+    ensures { OnOk result (atoms_of atoms.new.items ≡ atoms_of atoms.old.items ++ read_as (cond made (made_in level) (owned_in level)) (map lands_on pairs.now)) }
+{
+    for pair in pairs {
+        let atom = if made {
+            ResourceAtom::Made(level, pair.1)
+        } else {
+            ResourceAtom::Owned(level, pair.1)
+        };
+        atoms.push((pair.0, atom))?;
+    }
+    Ok(())
+}
+
+/// The imported and the defined resources of a component type, as atoms of the level for those that they go with.
+fn own_atoms(
+    alloc: Global,
+    level: u64,
+    imported: &[(ResourceId, ResourceId)],
+    defined: &[(ResourceId, ResourceId)],
+) -> Result<Vec<(ResourceId, ResourceAtom)>, OutOfMemory>
+    ensures { IfOk result (λ atoms. atoms_of atoms.items ≡ read_as (owned_in level) (map lands_on imported.now) ++ read_as (made_in level) (map lands_on defined.now)) }
+{
+    let mut atoms = Vec::new(alloc);
+    push_own(&mut atoms, false, level, imported)?;
+    push_own(&mut atoms, true, level, defined)?;
+    Ok(atoms)
+}
+
+/// Each resource joins the list, as what the one that it goes with is read as.
+fn push_read(
+    readings: &Readings,
+    atoms: &mut Vec<(ResourceId, ResourceAtom)>,
+    pairs: &[(ResourceId, ResourceId)],
+) -> Result<(), OutOfMemory>
+    ensures { OnOk result (atoms_of atoms.new.items ≡ atoms_of atoms.old.items ++ read_as (reads readings.now) (map lands_on pairs.now)) }
+{
+    for pair in pairs {
+        atoms.push((pair.0, readings.read(pair.1)))?;
+    }
+    Ok(())
+}
+
+/// The same, where the readings have these of their own too.
+fn push_read_under(
+    alloc: Global,
+    readings: &mut Readings,
+    own: &[(ResourceId, ResourceAtom)],
+    atoms: &mut Vec<(ResourceId, ResourceAtom)>,
+    pairs: &[(ResourceId, ResourceId)],
+) -> Result<(), OutOfMemory>
+    ensures joined { OnOk result (atoms_of atoms.new.items ≡ atoms_of atoms.old.items ++ read_as (over (atoms_of own.now) (reads readings.old)) (map lands_on pairs.now)) }
+    ensures stays { OnOk result (reads readings.new ≡ reads readings.old) }
+{
+    let kept = readings.enter_keeping(alloc, own)?;
+    push_read(readings, atoms, pairs)?;
+    readings.enter(&kept)?;
+    Ok(())
+}
+
+/// Whether none is read as one that a component at the level defines.
+fn none_made(level: u64, atoms: &[(ResourceId, ResourceAtom)]) -> bool
+    ensures { result ≡ list_all (λ e. cond (is_made_in level e.1) false true) (atoms_of atoms.now) }
+{
+    for entry in atoms {
+        if let ResourceAtom::Made(at, _) = entry.1 {
+            if at == level {
+                return false;
+            }
+        }
+    }
+    true
+}
+
+/// Whether no two resources go to one, but for those that are skipped.
+fn one_to_one(
+    alloc: Global,
+    skipped: &Paths,
+    pairs: &[(ResourceId, ResourceId)],
+) -> Result<bool, OutOfMemory>
+    ensures { IfOk result (λ one. (to : Name → Name) (rs : List Name) → map lands_on pairs.now ≡ going to rs → one ≡ are_one_to_one (λ r. member r (firsts (map resource_path skipped.now))) to rs) }
+{
+    let mut firsts = BTreeMap::new(alloc);
+    for pair in pairs {
+        let resource = pair.0;
+        if skipped.get(&resource).is_none() {
+            let first = firsts.get(&pair.1.index).copied().unwrap_or(resource.index);
+            if first != resource.index {
+                return Ok(false);
+            }
+            firsts.insert(pair.1.index, first)?;
+        }
+    }
+    Ok(true)
+}
+
+/// How two component types that are to be the same read their own resources, if these pair up.
+pub(crate) fn paired_atoms(
+    types: &TypeAlloc,
+    level: u64,
+    a: ComponentTypeId,
+    b: ComponentTypeId,
+) -> Result<Option<OwnAtoms>, OutOfMemory>
+    requires a { Stands types.now (p.Component a) }
+    requires b { Stands types.now (p.Component b) }
+    ensures { IfOk result (Paired level (tree_at types.now (p.Component a)) (tree_at types.now (p.Component b))) }
+{
+    let x = types.get(a);
+    let y = types.get(b);
+    let alloc = types.allocator();
+    let imported = counterparts(types, &x.imported_resources, &x.imports, &y.imports)?;
+    if !one_to_one(alloc, &Paths::new(alloc), &imported)? {
+        return Ok(None);
+    }
+    let defined = counterparts(types, &x.defined_resources, &x.exports, &y.exports)?;
+    if !one_to_one(alloc, &x.imported_resources, &defined)? {
+        return Ok(None);
+    }
+    let made = themselves(alloc, &x.defined_resources)?;
+    let left = own_atoms(alloc, level, &imported, &made)?;
+    let owned = themselves(alloc, &y.imported_resources)?;
+    let made = themselves(alloc, &y.defined_resources)?;
+    let right = own_atoms(alloc, level, &owned, &made)?;
+    let exports = own_atoms(alloc, level, &imported, &defined)?;
+    Ok(Some(OwnAtoms {
+        left,
+        right,
+        exports,
+    }))
+}
+
+/// How a component type and one that it is to match read their own resources, if none that is imported is opened by
+/// one that the other defines.
+pub(crate) fn opened_atoms(
+    types: &TypeAlloc,
+    left: &mut Readings,
+    right: &mut Readings,
+    level: u64,
+    a: ComponentTypeId,
+    b: ComponentTypeId,
+) -> Result<Option<OwnAtoms>, OutOfMemory>
+    requires a { Stands types.now (p.Component a) }
+    requires b { Stands types.now (p.Component b) }
+    ensures opened { IfOk result (Opened level (reads left.old) (reads right.old) (tree_at types.now (p.Component a)) (tree_at types.now (p.Component b))) }
+    ensures left { OnOk result (reads left.new ≡ reads left.old) }
+    ensures right { OnOk result (reads right.new ≡ reads right.old) }
+{
+    let x = types.get(a);
+    let y = types.get(b);
+    let alloc = types.allocator();
+    let owned = themselves(alloc, &y.imported_resources)?;
+    let made = themselves(alloc, &y.defined_resources)?;
+    let right_atoms = own_atoms(alloc, level, &owned, &made)?;
+    let imported = counterparts(types, &x.imported_resources, &x.imports, &y.imports)?;
+    let mut left_atoms = Vec::new(alloc);
+    push_read_under(alloc, right, &right_atoms, &mut left_atoms, &imported)?;
+    if !none_made(level, &left_atoms) {
+        return Ok(None);
+    }
+    let made = themselves(alloc, &x.defined_resources)?;
+    push_own(&mut left_atoms, true, level, &made)?;
+    let defined = counterparts(types, &y.defined_resources, &y.exports, &x.exports)?;
+    let mut exports = Vec::new(alloc);
+    push_own(&mut exports, false, level, &owned)?;
+    push_read_under(alloc, left, &left_atoms, &mut exports, &defined)?;
+    Ok(Some(OwnAtoms {
+        left: left_atoms,
+        right: right_atoms,
+        exports,
+    }))
+}

@@ -1,0 +1,468 @@
+// Whether one type is the same as another, or may stand where it is expected, by one pass over both.
+ghost use Rattle.std.specs.Prelude.{◌≡◌, true, false, bytes_eq, cond, is_some, All, IfOk, option_copied};
+ghost use Rattle.std.specs.List.{list_all};
+ghost use Rattle.std.specs.Map.{lookup};
+ghost use Rattle.wcv_types.specs.Entities.{any_part, entity_tree, EntityStands, EntryStands};
+ghost use Rattle.wcv_types.specs.Standing.{Stands};
+ghost use Rattle.wcv_types.specs.Tree.{owned};
+ghost use Rattle.wcv_types.specs.Unfold.{tree_at, trees};
+ghost use Rattle.wcv_types.specs.Sets.{has_resource, resource_names};
+ghost use Rattle.wcv_types.specs.declared.ids.Part.TheVariants as p;
+ghost use Rattle.wcv_matching.specs.AtomTests.{id_tests};
+ghost use Rattle.wcv_subtype.specs.IdPasses.{Answers, AnswersEntries, AnswersTypes, StaysIf, same_resource, as_entity, as_resource, modules_pass, named_trees, OwnsBy};
+ghost use Rattle.wcv_matching.specs.OnePass.{owned_in, same_members};
+ghost use Rattle.wcv_subtype.specs.Readings.{atoms_of, over, read_by, reads};
+
+use crate::own_resources::{opened_atoms, owned_atoms, paired_atoms};
+use crate::readings::{Readings, ResourceAtom};
+use crate::values::{same_func, same_value};
+use std::alloc::Global;
+use wcv_core::{ErrorKind, OutOfMemory};
+use wcv_matching::shapes_match;
+use wcv_types::{
+    ComponentAnyTypeId, ComponentCoreModuleTypeId, ComponentEntityType, ComponentInstanceTypeId,
+    ComponentTypeId, ComponentValType, ItemMap, ResourceId, ResourceSet, TypeAlloc,
+};
+
+/// Whether the one core module matches the other.
+fn module_matches(
+    types: &TypeAlloc,
+    a: ComponentCoreModuleTypeId,
+    b: ComponentCoreModuleTypeId,
+) -> Result<bool, OutOfMemory>
+    requires a { Stands types.now (p.Module a) }
+    requires b { Stands types.now (p.Module b) }
+    ensures { IfOk result (λ matches. matches ≡ (id_tests types.now.core).modules (tree_at types.now (p.Module a)) (tree_at types.now (p.Module b))) }
+{
+    types.modules_within();
+    let _count = types.core_types().len();
+    match shapes_match(types, types.get(a), types.get(b), 0) {
+        Ok(()) => Ok(true),
+        Err(err) => match err.kind() {
+            ErrorKind::OutOfMemory => Err(OutOfMemory),
+            _ => Ok(false),
+        },
+    }
+}
+
+/// Whether each resource of the one set is in the other.
+fn all_among(a: &ResourceSet, b: &ResourceSet) -> bool
+    ensures { result ≡ list_all (has_resource b.now) a.now }
+{
+    for k in 0..a.len() {
+        if let Some(resource) = a.get_index(k) {
+            if !b.contains(resource) {
+                return false;
+            }
+        }
+    }
+    true
+}
+
+/// The resources of its own that an instance type has.
+fn owned_resources(types: &TypeAlloc, id: ComponentAnyTypeId) -> Option<&ResourceSet>
+    requires { Stands types.now (any_part id) }
+    ensures { OwnsBy (option_copied result) (tree_at types.now (any_part id)) }
+{
+    match id {
+        ComponentAnyTypeId::Instance(id) => Some(&types.get(id).defined_resources),
+        _ => None,
+    }
+}
+
+/// Whether both types own the same resources, as instance types do.
+fn same_owned(types: &TypeAlloc, a: ComponentAnyTypeId, b: ComponentAnyTypeId) -> bool
+    requires a { Stands types.now (any_part a) }
+    requires b { Stands types.now (any_part b) }
+    ensures { result ≡ same_members (owned (tree_at types.now (any_part a))) (owned (tree_at types.now (any_part b))) }
+{
+    match owned_resources(types, a) {
+        Some(x) => match owned_resources(types, b) {
+            Some(y) => all_among(x, y) && all_among(y, x),
+            None => x.len() == 0,
+        },
+        None => match owned_resources(types, b) {
+            Some(y) => y.len() == 0,
+            None => true,
+        },
+    }
+}
+
+/// Whether each of the names of the one list stands in the other.
+fn names_among(alloc: Global, a: &ItemMap, b: &ItemMap) -> Result<bool, OutOfMemory>
+    ensures { IfOk result (λ among. among ≡ list_all (λ e. is_some (lookup (bytes_eq e.0) b.now)) a.now) }
+{
+    let by_name = b.by_name(alloc)?;
+    for k in 0..a.len() {
+        if let Some(entry) = a.get_index(k) {
+            if by_name.get(&entry.0).is_none() {
+                return Ok(false);
+            }
+        }
+    }
+    Ok(true)
+}
+
+/// Whether the names of the one list stand in the other, where that is asked.
+fn names_fit(alloc: Global, exact: bool, a: &ItemMap, b: &ItemMap) -> Result<bool, OutOfMemory>
+    ensures { IfOk result (λ fit. fit ≡ cond exact (list_all (λ e. is_some (lookup (bytes_eq e.0) b.now)) a.now) true) }
+{
+    if exact {
+        names_among(alloc, a, b)
+    } else {
+        Ok(true)
+    }
+}
+
+/// Whether the one core module matches the other, and where they are to be the same also the other way round.
+fn modules_pass(
+    types: &TypeAlloc,
+    exact: bool,
+    a: ComponentCoreModuleTypeId,
+    b: ComponentCoreModuleTypeId,
+) -> Result<bool, OutOfMemory>
+    requires a { Stands types.now (p.Module a) }
+    requires b { Stands types.now (p.Module b) }
+    ensures { IfOk result (λ passes. passes ≡ modules_pass (id_tests types.now.core) exact (tree_at types.now (p.Module a)) (tree_at types.now (p.Module b))) }
+{
+    if exact {
+        Ok(module_matches(types, a, b)? && module_matches(types, b, a)?)
+    } else {
+        module_matches(types, a, b)
+    }
+}
+
+/// The type as an entity, where it is no resource.
+fn as_entity(id: ComponentAnyTypeId) -> Option<ComponentEntityType>
+    ensures { result ≡ as_entity id }
+{
+    match id {
+        ComponentAnyTypeId::Resource(_) => None,
+        ComponentAnyTypeId::Defined(id) => {
+            Some(ComponentEntityType::Value(ComponentValType::Ty(id)))
+        }
+        ComponentAnyTypeId::Func(id) => Some(ComponentEntityType::Func(id)),
+        ComponentAnyTypeId::Instance(id) => Some(ComponentEntityType::Instance(id)),
+        ComponentAnyTypeId::Component(id) => Some(ComponentEntityType::Component(id)),
+    }
+}
+
+/// The resource that the type is, where it is one.
+pub(crate) fn as_resource(id: ComponentAnyTypeId) -> Option<ResourceId>
+    ensures { result ≡ as_resource id }
+{
+    match id {
+        ComponentAnyTypeId::Resource(id) => Some(id.resource),
+        _ => None,
+    }
+}
+
+/// Whether both types are resources, and are read as one.
+fn same_resource(
+    left: &Readings,
+    right: &Readings,
+    a: ComponentAnyTypeId,
+    b: ComponentAnyTypeId,
+) -> bool
+    ensures { result ≡ same_resource (reads left.now) (reads right.now) (as_resource a) (as_resource b) }
+{
+    match as_resource(a) {
+        Some(x) => match as_resource(b) {
+            Some(y) => left.read(x).is(right.read(y)),
+            None => false,
+        },
+        None => false,
+    }
+}
+
+/// Whether the entries of the one list pass with those of the other: each of the right one has one of its name on
+/// the left that passes with it, and where they are to be the same, the names of the left one stand on the right.
+#[cycle(passing)]
+fn entries_pass(
+    types: &TypeAlloc,
+    exact: bool,
+    left: &mut Readings,
+    right: &mut Readings,
+    level: u64,
+    a: &ItemMap,
+    b: &ItemMap,
+) -> Result<bool, OutOfMemory>
+    requires a { All (EntryStands types.now) a.now }
+    requires b { All (EntryStands types.now) b.now }
+    ensures answers { IfOk result (AnswersEntries types.now.core exact level (reads left.old) (reads right.old) (named_trees (trees types.now.nodes) a.now) (named_trees (trees types.now.nodes) b.now)) }
+    ensures left { IfOk result (λ passes. StaysIf passes (reads left.old) (reads left.new)) }
+    ensures right { IfOk result (λ passes. StaysIf passes (reads right.old) (reads right.new)) }
+{
+    if !names_fit(types.allocator(), exact, a, b)? {
+        return Ok(false);
+    }
+    let by_name = a.by_name(types.allocator())?;
+    for k in 0..b.len() {
+        if let Some(entry) = b.get_index(k) {
+            match by_name.get(&entry.0) {
+                Some(item) => {
+                    if !entity_passes(types, exact, left, right, level, item.ty, entry.1.ty)? {
+                        return Ok(false);
+                    }
+                }
+                None => return Ok(false),
+            }
+        }
+    }
+    Ok(true)
+}
+
+/// Whether the one entity passes with the other: whether they are the same where that is asked, or else whether the
+/// one may stand where the other is expected.
+#[cycle(passing)]
+pub(crate) fn entity_passes(
+    types: &TypeAlloc,
+    exact: bool,
+    left: &mut Readings,
+    right: &mut Readings,
+    level: u64,
+    a: ComponentEntityType,
+    b: ComponentEntityType,
+) -> Result<bool, OutOfMemory>
+    requires a { EntityStands types.now a }
+    requires b { EntityStands types.now b }
+    ensures answers { IfOk result (Answers types.now.core exact level (reads left.old) (reads right.old) (entity_tree (trees types.now.nodes) a) (entity_tree (trees types.now.nodes) b)) }
+    ensures left { IfOk result (λ passes. StaysIf passes (reads left.old) (reads left.new)) }
+    ensures right { IfOk result (λ passes. StaysIf passes (reads right.old) (reads right.new)) }
+{
+    match a {
+        ComponentEntityType::Module(x) => match b {
+            ComponentEntityType::Module(y) => modules_pass(types, exact, x, y),
+            _ => Ok(false),
+        },
+        ComponentEntityType::Func(x) => match b {
+            ComponentEntityType::Func(y) => Ok(same_func(types, left, right, x, y)),
+            _ => Ok(false),
+        },
+        ComponentEntityType::Value(x) => match b {
+            ComponentEntityType::Value(y) => Ok(same_value(types, left, right, Some(x), Some(y))),
+            _ => Ok(false),
+        },
+        ComponentEntityType::Ty { referenced: x, .. } => match b {
+            ComponentEntityType::Ty { referenced: y, .. } => {
+                types_pass(types, left, right, level, x, y)
+            }
+            _ => Ok(false),
+        },
+        ComponentEntityType::Instance(x) => match b {
+            ComponentEntityType::Instance(y) => {
+                instances_pass(types, exact, left, right, level, x, y)
+            }
+            _ => Ok(false),
+        },
+        ComponentEntityType::Component(x) => match b {
+            ComponentEntityType::Component(y) => {
+                components_pass(types, exact, left, right, level, x, y)
+            }
+            _ => Ok(false),
+        },
+    }
+}
+
+/// Whether two types that entries refer to are the same, and own the same resources.
+#[cycle(passing)]
+fn types_pass(
+    types: &TypeAlloc,
+    left: &mut Readings,
+    right: &mut Readings,
+    level: u64,
+    a: ComponentAnyTypeId,
+    b: ComponentAnyTypeId,
+) -> Result<bool, OutOfMemory>
+    requires a { Stands types.now (any_part a) }
+    requires b { Stands types.now (any_part b) }
+    ensures answers { IfOk result (AnswersTypes types.now.core level (reads left.old) (reads right.old) (tree_at types.now (any_part a)) (tree_at types.now (any_part b))) }
+    ensures left { IfOk result (λ passes. StaysIf passes (reads left.old) (reads left.new)) }
+    ensures right { IfOk result (λ passes. StaysIf passes (reads right.old) (reads right.new)) }
+{
+    match as_entity(a) {
+        Some(x) => match as_entity(b) {
+            Some(y) => {
+                let same = entity_passes(types, true, left, right, level, x, y)?;
+                Ok(same && same_owned(types, a, b))
+            }
+            None => Ok(false),
+        },
+        None => Ok(same_resource(left, right, a, b)),
+    }
+}
+
+/// Whether two instance types pass with each other. Each reads its own resources as atoms of the level.
+#[cycle(passing)]
+fn instances_pass(
+    types: &TypeAlloc,
+    exact: bool,
+    left: &mut Readings,
+    right: &mut Readings,
+    level: u64,
+    a: ComponentInstanceTypeId,
+    b: ComponentInstanceTypeId,
+) -> Result<bool, OutOfMemory>
+    requires a { Stands types.now (p.Instance a) }
+    requires b { Stands types.now (p.Instance b) }
+    ensures answers { IfOk result (Answers types.now.core exact level (reads left.old) (reads right.old) (tree_at types.now (p.Instance a)) (tree_at types.now (p.Instance b))) }
+    ensures left { IfOk result (λ passes. StaysIf passes (reads left.old) (reads left.new)) }
+    ensures right { IfOk result (λ passes. StaysIf passes (reads right.old) (reads right.new)) }
+{
+    let deeper = match level.checked_add(1) {
+        Some(deeper) => deeper,
+        None => return Err(OutOfMemory),
+    };
+    let x = types.get(a);
+    let y = types.get(b);
+    let alloc = types.allocator();
+    let own_left = owned_atoms(alloc, level, &x.defined_resources)?;
+    let own_right = owned_atoms(alloc, level, &y.defined_resources)?;
+    entries_pass_under(
+        types, exact, left, right, deeper, &own_left, &own_right, &x.exports, &y.exports,
+    )
+}
+
+/// Whether the entries pass, where each side reads its own resources as these atoms.
+#[cycle(passing)]
+fn entries_pass_under(
+    types: &TypeAlloc,
+    exact: bool,
+    left: &mut Readings,
+    right: &mut Readings,
+    level: u64,
+    own_left: &[(ResourceId, ResourceAtom)],
+    own_right: &[(ResourceId, ResourceAtom)],
+    a: &ItemMap,
+    b: &ItemMap,
+) -> Result<bool, OutOfMemory>
+    requires a { All (EntryStands types.now) a.now }
+    requires b { All (EntryStands types.now) b.now }
+    ensures answers { IfOk result (AnswersEntries types.now.core exact level (over (atoms_of own_left.now) (reads left.old)) (over (atoms_of own_right.now) (reads right.old)) (named_trees (trees types.now.nodes) a.now) (named_trees (trees types.now.nodes) b.now)) }
+    ensures left { IfOk result (λ passes. StaysIf passes (reads left.old) (reads left.new)) }
+    ensures right { IfOk result (λ passes. StaysIf passes (reads right.old) (reads right.new)) }
+{
+    let alloc = types.allocator();
+    let kept_left = left.enter_keeping(alloc, own_left)?;
+    let kept_right = right.enter_keeping(alloc, own_right)?;
+    if !entries_pass(types, exact, left, right, level, a, b)? {
+        return Ok(false);
+    }
+    left.enter(&kept_left)?;
+    right.enter(&kept_right)?;
+    Ok(true)
+}
+
+/// Whether two component types are the same: their own resources pair up, and with these paired so do their imports
+/// and their exports.
+#[cycle(passing)]
+fn same_components(
+    types: &TypeAlloc,
+    left: &mut Readings,
+    right: &mut Readings,
+    level: u64,
+    a: ComponentTypeId,
+    b: ComponentTypeId,
+) -> Result<bool, OutOfMemory>
+    requires a { Stands types.now (p.Component a) }
+    requires b { Stands types.now (p.Component b) }
+    ensures answers { IfOk result (Answers types.now.core true level (reads left.old) (reads right.old) (tree_at types.now (p.Component a)) (tree_at types.now (p.Component b))) }
+    ensures left { IfOk result (λ passes. StaysIf passes (reads left.old) (reads left.new)) }
+    ensures right { IfOk result (λ passes. StaysIf passes (reads right.old) (reads right.new)) }
+{
+    let deeper = match level.checked_add(1) {
+        Some(deeper) => deeper,
+        None => return Err(OutOfMemory),
+    };
+    let x = types.get(a);
+    let y = types.get(b);
+    let own = match paired_atoms(types, level, a, b)? {
+        Some(own) => own,
+        None => return Ok(false),
+    };
+    if !entries_pass_under(
+        types, true, left, right, deeper, &own.left, &own.right, &x.imports, &y.imports,
+    )? {
+        return Ok(false);
+    }
+    entries_pass_under(
+        types,
+        true,
+        left,
+        right,
+        deeper,
+        &own.exports,
+        &own.right,
+        &x.exports,
+        &y.exports,
+    )
+}
+
+/// Whether the one component type matches the other: its imports may be given what the other imports, and it exports
+/// what the other does.
+#[cycle(passing)]
+fn component_matches(
+    types: &TypeAlloc,
+    left: &mut Readings,
+    right: &mut Readings,
+    level: u64,
+    a: ComponentTypeId,
+    b: ComponentTypeId,
+) -> Result<bool, OutOfMemory>
+    requires a { Stands types.now (p.Component a) }
+    requires b { Stands types.now (p.Component b) }
+    ensures answers { IfOk result (Answers types.now.core false level (reads left.old) (reads right.old) (tree_at types.now (p.Component a)) (tree_at types.now (p.Component b))) }
+    ensures left { IfOk result (λ passes. StaysIf passes (reads left.old) (reads left.new)) }
+    ensures right { IfOk result (λ passes. StaysIf passes (reads right.old) (reads right.new)) }
+{
+    let deeper = match level.checked_add(1) {
+        Some(deeper) => deeper,
+        None => return Err(OutOfMemory),
+    };
+    let x = types.get(a);
+    let y = types.get(b);
+    let own = match opened_atoms(types, left, right, level, a, b)? {
+        Some(own) => own,
+        None => return Ok(false),
+    };
+    if !entries_pass_under(
+        types, false, right, left, deeper, &own.right, &own.left, &y.imports, &x.imports,
+    )? {
+        return Ok(false);
+    }
+    entries_pass_under(
+        types,
+        false,
+        left,
+        right,
+        deeper,
+        &own.left,
+        &own.exports,
+        &x.exports,
+        &y.exports,
+    )
+}
+
+/// Whether two component types pass with each other.
+#[cycle(passing)]
+fn components_pass(
+    types: &TypeAlloc,
+    exact: bool,
+    left: &mut Readings,
+    right: &mut Readings,
+    level: u64,
+    a: ComponentTypeId,
+    b: ComponentTypeId,
+) -> Result<bool, OutOfMemory>
+    requires a { Stands types.now (p.Component a) }
+    requires b { Stands types.now (p.Component b) }
+    ensures answers { IfOk result (Answers types.now.core exact level (reads left.old) (reads right.old) (tree_at types.now (p.Component a)) (tree_at types.now (p.Component b))) }
+    ensures left { IfOk result (λ passes. StaysIf passes (reads left.old) (reads left.new)) }
+    ensures right { IfOk result (λ passes. StaysIf passes (reads right.old) (reads right.new)) }
+{
+    if exact {
+        same_components(types, left, right, level, a, b)
+    } else {
+        component_matches(types, left, right, level, a, b)
+    }
+}
