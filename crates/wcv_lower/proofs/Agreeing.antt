@@ -4,8 +4,12 @@ use Rattle.wcv_core.specs.Names.{Name, Place, member}
 use Rattle.wcv_types.specs.FirstPath.{first_path}
 use Rattle.wcv_types.specs.Rebuild.{anew}
 use Rattle.wcv_types.specs.Replacing.{Replacement, replaced}
-use Rattle.wcv_types.specs.Tree.{Head, nothing, primitive, resource, defined, func, instance, component, type_entity, core_module, core_instance, core_type, core_item, node, type_of, resource_type, exports, owned}
+use Rattle.wcv_types.specs.Tree.{Head, nothing, primitive, resource, defined, func, instance, component, type_entity, core_module, core_instance, core_type, core_item, node, type_of, resource_type, instance_type, exports, owned, imported_at, head, Text}
 use Rattle.wcv_types.specs.Unfold.{Type_tree}
+use Rattle.wcv_matching.specs.OnePass.{argument_for, made_paths}
+use Rattle.wcv_matching.specs.SameTypes.{made_at}
+use Rattle.wcv_lower.specs.Instantiated.{opening}
+use Rattle.wcv_lower.specs.Mapped.{map_entries}
 use Rattle.wcv_lower.specs.Names.{Origin, introduced, again, stamp_at, place_of, Names}
 use Rattle.wcv_lower.specs.NewTypes.{renewed_head, renewed, owned_anew, instance_tree, path_or_none}
 use Rattle.wcv_lower.specs.Trees.{type_entry, node_tree, tree_maker}
@@ -57,6 +61,13 @@ module _ (n m : Names) (p : Place) (s : SameNames (λ q. q ≡ p) n m) where
   instance_same (node (core_type i) ps) = refl
   instance_same (node (core_item x) ps) = refl
 
+  opening_same : (args : List (Text × Type_tree)) (c : Type_tree) → opening m p args c ≡ opening n p args c
+  opening_same args c = λ j. record {
+    resources = λ r. cond (member r (imported_at (head c))) (Some (argument_for args c r)) (cond (member r (made_at (head c))) (Some (s.resource (again p r) refl j)) None);
+    nodes = (opening n p args c).nodes;
+    again = λ i. s.identity (again p i) refl j;
+  }
+
   pub maker_same : tree_maker m p ≡ tree_maker n p
   maker_same = λ j. record {
     again = λ t. type_of (tree_same t j) t;
@@ -65,6 +76,10 @@ module _ (n m : Names) (p : Place) (s : SameNames (λ q. q ≡ p) n m) where
     instance_of = λ t. record {
       entity = instance_same t j;
       resources = map (λ r. (s.resource (again p r) refl j, path_or_none (first_path r (exports t)))) (owned t);
+    };
+    instantiate = λ args c. record {
+      entity = instance_type (id_same j) [] (map_entries (replaced (opening_same args c j)) (exports c));
+      resources = map (λ r. (s.resource (again p r.0) refl j, r.1)) (made_paths (head c));
     };
     build = node_tree (id_same j);
     build_type = λ x. type_entry (node_tree (id_same j) x);

@@ -1,4 +1,4 @@
--- What the steps of items bring: entries that have what those of the context have, and resources by the names of their place.
+-- What steps bring: entries that have what those of the context have, and resources by the names of their place.
 use Rattle.std.proofs.Common.{◌≡◌, ℕ, List, [], ◌∷◌, map, refl, subst, Bool, true, false, cond, Some, None}
 use Rattle.std.specs.Prelude.{Option, All, not, slice_get}
 use Rattle.std.specs.List.{list_all}
@@ -11,7 +11,7 @@ use Rattle.wcv_core.specs.CoreWritten.{closed_group}
 use Rattle.wcv_core.specs.Names.{Name, Place}
 use Rattle.wcv_core.specs.declared.core_types.EntityType.{EntityType}
 use Rattle.wcv_core.specs.declared.features.WasmFeatures.{WasmFeatures}
-use Rattle.wcv_syntax.specs.Model.{Form, core_type_item, core_module_item, core_instance_item, type_item, import_item, export_item, component_item, instance_item, alias_item, start_item, canon_item, unread, Type_form, defined_type, func_type, component_type, instance_type, resource_type, Defined_form, Func_form, Core_type_form, core_rec, core_module_type, Core_instance_form, core_instantiate, core_bag, Module_decl}
+use Rattle.wcv_syntax.specs.Model.{Type_form, defined_type, func_type, component_type, instance_type, resource_type, Defined_form, Func_form, Core_type_form, core_rec, core_module_type, Core_instance_form, core_instantiate, core_bag, Module_decl}
 use Rattle.wcv_syntax.specs.ModuleTypes.{Made}
 use Rattle.wcv_syntax.specs.declared.component_type.ComponentTypeRef.{ComponentTypeRef}
 use Rattle.wcv_syntax.specs.declared.component_type.ComponentTypeRef.TheVariants as ref
@@ -21,7 +21,6 @@ use Rattle.wcv_syntax.specs.declared.component_type.TypeBounds.TheVariants as bo
 use Rattle.wcv_syntax.specs.declared.core_section.Export.{Export}
 use Rattle.wcv_syntax.specs.declared.core_section.ExternalKind.{ExternalKind}
 use Rattle.wcv_syntax.specs.declared.core_section.InstantiationArg.{InstantiationArg}
-use Rattle.wcv_syntax.specs.declared.instance.ComponentAlias.TheVariants as alias
 use Rattle.wcv_syntax.specs.declared.instance.ComponentExternalKind.{ComponentExternalKind}
 use Rattle.wcv_syntax.specs.declared.instance.ComponentExternalKind.TheVariants as kind
 use Rattle.wcv_syntax.specs.declared.name.ComponentExport.{ComponentExport}
@@ -34,8 +33,7 @@ use Rattle.wcv_lower.specs.Context.{Side, importing, exporting, in_types, in_fun
 use Rattle.wcv_lower.specs.CoreInstances.{space_of, core_module_at, core_instance_at, item_listed, items_listed, listed_size, core_instance_made, instance_joins, core_instance_step, core_export_of, if_of, item_joins, core_alias_step}
 use Rattle.wcv_lower.specs.CoreItems.{core_entries, is_closable, types_join, closed_step, module_joins, core_type_made, core_type_step, core_module_made, core_module_step}
 use Rattle.wcv_lower.specs.Defined.{former, written_parts, handle_index, made_of, defined_made}
-use Rattle.wcv_lower.specs.Entries.{extern_name, module_type_at, again_brought, written, items_of, exported_at, exported_as, exported, import_step, export_step}
-use Rattle.wcv_lower.specs.Growth.{step}
+use Rattle.wcv_lower.specs.Entries.{extern_name, module_type_at, again_brought, written, items_of, exported_at, exported_as, exported_by, exported, import_step, export_step}
 use Rattle.wcv_lower.specs.Names.{Names, Origin, introduced, again}
 use Rattle.wcv_lower.specs.NewTypes.{path_or_none}
 use Rattle.wcv_lower.specs.Owned.{AllEntries}
@@ -67,6 +65,11 @@ any_at P xs k a = go (slice_get xs k) refl
     go None e = tt
     go (Some x) e = all_at P xs k x a e
 
+-- what is mapped to something is there
+pub map-some : {A B : Type 0} (f : A → B) (o : Option A) (y : B) → option_map f o ≡ Some y → (x : A) × (o ≡ Some x) × (Some (f x) ≡ Some y)
+map-some f None y e = cc
+map-some f (Some x) y e = (x, refl, e)
+
 pub any_mapped : {A B : Type 0} (P : A → Type 0) (Q : B → Type 0) (f : A → B) → ((x : A) → P x → Q (f x)) → (o : Option A) → OfAny P o → OfAny Q (option_map f o)
 any_mapped P Q f h None w = tt
 any_mapped P Q f h (Some x) w = h x w
@@ -78,6 +81,15 @@ any_then P Q f h (Some x) w = h x w
 pub any_cond : {A : Type 0} (P : A → Type 0) (b : Bool) (x : A) → P x → OfAny P (cond b (Some x) None)
 any_cond P true x w = w
 any_cond P false x w = tt
+
+-- the items of a sort
+pub items_have : (P : Type_tree → Type 0) (c : Tree_context) → AllEntries P c → (k : ComponentExternalKind) → All P (items_of c k)
+items_have P c all kind.Module = all.core core_modules
+items_have P c all kind.Func = all.space in_funcs
+items_have P c all kind.Value = all.space in_values
+items_have P c all kind.Ty = all.space in_types
+items_have P c all kind.Instance = all.space in_instances
+items_have P c all kind.Component = all.space in_components
 
 -- ## What a change brings
 
@@ -175,14 +187,6 @@ module _ {P : Type_tree → Type 0} {In : Parts Name Name → Type 0} (law : Inh
     func_has : (f : Func_form) → OfAny (MadeOf law) (func_made c f)
     func_has f = any_mapped (All Of) (MadeOf law) (func_node f.async) (λ ps w. w) (parts_entries c (func_parts f)) (entries_found (func_parts f))
 
-    items_have : (k : ComponentExternalKind) → All P (items_of c k)
-    items_have kind.Module = all.core core_modules
-    items_have kind.Func = all.space in_funcs
-    items_have kind.Value = all.space in_values
-    items_have kind.Ty = all.space in_types
-    items_have kind.Instance = all.space in_instances
-    items_have kind.Component = all.space in_components
-
     -- ## What is made
 
     module _ (names : Names) (p : Place) (fresh : (o : Origin) → New (names.resource o)) where
@@ -216,15 +220,19 @@ module _ {P : Type_tree → Type 0} {In : Parts Name Name → Type 0} (law : Inh
       exported_as_has kind.Instance x w = bare_of x w
       exported_as_has kind.Component x w = bare_of x w
 
-      pub exported_has : (e : ComponentExport) → OfAny BroughtOf (exported mk c e)
-      exported_has e = any_mapped P BroughtOf (exported_as mk e.kind) (exported_as_has e.kind) (exported_at c e) (any_at P (items_of c e.kind) e.index (items_have e.kind))
+      exported_by_has : (e : ComponentExport) (o : Option ComponentTypeRef) → OfAny BroughtOf (exported_by mk c e o)
+      exported_by_has e None = any_mapped P BroughtOf (exported_as mk e.kind) (exported_as_has e.kind) (exported_at c e) (any_at P (items_of c e.kind) e.index (items_have P c all e.kind))
+      exported_by_has e (Some r) = any_then P BroughtOf (λ x. written mk c r) (λ x w. written_has r) (exported_at c e) (any_at P (items_of c e.kind) e.index (items_have P c all e.kind))
 
-      -- ## One line for each family of forms
+      pub exported_has : (e : ComponentExport) → OfAny BroughtOf (exported mk c e)
+      exported_has e = exported_by_has e e.ty
+
+      -- ## Steps
 
       added_brings : (n : New_node tree_reader) → MadeOf law n → AllBring P New (added mk n)
       added_brings n w = brings_one P New (appends in_types (mk.build_type n)) (entry_has law (mk.build n) (node_has law (names.identity (introduced p)) n w))
 
-      types_bring : (t : Type_form) → OfAny (AllBring P New) (type_step mk c t)
+      pub types_bring : (t : Type_form) → OfAny (AllBring P New) (type_step mk c t)
       types_bring (defined_type d) = any_mapped (MadeOf law) (AllBring P New) (added mk) added_brings (defined_made c d) (defined_has d)
       types_bring (func_type f) = any_mapped (MadeOf law) (AllBring P New) (added mk) added_brings (func_made c f) (func_has f)
       types_bring (component_type ds) = tt
@@ -233,10 +241,10 @@ module _ {P : Type_tree → Type 0} {In : Parts Name Name → Type 0} (law : Inh
           any_cond (AllBring P New) (is_concrete c.kind) (defines mk.resource (Some rep) ∷ joins_types mk.reference)
           (brings_more P New (defines mk.resource (Some rep)) (appends in_types mk.reference ∷ []) (fresh (introduced p)) (brings_one P New (appends in_types mk.reference) (reference_has law names p)))
 
-      imports_bring : (i : ComponentImport) → OfAny (AllBring P New) (import_step mk c i)
+      pub imports_bring : (i : ComponentImport) → OfAny (AllBring P New) (import_step mk c i)
       imports_bring i = any_mapped BroughtOf (AllBring P New) (enters importing (extern_name i.name)) (enters_bring importing (extern_name i.name)) (written mk c i.ty) (written_has i.ty)
 
-      exports_bring : (e : ComponentExport) → OfAny (AllBring P New) (export_step mk c e)
+      pub exports_bring : (e : ComponentExport) → OfAny (AllBring P New) (export_step mk c e)
       exports_bring e = any_mapped BroughtOf (AllBring P New) (enters exporting (extern_name e.name)) (enters_bring exporting (extern_name e.name)) (exported mk c e) (exported_has e)
 
       core_types_join : (is : List ℕ) → AllBring P New (types_join tree_reader is)
@@ -281,7 +289,7 @@ module _ {P : Type_tree → Type 0} {In : Parts Name Name → Type 0} (law : Inh
   any_made (Some m) = tt
 
   module _ (fs : WasmFeatures) (names : Names) (p : Place) (fresh : (o : Origin) → New (names.resource o)) (s : Tree_stack) (all : AllEntries P s.top) where
-    core_types_bring : (t : Core_type_form) → OfAny (AllBring P New) (core_type_step fs (tree_maker names p) s t)
+    pub core_types_bring : (t : Core_type_form) → OfAny (AllBring P New) (core_type_step fs (tree_maker names p) s t)
     core_types_bring (core_rec w) =
         let g : Group = closed_group (core_entries s.top) w in
         any_cond (AllBring P New) (is_closable s.groups (core_entries s.top) w) (closed_step tree_reader s.groups g)
@@ -289,21 +297,5 @@ module _ {P : Type_tree → Type 0} {In : Parts Name Name → Type 0} (law : Inh
     core_types_bring (core_module_type ds) =
         any_mapped (λ m. Unit {0}) (AllBring P New) (module_joins (tree_maker names p) core_types) (module_brings s.top all names p fresh core_types) (core_type_made fs s (core_module_type ds)) (any_made (core_type_made fs s (core_module_type ds)))
 
-    core_modules_bring : (ds : List Module_decl) → OfAny (AllBring P New) (core_module_step fs (tree_maker names p) s ds)
+    pub core_modules_bring : (ds : List Module_decl) → OfAny (AllBring P New) (core_module_step fs (tree_maker names p) s ds)
     core_modules_bring ds = any_mapped (λ m. Unit {0}) (AllBring P New) (module_joins (tree_maker names p) core_modules) (module_brings s.top all names p fresh core_modules) (core_module_made fs s ds) (any_made (core_module_made fs s ds))
-
-    pub items_bring : (f : Form) → OfAny (AllBring P New) (step fs (tree_maker names p) s f)
-    items_bring (type_item t) = types_bring s.top all names p fresh t
-    items_bring (import_item i) = imports_bring s.top all names p fresh i
-    items_bring (export_item e) = exports_bring s.top all names p fresh e
-    items_bring (core_type_item t) = core_types_bring t
-    items_bring (core_module_item ds) = core_modules_bring ds
-    items_bring (core_instance_item i) = core_instances_bring names p s all i
-    items_bring (component_item is n) = tt
-    items_bring (instance_item i) = tt
-    items_bring (alias_item (alias.InstanceExport k i n)) = tt
-    items_bring (alias_item (alias.CoreInstanceExport k i n)) = core_aliases_bring s.top k i n
-    items_bring (alias_item (alias.Outer k n i)) = tt
-    items_bring (start_item a b c) = tt
-    items_bring (canon_item c) = tt
-    items_bring unread = tt

@@ -2,14 +2,14 @@
 use Rattle.std.proofs.Common.{◌≡◌, ℕ, zero, suc, List, [], ◌∷◌, ◌++◌, refl, Bool, true, false, cond, ◌&&◌, Some, None}
 use Rattle.std.specs.Prelude.{Option, All, slice_get, bytes_eq}
 use Rattle.std.specs.Option.{option_and_then}
-use Rattle.std.proofs.lemmas.List.Elements.{All-nil, All-cons, All-head, All-tail, All-append}
+use Rattle.std.proofs.lemmas.List.Elements.{All-nil, All-head, All-tail, All-append}
 use Rattle.wcv_core.specs.Names.{Name}
 use Rattle.wcv_syntax.specs.declared.instance.ComponentAlias.{ComponentAlias}
 use Rattle.wcv_syntax.specs.declared.instance.ComponentAlias.TheVariants as alias
 use Rattle.wcv_syntax.specs.declared.instance.ComponentExternalKind.{ComponentExternalKind}
 use Rattle.wcv_syntax.specs.declared.instance.ComponentOuterAliasKind.{ComponentOuterAliasKind}
 use Rattle.wcv_syntax.specs.declared.instance.ComponentOuterAliasKind.TheVariants as outer
-use Rattle.wcv_types.specs.Tree.{Text, Extern_name, here, label, import, export, core_import, core_export, node, Parts, none, part, sort, exports_in}
+use Rattle.wcv_types.specs.Tree.{Text, Extern_name, Parts, sort, exports}
 use Rattle.wcv_types.specs.Unfold.{Type_tree}
 use Rattle.wcv_lower.specs.Aliases.{sort_named, instance_at, export_of, joining, export_alias_step, outer_items, outer_at, outer_joins, is_charged, concrete_at, charged, outer_alias_step, alias_step}
 use Rattle.wcv_lower.specs.Checks.{same_sort}
@@ -19,6 +19,7 @@ use Rattle.wcv_lower.specs.Readers.{if_sort, first_named}
 use Rattle.wcv_lower.specs.Step.{appends, core_appends, charges}
 use Rattle.wcv_lower.specs.Trees.{tree_reader, Tree_context, Tree_stack}
 use Rattle.wcv_lower.proofs.Bringing.{OfAny, any_at, any_cond, any_mapped, any_then, Brings, AllBring, brings_one, joins_bring, core_aliases_bring}
+use Rattle.wcv_lower.proofs.InstancesBring.{exports_have}
 use Rattle.wcv_lower.proofs.Owning.{Inherited}
 
 module _ {P : Type_tree → Type 0} {In : Parts Name Name → Type 0} (law : Inherited P In) (New : Name → Type 0) where
@@ -26,15 +27,6 @@ module _ {P : Type_tree → Type 0} {In : Parts Name Name → Type 0} (law : Inh
 
   abbrev Of : Extern_name × Type_tree → Type 0
   Of e = P e.1
-
-  exports_have : (ps : Parts Name Name) → In ps → All Of (exports_in ps)
-  exports_have none w = All-nil Of
-  exports_have (part (export n) t ps) w = All-cons Of (n, t) (exports_in ps) (law.first (export n) t ps w) (exports_have ps (law.rest (export n) t ps w))
-  exports_have (part here t ps) w = exports_have ps (law.rest here t ps w)
-  exports_have (part (label l) t ps) w = exports_have ps (law.rest (label l) t ps w)
-  exports_have (part (import n) t ps) w = exports_have ps (law.rest (import n) t ps w)
-  exports_have (part (core_import m n) t ps) w = exports_have ps (law.rest (core_import m n) t ps w)
-  exports_have (part (core_export n) t ps) w = exports_have ps (law.rest (core_export n) t ps w)
 
   named_has : (n : Text) (es : List (Extern_name × Type_tree)) → All Of es → OfAny P (first_named n es)
   named_has n [] w = tt
@@ -45,7 +37,7 @@ module _ {P : Type_tree → Type 0} {In : Parts Name Name → Type 0} (law : Inh
       go false later = later
 
   export_has : (n : Text) (t : Type_tree) → P t → OfAny P (export_of tree_reader n t)
-  export_has n (node h ps) w = named_has n (exports_in ps) (exports_have ps (law.inner h ps w))
+  export_has n t w = named_has n (exports t) (exports_have law t w)
 
   module _ (s : Tree_stack) (all : Everywhere P s) where
     export_brings : (w : ComponentExternalKind) (i : ℕ) (n : Text) → OfAny (AllBring P New) (export_alias_step s.top w i n)

@@ -10,6 +10,7 @@ use Rattle.wcv_types.specs.Unfold.{Type_tree}
 use Rattle.wcv_types.proofs.Lists.{some-inj}
 use Rattle.wcv_lower.specs.Context.{Kind, at_distance, empty, type_at}
 use Rattle.wcv_lower.specs.Declared.{inside, stack_of, around}
+use Rattle.wcv_lower.specs.Even.{IsBalanced}
 use Rattle.wcv_lower.specs.Given.{Numbers, AtMost}
 use Rattle.wcv_lower.specs.Owned.{OwnsNot, OwnsApart, OwnApart, AllEntries, Everywhere, own_resources, IsOwn, IsGiven, AllOwn, IsCalm}
 use Rattle.wcv_lower.specs.Step.{Step, apply}
@@ -59,6 +60,7 @@ calm_later a b s l h = record {
   differ = h.differ;
   apart = h.apart;
   spared = h.spared;
+  balanced = h.balanced;
   late = λ k m. h.late k (let x = l.resources in omega (arith, x, m));
 }
 
@@ -77,7 +79,7 @@ module _ (k : Kind) (s : Tree_stack) where
   none_own c r e o = false≢true (subst (λ (x : Tree_context). IsOwn x r) (sym (some-inj e)) o)
 
 pub calm_inside : (a : Numbers) (k : Kind) (s : Tree_stack) → IsCalm a s → IsCalm a (inside k s)
-calm_inside a k s h = record { given = given; differ = differ; apart = inside_has k s OwnApart h.apart; spared = spared; late = λ n l. inside_has k s (OwnsNot (number n)) (h.late n l) }
+calm_inside a k s h = record { given = given; differ = differ; apart = inside_has k s OwnApart h.apart; spared = spared; late = λ n l. inside_has k s (OwnsNot (number n)) (h.late n l); balanced = (h.balanced.0, inside_has k s (IsBalanced h.balanced.0) h.balanced.1) }
   where
     given : (j : ℕ) (c : Tree_context) → at_distance j (inside k s) ≡ Some c → AllOwn a c
     given zero c e = subst (AllOwn a) (some-inj e) (All-nil (IsGiven a))
@@ -97,7 +99,7 @@ abbrev start : Kind → List Group → Tree_stack
 start k gs = record { top = empty tree_reader k; outer = []; groups = gs }
 
 pub calm_start : (a : Numbers) (k : Kind) (gs : List Group) → IsCalm a (record { top = empty tree_reader k; outer = []; groups = gs })
-calm_start a k gs = record { given = given; differ = λ i j c d r e f o q. absurd (none i c r e o); apart = has OwnApart; spared = λ j c r e o. absurd (none j c r e o); late = λ n l. has (OwnsNot (number n)) }
+calm_start a k gs = record { given = given; differ = λ i j c d r e f o q. absurd (none i c r e o); apart = has OwnApart; spared = λ j c r e o. absurd (none j c r e o); late = λ n l. has (OwnsNot (number n)); balanced = ((λ r. 0), has (IsBalanced (λ r. 0))) }
   where
     given : (j : ℕ) (c : Tree_context) → at_distance j (start k gs) ≡ Some c → AllOwn a c
     given zero c e = subst (AllOwn a) (some-inj e) (All-nil (IsGiven a))
@@ -134,19 +136,23 @@ module _ (u t : Tree_stack) (w : around u ≡ Some t) where
     apart = around_has OwnApart h.apart;
     spared = λ j c r e o. around_has (OwnsNot r) (h.spared (suc j) c r (stood j c e) o);
     late = λ n l. around_has (OwnsNot (number n)) (h.late n l);
+    balanced = (h.balanced.0, around_has (IsBalanced h.balanced.0) h.balanced.1);
   }
 
 -- ## A step
 
--- Resources that a step brings are late. What it brings owns apart, and owns none of the open contexts' resources, and no late one.
+-- Resources that a step brings are late. What it brings owns apart, owns none of the open contexts' resources, and no late one, and is
+-- balanced with what stands there.
 pub record IsGentle (a : Numbers) (s : Tree_stack) (p : Step tree_reader) : Type 0 where
   pub apart : AllBring OwnApart (IsLate a) p
   pub spared : (j : ℕ) (c : Tree_context) (r : Name) → at_distance j s ≡ Some c → IsOwn c r → AllBring (OwnsNot r) (IsLate a) p
   pub late : (k : ℕ) → a.resources ≤ k → AllBring (OwnsNot (number k)) (IsLate a) p
+  pub balanced : (v : Name → ℕ) × Everywhere (IsBalanced v) s × AllBring (IsBalanced v) (IsLate a) p
 
--- where it brings no owner of what nothing owns
-pub gentle : (a : Numbers) (s : Tree_stack) (p : Step tree_reader) → IsCalm a s → (Everywhere OwnApart s → AllBring OwnApart (IsLate a) p) → ((r : Name) → Everywhere (OwnsNot r) s → AllBring (OwnsNot r) (IsLate a) p) → IsGentle a s p
-gentle a s p h x y = record { apart = x h.apart; spared = λ j c r e o. y r (h.spared j c r e o); late = λ k l. y (number k) (h.late k l) }
+-- where it brings no owner of what nothing owns, and nothing that is not balanced
+pub gentle : (a : Numbers) (s : Tree_stack) (p : Step tree_reader) → IsCalm a s → (Everywhere OwnApart s → AllBring OwnApart (IsLate a) p) → ((r : Name) → Everywhere (OwnsNot r) s → AllBring (OwnsNot r) (IsLate a) p) →
+    ((v : Name → ℕ) → Everywhere (IsBalanced v) s → AllBring (IsBalanced v) (IsLate a) p) → IsGentle a s p
+gentle a s p h x y z = record { apart = x h.apart; spared = λ j c r e o. y r (h.spared j c r e o); late = λ k l. y (number k) (h.late k l); balanced = (h.balanced.0, h.balanced.1, z h.balanced.0 h.balanced.1) }
 
 module _ (a b : Numbers) (s : Tree_stack) (p : Step tree_reader) (l : AtMost a b) (h : IsCalm a s) (g : IsGentle a s p) (top : AllOwn b (apply p s).top) where
   abbrev t : Tree_stack
@@ -200,6 +206,7 @@ module _ (a b : Numbers) (s : Tree_stack) (p : Step tree_reader) (l : AtMost a b
     differ = all_differ;
     apart = applied_has OwnApart (IsLate a) p s h.apart g.apart;
     spared = all_spared;
+    balanced = (g.balanced.0, applied_has (IsBalanced g.balanced.0) (IsLate a) p s g.balanced.1 g.balanced.2);
     late = λ k m.
         let n : a.resources ≤ k = let x = l.resources in omega (arith, x, m) in
         applied_has (OwnsNot (number k)) (IsLate a) p s (h.late k n) (g.late k n);

@@ -8,20 +8,23 @@ use Rattle.wcv_core.specs.declared.core_types.ValType.{ValType}
 use Rattle.wcv_types.specs.Tree.{import, export, Parts, none, firsts, entries}
 use Rattle.wcv_types.specs.Unfold.{Type_tree}
 use Rattle.wcv_types.proofs.Lists.{some-inj}
+use Rattle.wcv_matching.specs.Orderly.{height}
 use Rattle.wcv_lower.specs.Context.{Kind, concrete, declares_instance, declares_component, importing, exporting, in_types}
 use Rattle.wcv_lower.specs.Declared.{around, ended}
 use Rattle.wcv_lower.specs.Ending.{is_free_among, any_free, keep, kept, component_of, component_made, declared_made}
+use Rattle.wcv_lower.specs.Even.{IsBalanced}
 use Rattle.wcv_lower.specs.Given.{Numbers}
 use Rattle.wcv_lower.specs.Names.{Names, introduced}
-use Rattle.wcv_lower.specs.Owned.{OwnsNot, OwnApart, AllEntries, IsOwn, IsCalm}
+use Rattle.wcv_lower.specs.Owned.{OwnsNot, OwnApart, AllEntries, Everywhere, IsOwn, IsCalm}
 use Rattle.wcv_lower.specs.Readers.{Named, New_node, func_node, defined_node, module_node, core_instance_node, core_exports_node, instance_node, component_node}
 use Rattle.wcv_lower.specs.Step.{appends, apply}
 use Rattle.wcv_lower.specs.Trees.{tree_reader, Tree_context, Tree_stack, tree_maker, node_tree, type_entry}
 use Rattle.wcv_lower.specs.Types.{added}
-use Rattle.wcv_lower.proofs.Bringing.{OfAny, of_some, any_mapped, any_then, brings_one}
-use Rattle.wcv_lower.proofs.Calm.{IsLate, not_both, own_given, stood, calm_around, IsGentle, calm_applied}
-use Rattle.wcv_lower.proofs.CalmGrowth.{map-some}
+use Rattle.wcv_lower.proofs.Bringing.{OfAny, of_some, map-some, any_mapped, any_then, brings_one}
+use Rattle.wcv_lower.proofs.Calm.{IsLate, not_both, own_given, stood, around_has, calm_around, IsGentle, calm_applied}
 use Rattle.wcv_lower.proofs.DeclaredLaws.{then-some}
+use Rattle.wcv_lower.proofs.EvenOwners.{with_owner, owned_high, raised_has}
+use Rattle.wcv_lower.proofs.EvenTypes.{balanced_inherited}
 use Rattle.wcv_lower.proofs.Given.{or_left, or_right, not_so}
 use Rattle.wcv_lower.proofs.Members.{firsts_map, imported_own, defined_own}
 use Rattle.wcv_lower.proofs.Owning.{Inherited, owns_not_inherited, own_apart_inherited, entry_has, entries_have}
@@ -107,11 +110,32 @@ module _ (c : Tree_context) (i : Name) where
   end_apart spared all (core_instance_node t) w = absurd w
   end_apart spared all (core_exports_node n es) w = absurd w
 
+-- the node that is made is as high as goes with what it owns
+end_balanced : (v : Name → ℕ) (c : Tree_context) (i : Name) (n : New_node tree_reader) → AllEntries (IsBalanced v) c → ((r : Name) → IsOwn c r → height (node_tree i n) ≡ v r) → Ends c n → IsBalanced v (node_tree i n)
+end_balanced v c i (instance_node own es) all high w = ((tt, λ r o. high r (w.0 r o)), exports_in_it (balanced_inherited v) c all es w.1)
+end_balanced v c i (component_node ins outs es es') all high w = ((tt, λ r o. high r (w.0 r o)), sides_in_it (balanced_inherited v) c all es es' w.1 w.2)
+end_balanced v c i (func_node b ps) all high w = absurd w
+end_balanced v c i (defined_node k ps) all high w = absurd w
+end_balanced v c i (module_node m) all high w = absurd w
+end_balanced v c i (core_instance_node t) all high w = absurd w
+end_balanced v c i (core_exports_node n es) all high w = absurd w
+
 -- ## The end
 
 module _ (a : Numbers) (names : Names) (p : Place) (u t : Tree_stack) (h : IsCalm a u) (w : around u ≡ Some t) where
   abbrev entry : New_node tree_reader → Type_tree
   entry n = type_entry (node_tree (names.identity (introduced p)) n)
+
+  -- what its context has is owned by the new node from then on
+  abbrev raised : New_node tree_reader → Name → ℕ
+  raised n = with_owner h.balanced.0 u.top (height (node_tree (names.identity (introduced p)) n))
+
+  raised_everywhere : (n : New_node tree_reader) → Everywhere (IsBalanced (raised n)) u
+  raised_everywhere n = raised_has u h.balanced (λ r o. h.spared zero u.top r refl o) (height (node_tree (names.identity (introduced p)) n))
+
+  raised_node : (n : New_node tree_reader) → Ends u.top n → IsBalanced (raised n) (node_tree (names.identity (introduced p)) n)
+  raised_node n e =
+      end_balanced (raised n) u.top (names.identity (introduced p)) n (raised_everywhere n zero u.top refl) (owned_high h.balanced.0 u.top (height (node_tree (names.identity (introduced p)) n))) e
 
   ending : (n : New_node tree_reader) → Ends u.top n → IsGentle a t (added {X = tree_reader} (tree_maker names p) n)
   ending n e = record {
@@ -120,6 +144,11 @@ module _ (a : Numbers) (names : Names) (p : Place) (u t : Tree_stack) (h : IsCal
         (entry_has (owns_not_inherited r) _ (end_spares u.top (names.identity (introduced p)) r (λ q. suc-ne-zero j (h.differ (suc j) zero c u.top r (stood u t w j c f) refl o q)) (h.spared (suc j) c r (stood u t w j c f) o zero u.top refl) n e));
     late = λ k l. brings_one (OwnsNot (number k)) (IsLate a) (appends in_types (entry n))
         (entry_has (owns_not_inherited (number k)) _ (end_spares u.top (names.identity (introduced p)) (number k) (λ q. not_both a (number k) (own_given a u h zero u.top (number k) refl q) l) (h.late k l zero u.top refl) n e));
+    balanced = (
+      raised n,
+      around_has u t w (IsBalanced (raised n)) (raised_everywhere n),
+      brings_one (IsBalanced (raised n)) (IsLate a) (appends in_types (entry n)) (entry_has (balanced_inherited (raised n)) (node_tree (names.identity (introduced p)) n) (raised_node n e)),
+    );
   }
 
   closed_calm : (n : New_node tree_reader) → Ends u.top n → IsCalm a (apply (added {X = tree_reader} (tree_maker names p) n) t)

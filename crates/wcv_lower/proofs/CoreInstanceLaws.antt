@@ -163,7 +163,7 @@ module _ {X Y : Reader} (m : Map X Y) {Known : X.Entry → Type 0} (law : Commut
 -- ## Without a cause
 
 -- the test of each element is true where its checks are not
-all_true : {A : Type 0} (f : A → Checks) (test : A → Bool) → ((x : A) → IsFree (f x) → test x ≡ true) → (xs : List A) → IsFree (all_checks f xs) → list_all test xs ≡ true
+pub all_true : {A : Type 0} (f : A → Checks) (test : A → Bool) → ((x : A) → IsFree (f x) → test x ≡ true) → (xs : List A) → IsFree (all_checks f xs) → list_all test xs ≡ true
 all_true f test h [] w = refl
 all_true f test h (x ∷ xs) w = λ j. h x (free_left (f x) (all_checks f xs) w) j && all_true f test h xs (free_right (f x) (all_checks f xs) w) j
 

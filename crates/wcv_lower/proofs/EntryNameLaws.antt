@@ -24,7 +24,7 @@ use Rattle.wcv_names.specs.WholeNames.{is_bad_name, lacks_feature}
 use Rattle.wcv_names.proofs.Renamed.{alike-renamed}
 use Rattle.wcv_types.specs.Unfold.{Type_tree}
 use Rattle.wcv_names.specs.Rules.{Entries}
-use Rattle.wcv_lower.specs.EntryNames.{reference_in, references_by, named_by, named_references, resource_names, name_checks}
+use Rattle.wcv_lower.specs.EntryNames.{reference_in, references_by, named_by, named_references, resource_names, name_checks, bare_name_checks}
 use Rattle.wcv_lower.specs.Mapped.{map_entries}
 use Rattle.wcv_lower.specs.Renamed.{Renaming}
 use Rattle.wcv_lower.proofs.TreeLaws.{sort-renamed, created-renamed}
@@ -277,3 +277,7 @@ module _ (w : Renaming) where
       name_checks fs (map_entries (rename w.resources.to w.identities.to) es) n (rename w.resources.to w.identities.to t) ≡ name_checks fs es n t
   name_checks-renamed fs es n t =
       ap (λ (ns : Resource_names). externs.name_checks ns fs (map_entries to es) n (to t)) (resource_names-renamed es) ∙ checks-same (resource_names es) fs es n t
+
+  pub bare_name_checks-renamed : (fs : WasmFeatures) (es : Entries) (n : Extern_name) (t : Type_tree) →
+      bare_name_checks fs (map_entries (rename w.resources.to w.identities.to) es) n (rename w.resources.to w.identities.to t) ≡ bare_name_checks fs es n t
+  bare_name_checks-renamed fs es n t = checks-same (resource_names []) fs es n t

@@ -4,10 +4,12 @@ use Rattle.wcv_core.specs.Names.{Name, Place}
 use Rattle.wcv_core.specs.declared.core_types.EntityType.{EntityType}
 use Rattle.wcv_core.proofs.Places.{under-refl}
 use Rattle.wcv_types.specs.Rename.{rename, rename_parts, rename_head, rename_paths}
-use Rattle.wcv_types.specs.Tree.{Text, Extern_name, Head, resource, defined, func, instance, component, core_module, core_instance, core_item, Role, here, import, export, core_import, core_export, node, Parts, none, part, type_of, resource_type, entries, core_imports, core_exports}
+use Rattle.wcv_types.specs.Replacing.{Replacement, replaced}
+use Rattle.wcv_types.specs.Tree.{Text, Extern_name, Head, resource, defined, func, instance, component, core_module, core_instance, core_item, Role, here, import, export, core_import, core_export, node, Parts, none, part, type_of, resource_type, instance_type, exports, entries, core_imports, core_exports}
 use Rattle.wcv_types.specs.Unfold.{Type_tree, capped}
 use Rattle.wcv_types.proofs.Measure.{size-rename}
-use Rattle.wcv_lower.specs.Mapped.{MakesSame, map_entries, map_parts, map_node}
+use Rattle.wcv_lower.specs.Instantiated.{opening, instantiated}
+use Rattle.wcv_lower.specs.Mapped.{MakesSame, map_entries, map_named, map_parts, map_node}
 use Rattle.wcv_lower.specs.Names.{Names, introduced, stamp_at, Under, AreRenamed}
 use Rattle.wcv_lower.specs.NewTypes.{renewed_head, renewed}
 use Rattle.wcv_lower.specs.Readers.{New_node, func_node, defined_node, module_node, core_instance_node, core_exports_node, instance_node, component_node}
@@ -15,6 +17,9 @@ use Rattle.wcv_lower.specs.Renamed.{Renaming, renaming}
 use Rattle.wcv_lower.specs.Trees.{Entries, type_entry, tree_reader, tree_parts, node_tree, tree_maker}
 use Rattle.wcv_lower.specs.Uses.{Uses}
 use Rattle.wcv_lower.proofs.InstanceLaws.{instance_tree-renamed, instance_resources-renamed}
+use Rattle.wcv_lower.proofs.OpeningRenamed.{opening-follows, made_resources-renamed}
+use Rattle.wcv_lower.proofs.Renamed.{tree_exports-renamed}
+use Rattle.wcv_lower.proofs.Replaced.{Follows, replaced-renamed}
 
 module _ (w : Renaming) where
   abbrev f : Name → Name
@@ -73,6 +78,19 @@ module _ (w : Renaming) where
     built : (x : New_node tree_reader) → node_tree (m.identity (introduced p)) (map_node (renaming w) x) ≡ to (node_tree (n.identity (introduced p)) x)
     built x = ap (λ (i : Name). node_tree i (map_node (renaming w) x)) (r.identity (introduced p) (under-refl p)) ∙ node_tree-renamed (n.identity (introduced p)) x
 
+    -- replaced entries
+    entries-replaced : (k l : Replacement) → Follows w k l → (es : Entries) → map_entries (replaced l) (map_entries to es) ≡ map_entries to (map_entries (replaced k) es)
+    entries-replaced k l e [] = refl
+    entries-replaced k l e (x ∷ es) = λ j. (x.0, replaced-renamed w k l e x.1 j) ∷ entries-replaced k l e es j
+
+    instantiated-renamed : (args : List (Text × Type_tree)) (c : Type_tree) → instantiated m p (map_named to args) (to c) ≡ to (instantiated n p args c)
+    instantiated-renamed args c =
+        let l : Replacement = opening m p (map_named to args) (to c) in
+        let k : Replacement = opening n p args c in
+        (λ j. instance_type (r.identity (introduced p) (under-refl p) j) [] (map_entries (replaced l) (tree_exports-renamed w c j))) ∙
+        ap (instance_type (g (n.identity (introduced p))) []) (entries-replaced k l (opening-follows w n m p r args c) (exports c)) ∙
+        node_tree-renamed (n.identity (introduced p)) (instance_node [] (map_entries (replaced k) (exports c)))
+
     pub makes_renamed : (u : Uses tree_reader) → MakesSame (renaming w) (λ t. Unit {0}) (tree_maker n p) (tree_maker m p) u
     makes_renamed u =
         let q : m.resource (introduced p) ≡ f (n.resource (introduced p)) = r.resource (introduced p) (under-refl p) in
@@ -85,6 +103,7 @@ module _ (w : Renaming) where
           reference_known = λ e. tt;
           instance_of = λ t e. (λ j. record { entity = instance_tree-renamed w n m p r t j; resources = instance_resources-renamed w n m p r t j });
           instance_known = λ t e. tt;
+          instantiate = λ args c e. (λ j. record { entity = instantiated-renamed args c j; resources = made_resources-renamed w n m p r args c j });
           build = λ x e. built x;
           build_type = λ x e. ap type_entry (built x);
         }

@@ -21,12 +21,13 @@ use Rattle.wcv_types.specs.Unfold.{Type_tree}
 use Rattle.wcv_types.proofs.AbiRenamed.{abi_size-rename, contains-rename}
 use Rattle.wcv_types.proofs.FirstPath.{path_from-renamed}
 use Rattle.wcv_types.proofs.IsFree.{is_free-renamed}
+use Rattle.wcv_matching.proofs.PassRenamed.{matches-renamed, opens-renamed}
 use Rattle.wcv_lower.specs.Context.{Side, importing, exporting, joined, names_for, with_named}
 use Rattle.wcv_lower.specs.Mapped.{Commutes, map_entries, map_paths}
 use Rattle.wcv_lower.specs.Renamed.{Renaming, renaming}
 use Rattle.wcv_lower.specs.Trees.{Entries, created, referenced, introduced_by, own_resources, creates, all_created, named_after, is_known, is_export_alone, entry_passes, exports_pass, refers_outside, has_free, any_free, core_entry, head_entry, primitive_of, type_entry}
 use Rattle.wcv_lower.proofs.CoreItemsRenamed.{item-renamed, core_imports-renamed, core_exports-renamed}
-use Rattle.wcv_lower.proofs.EntryNameLaws.{name_checks-renamed}
+use Rattle.wcv_lower.proofs.EntryNameLaws.{name_checks-renamed, bare_name_checks-renamed}
 use Rattle.wcv_lower.proofs.Joined.{map-joined}
 use Rattle.wcv_lower.proofs.TreeLaws.{sort-renamed, created-renamed, referenced-renamed, kept, all_kept}
 
@@ -250,6 +251,9 @@ module _ (w : Renaming) where
     same = same-renamed;
     is_named = entry-renamed;
     name_checks = name_checks-renamed w;
+    bare_name_checks = bare_name_checks-renamed w;
+    matches = matches-renamed f g w.resources.back w.resources.is_back;
+    opens = opens-renamed f g w.resources.back w.resources.is_back;
     has_free = free-renamed [];
     is_free = is_free-kept;
     first_path = first_path-renamed;

@@ -185,6 +185,9 @@ module _ (a : Arena) where
     same = λ i j. refl;
     is_named = λ named s x. (λ j. tree_reader.is_named (λ d. map-id (named d) j) s (slot_tree (trees a.nodes) x));
     name_checks = λ fs es n x. refl;
+    bare_name_checks = λ fs es n x. refl;
+    matches = λ gs x y. refl;
+    opens = λ gs args x. refl;
     has_free = λ x. refl;
     is_free = λ r x. refl;
     first_path = λ r es. refl;

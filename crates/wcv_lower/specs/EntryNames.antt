@@ -30,6 +30,9 @@ named_references (e ∷ es) = named_by e ++ named_references es
 abbrev pub resource_names : Entries → Resource_names
 resource_names es = record { references = named_references es; names = map (λ p. p.1) (named_references es) }
 
--- a whole name that an entity may not have beside these entries
+-- a whole name that an entity may not have beside these entries, where resources have the names of entries, and where none has one
 abbrev pub name_checks : WasmFeatures → Entries → Extern_name → Type_tree → Checks
 name_checks fs es n t = externs.name_checks (resource_names es) fs es n t
+
+abbrev pub bare_name_checks : WasmFeatures → Entries → Extern_name → Type_tree → Checks
+bare_name_checks fs es n t = externs.name_checks (resource_names []) fs es n t

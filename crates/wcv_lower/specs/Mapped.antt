@@ -1,5 +1,6 @@
 -- Entries of one kind read as entries of another, and contexts and steps with them.
 use Rattle.std.specs.Prelude.{ℕ, List, map, slice_get, true, Option, Some, ◌≡◌}
+use Rattle.wcv_core.specs.CoreForm.{Group}
 use Rattle.wcv_core.specs.declared.core_types.EntityType.{EntityType}
 use Rattle.wcv_core.specs.declared.core_types.ValType.{ValType}
 use Rattle.wcv_core.specs.declared.features.WasmFeatures.{WasmFeatures}
@@ -13,6 +14,10 @@ use Rattle.wcv_lower.specs.Uses.{Uses}
 
 abbrev pub map_entries : {E F : Type 0} → (E → F) → List (Extern_name × E) → List (Extern_name × F)
 map_entries f es = map (λ e. (e.0, f e.1)) es
+
+-- entries by their names alone
+abbrev pub map_named : {E F : Type 0} → (E → F) → List (Text × E) → List (Text × F)
+map_named f es = map (λ e. (e.0, f e.1)) es
 
 abbrev pub map_parts : {E F : Type 0} → (E → F) → List (Role × E) → List (Role × F)
 map_parts f ps = map (λ p. (p.0, f p.1)) ps
@@ -40,6 +45,9 @@ pub record Commutes {X Y : Reader} (m : Map X Y) (Known : X.Entry → Type 0) : 
   pub same : (i j : X.Identity) → Y.same (m.identity i) (m.identity j) ≡ X.same i j
   pub is_named : (named : Side → List X.Identity) (s : Side) (x : X.Entry) → Y.is_named (λ d. map m.identity (named d)) s (m.entry x) ≡ X.is_named named s x
   pub name_checks : (fs : WasmFeatures) (es : Named X) (n : Extern_name) (x : X.Entry) → Y.name_checks fs (map_entries m.entry es) n (m.entry x) ≡ X.name_checks fs es n x
+  pub bare_name_checks : (fs : WasmFeatures) (es : Named X) (n : Extern_name) (x : X.Entry) → Y.bare_name_checks fs (map_entries m.entry es) n (m.entry x) ≡ X.bare_name_checks fs es n x
+  pub matches : (gs : List Group) (x y : X.Entry) → Y.matches gs (m.entry x) (m.entry y) ≡ X.matches gs x y
+  pub opens : (gs : List Group) (args : List (Text × X.Entry)) (x : X.Entry) → Y.opens gs (map_named m.entry args) (m.entry x) ≡ X.opens gs args x
   pub has_free : (x : X.Entry) → Y.has_free (m.entry x) ≡ X.has_free x
   pub is_free : (r : X.Resource) (x : X.Entry) → Y.is_free (m.resource r) (m.entry x) ≡ X.is_free r x
   pub first_path : (r : X.Resource) (es : Named X) → Y.first_path (m.resource r) (map_entries m.entry es) ≡ X.first_path r es
@@ -107,7 +115,8 @@ module _ {X Y : Reader} (m : Map X Y) where
   map_node (component_node ins outs es es') = component_node (map_paths m.resource ins) (map_paths m.resource outs) (map_entries m.entry es) (map_entries m.entry es')
 
 -- what one maker makes for an item is what the other makes of the read entries: of the type that is made again, if there is one, of
--- a resource, if there is a new one, of the type of an instance that is introduced, and of the node that is made, if there is one
+-- a resource, if there is a new one, of the type of an instance that is introduced, of the component that is instantiated, and of the
+-- node that is made, if there is one
 pub record MakesSame {X Y : Reader} (m : Map X Y) (Known : X.Entry → Type 0) (k : Maker X) (l : Maker Y) (u : Uses X) : Type 0 where
   pub again : (x : X.Entry) → u.old ≡ Some x → l.again (m.entry x) ≡ m.entry (k.again x)
   pub again_known : (x : X.Entry) → u.old ≡ Some x → Known (k.again x)
@@ -116,5 +125,6 @@ pub record MakesSame {X Y : Reader} (m : Map X Y) (Known : X.Entry → Type 0) (
   pub reference_known : u.new ≡ true → Known k.reference
   pub instance_of : (x : X.Entry) → u.instance ≡ Some x → l.instance_of (m.entry x) ≡ map_brought m (k.instance_of x)
   pub instance_known : (x : X.Entry) → u.instance ≡ Some x → Known (k.instance_of x).entity
+  pub instantiate : (args : List (Text × X.Entry)) (x : X.Entry) → u.component ≡ Some (args, x) → l.instantiate (map_named m.entry args) (m.entry x) ≡ map_brought m (k.instantiate args x)
   pub build : (n : New_node X) → u.node ≡ Some n → l.build (map_node m n) ≡ m.entry (k.build n)
   pub build_type : (n : New_node X) → u.node ≡ Some n → l.build_type (map_node m n) ≡ m.entry (k.build_type n)

@@ -1,5 +1,6 @@
 -- What the rules read of an entry, and what they make. Entries are trees in the statements, ids in the code, values in a machine.
 use Rattle.std.specs.Prelude.{ℕ, List, [], ◌∷◌, Bool, cond, Option, Some, None, bytes_eq}
+use Rattle.wcv_core.specs.CoreForm.{Group}
 use Rattle.wcv_core.specs.CoreWritten.{Core_entry}
 use Rattle.wcv_core.specs.declared.core_types.EntityType.{EntityType}
 use Rattle.wcv_core.specs.declared.features.WasmFeatures.{WasmFeatures}
@@ -33,6 +34,12 @@ pub record Reader : Type 1 where
   pub is_named : (Side → List Identity) → Side → Entry → Bool
   -- the causes of a whole name that it has beside these entries
   pub name_checks : WasmFeatures → List (Extern_name × Entry) → Extern_name → Entry → Checks
+  -- those of a whole name in a list where no resource has a name
+  pub bare_name_checks : WasmFeatures → List (Extern_name × Entry) → Extern_name → Entry → Checks
+  -- the first matches the second, where these groups are the table of core types
+  pub matches : List Group → Entry → Entry → Bool
+  -- the arguments open what the component imports
+  pub opens : List Group → List (Text × Entry) → Entry → Bool
   -- some resource is free in it
   pub has_free : Entry → Bool
   -- that resource is
@@ -113,6 +120,8 @@ pub record Maker (X : Reader) : Type 0 where
   pub reference : X.Entry
   -- an instance of an instance type: what the type owns is new there
   pub instance_of : X.Entry → Brought X
+  -- an instance of a component that the arguments open: what the component defines is new there
+  pub instantiate : List (Text × X.Entry) → X.Entry → Brought X
   -- a node, and the entry of the types that has it
   pub build : New_node X → X.Entry
   pub build_type : New_node X → X.Entry

@@ -3,11 +3,12 @@ use Rattle.std.specs.Prelude.{ℕ, suc, pred, Some, None, List, [], ◌∷◌, l
 use Rattle.wcv_core.specs.Names.{Name, number}
 use Rattle.wcv_types.specs.Arena.{Arena}
 use Rattle.wcv_types.specs.Identity.{Identity}
-use Rattle.wcv_types.specs.Tree.{Extern_name, export, owned, Sort, is_nothing, is_value, is_resource, is_func, is_instance, is_component, is_type, is_module, is_core_instance, is_core_type, is_core_item}
+use Rattle.wcv_types.specs.Tree.{Extern_name, export, head, owned, Sort, is_nothing, is_value, is_resource, is_func, is_instance, is_component, is_type, is_module, is_core_instance, is_core_type, is_core_item}
 use Rattle.wcv_types.specs.Unfold.{Slot, leaf, core, at, both, Slots, slots_at, slot_tree, trees}
 use Rattle.wcv_types.specs.declared.ids.Part.{Part}
 use Rattle.wcv_types.specs.declared.ids.Part.TheVariants as p
-use Rattle.wcv_lower.specs.Mapped.{Map, map_entries}
+use Rattle.wcv_matching.specs.OnePass.{made_paths}
+use Rattle.wcv_lower.specs.Mapped.{Map, map_entries, map_named}
 use Rattle.wcv_lower.specs.Readers.{Reader, New_node, func_node, defined_node, module_node, core_instance_node, core_exports_node, instance_node, component_node, Brought, Maker}
 use Rattle.wcv_lower.specs.NewTypes.{path_or_none}
 use Rattle.wcv_lower.specs.Step.{bare}
@@ -68,6 +69,9 @@ slot_reader a = record {
   same = tree_reader.same;
   is_named = λ named s x. tree_reader.is_named named s (slot_tree (trees a.nodes) x);
   name_checks = λ fs es n x. tree_reader.name_checks fs (map_entries (slot_tree (trees a.nodes)) es) n (slot_tree (trees a.nodes) x);
+  bare_name_checks = λ fs es n x. tree_reader.bare_name_checks fs (map_entries (slot_tree (trees a.nodes)) es) n (slot_tree (trees a.nodes) x);
+  matches = λ gs x y. tree_reader.matches gs (slot_tree (trees a.nodes) x) (slot_tree (trees a.nodes) y);
+  opens = λ gs args x. tree_reader.opens gs (map_named (slot_tree (trees a.nodes)) args) (slot_tree (trees a.nodes) x);
   has_free = λ x. tree_reader.has_free (slot_tree (trees a.nodes) x);
   is_free = λ r x. tree_reader.is_free r (slot_tree (trees a.nodes) x);
   first_path = λ r es. tree_reader.first_path r (map_entries (slot_tree (trees a.nodes)) es);
@@ -133,6 +137,15 @@ instance_by a b x own es = record { entity = at (last_instance b); resources = n
 abbrev pub instance_slot : Arena → (b : Arena) → Slot → Brought (slot_reader b)
 instance_slot a b x = instance_by a b x (owned (slot_tree (trees b.nodes) x)) (tree_reader.exports (slot_tree (trees b.nodes) x))
 
+-- the next resources from a number on in place of these, each with its path
+abbrev pub next_made : ℕ → List (Name × List ℕ) → List (Name × List ℕ)
+next_made k [] = []
+next_made k (r ∷ rs) = (number k, r.1) ∷ next_made (suc k) rs
+
+-- an instance of a component
+abbrev pub instantiated_slot : Arena → (b : Arena) → Slot → Brought (slot_reader b)
+instantiated_slot a b x = record { entity = at (last_instance b); resources = next_made a.resources (made_paths (head (slot_tree (trees b.nodes) x))) }
+
 -- the new parts are of a later arena
 abbrev pub slot_maker : Arena → (b : Arena) → Maker (slot_reader b)
 slot_maker a b = record {
@@ -140,6 +153,7 @@ slot_maker a b = record {
   resource = number a.resources;
   reference = both (next_reference a) (next_reference a);
   instance_of = instance_slot a b;
+  instantiate = λ args x. instantiated_slot a b x;
   build = λ n. at (next_node a n);
   build_type = λ n. both (next_node a n) (next_node a n);
 }

@@ -16,9 +16,12 @@ use Rattle.wcv_types.specs.Tree as tree
 use Rattle.wcv_types.specs.Tree.{Role, Head, nothing, primitive, resource, defined, func, instance, core_type, core_item, type_entity, here, node, Parts, none, part, Sort, is_type, sort, head, parts, exports, type_of, instance_type, component_type, module_type, core_exports, sub_type, primitive_type}
 pub use Rattle.wcv_types.specs.Unfold.{Type_tree}
 use Rattle.wcv_types.specs.Unfold.{capped}
+use Rattle.wcv_matching.specs.AtomTests.{id_tests}
 use Rattle.wcv_matching.specs.ModuleItems.{item_at, core_imports_in, instance_exports}
+use Rattle.wcv_matching.specs.OnePass.{opens_pass, passes_match}
 use Rattle.wcv_lower.specs.Context.{Context, Stack, Side, importing, exporting, names_for, with_named}
-use Rattle.wcv_lower.specs.EntryNames.{name_checks}
+use Rattle.wcv_lower.specs.EntryNames.{name_checks, bare_name_checks}
+use Rattle.wcv_lower.specs.Instantiated.{instantiated, instantiated_resources}
 use Rattle.wcv_lower.specs.Names.{Names, introduced}
 pub use Rattle.wcv_lower.specs.NewTypes.{type_entry}
 use Rattle.wcv_lower.specs.NewTypes.{renewed, new_reference, instance_tree, instance_resources}
@@ -134,6 +137,9 @@ tree_reader = record {
   same = same_identity;
   is_named = entry_passes;
   name_checks = name_checks;
+  bare_name_checks = bare_name_checks;
+  matches = λ gs a b. passes_match (id_tests gs) a b;
+  opens = λ gs args c. opens_pass (id_tests gs) args c;
   has_free = has_free [];
   is_free = is_free;
   first_path = first_path;
@@ -190,6 +196,7 @@ tree_maker names p = record {
   resource = names.resource (introduced p);
   reference = type_entry (new_reference names p);
   instance_of = λ t. record { entity = instance_tree names p t; resources = instance_resources names p t };
+  instantiate = λ args c. record { entity = instantiated names p args c; resources = instantiated_resources names p c };
   build = node_tree (names.identity (introduced p));
   build_type = λ n. type_entry (node_tree (names.identity (introduced p)) n);
 }

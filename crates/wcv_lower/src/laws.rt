@@ -1,42 +1,56 @@
 // Laws of the rules, over the definitions alone.
 ghost use Rattle.std.specs.Option.{option_map};
 ghost use Rattle.std.specs.Bool.{Decides};
-ghost use Rattle.std.specs.Prelude.{◌≡◌, ℕ, List, All, [], ◌∷◌, ◌++◌, Bool, Some, true};
+ghost use Rattle.std.specs.Prelude.{◌≡◌, ℕ, List, All, [], ◌∷◌, ◌++◌, Bool, Some, false, true};
 ghost use Rattle.wcv_core.specs.CoreForm.{Group};
 ghost use Rattle.wcv_core.specs.CoreGroups.{total};
 ghost use Rattle.wcv_core.specs.CoreSizes.{IsEntityWithin};
 ghost use Rattle.wcv_core.specs.Names.{Name, Place, at, deeper, member};
 ghost use Rattle.wcv_core.specs.declared.features.WasmFeatures.{WasmFeatures};
-ghost use Rattle.wcv_syntax.specs.Built.{is_built_type};
-ghost use Rattle.wcv_syntax.specs.Model.{Text, Form, Type_form, instance_type, Decls};
+ghost use Rattle.wcv_syntax.specs.Built.{is_built_ref, is_built_type};
+ghost use Rattle.wcv_syntax.specs.Model.{Text, Form, instance_item, Instance_form, instantiate, Type_form, instance_type, Decls};
 ghost use Rattle.wcv_syntax.specs.ModuleTypes.{Core_import, Core_export, Module_type};
+ghost use Rattle.wcv_syntax.specs.declared.component_type.ComponentTypeRef.{ComponentTypeRef};
+ghost use Rattle.wcv_syntax.specs.declared.name.ComponentExport.{ComponentExport};
 ghost use Rattle.wcv_syntax.specs.declared.name.ComponentExternName.{ComponentExternName};
 ghost use Rattle.wcv_syntax.specs.declared.instance.ComponentAlias.{ComponentAlias};
+ghost use Rattle.wcv_syntax.specs.declared.instance.ComponentInstantiationArg.{ComponentInstantiationArg};
 ghost use Rattle.wcv_types.specs.Arena.{Arena};
 ghost use Rattle.wcv_types.specs.Entities.{SlotStands};
+ghost use Rattle.wcv_types.specs.Identity.{Identity};
+ghost use Rattle.wcv_types.specs.Replacing.{SparesOwn};
 ghost use Rattle.wcv_types.specs.Standing.{AllFit};
-ghost use Rattle.wcv_types.specs.Tree.{owned};
-ghost use Rattle.wcv_types.specs.Unfold.{Type_tree};
+ghost use Rattle.wcv_types.specs.Tree.{exports, firsts, head, imported_at, owned};
+ghost use Rattle.wcv_types.specs.Unfold.{Slot, Type_tree, slot_tree, trees};
 ghost use Rattle.wcv_closed.specs.ClosedTable.{IsTable};
 ghost use Rattle.wcv_closed.specs.CoreModules.{AllServed, EachArgument};
+ghost use Rattle.wcv_matching.specs.Formed.{node_height};
 ghost use Rattle.wcv_matching.specs.ModuleItems.{ItemsMatch};
+ghost use Rattle.wcv_matching.specs.OnePass.{argument_for};
+ghost use Rattle.wcv_matching.specs.Orderly.{Orderly};
+ghost use Rattle.wcv_matching.specs.TableMatching.{CoreWithin, Opens};
 ghost use Rattle.wcv_lower.specs.Aliases.{alias_step, alias_checks};
 ghost use Rattle.wcv_lower.specs.Checks.{IsFree};
 ghost use Rattle.wcv_lower.specs.Context.{Stack, in_types, importing};
 ghost use Rattle.wcv_lower.specs.CoreInstances.{all_served};
 ghost use Rattle.wcv_lower.specs.Declared.{Makers, read_type, declared_checks};
 ghost use Rattle.wcv_lower.specs.DeclaredMaps.{TypeAlike};
-ghost use Rattle.wcv_lower.specs.Entries.{extern_name};
+ghost use Rattle.wcv_lower.specs.Entries.{extern_name, written, exported_at, exported, export_checks};
+ghost use Rattle.wcv_lower.specs.Even.{IsEven, IsBalanced, IsRegular};
+ghost use Rattle.wcv_lower.specs.Given.{AtMost, GivenNames, GivesAt, Numbers, names_of};
 ghost use Rattle.wcv_lower.specs.Growth.{grow, checks};
+ghost use Rattle.wcv_lower.specs.Instances.{component_at, arguments, instance_checks};
+ghost use Rattle.wcv_lower.specs.Instantiated.{opened_resource, opening, instantiated, instantiated_resources};
 ghost use Rattle.wcv_lower.specs.Mapped.{IsKnown, MakesSame, map_stack, map_step};
 ghost use Rattle.wcv_lower.specs.Names.{Names, names_by_place, Under, AreRenamed};
-ghost use Rattle.wcv_lower.specs.Owned.{Everywhere, IsOnce, OwnsOnce, IsMadeAt};
-ghost use Rattle.wcv_lower.specs.Readers.{Maker, core_instance_node, core_exports_node, module_node};
+ghost use Rattle.wcv_lower.specs.Owned.{AllEntries, AllOwn, AreRegular, Everywhere, InstanceApart, ItemRegular, IsCalm, IsOnce, OwnsOnce, IsMadeAt};
+ghost use Rattle.wcv_lower.specs.Readers.{Brought, Maker, core_instance_node, core_exports_node, module_node};
 ghost use Rattle.wcv_lower.specs.Renamed.{Renaming, renaming};
 ghost use Rattle.wcv_lower.specs.Slots.{slot_reader, to_trees};
 ghost use Rattle.wcv_lower.specs.Step.{Step};
 ghost use Rattle.wcv_lower.specs.Trees.{Tree_stack, tree_reader, tree_maker, node_tree, type_entry};
 ghost use Rattle.wcv_lower.specs.Uses.{uses};
+ghost use Rattle.wcv_lower.specs.WorkedInstance.{made, third, worked_arguments, worked_component, worked_instance};
 ghost use Rattle.wcv_lower.specs.Worked.{imported_twice, own, made_type, made_instance};
 
 /// With renamed names, a renamed stack grows to the renamed one, and an item has the same causes. Where it
@@ -72,6 +86,42 @@ pub fn a_core_instance_exports_what_it_is_made_of()
     ensures made { (i j : Name) (m : Module_type) → tree_reader.core_exports (node_tree i (core_instance_node (node_tree j (module_node m)))) ≡ m.exports }
     ensures listed { (i : Name) (n : ℕ) (es : List Core_export) → tree_reader.core_exports (node_tree i (core_exports_node n es)) ≡ es }
     ensures imports { (i : Name) (m : Module_type) → tree_reader.core_imports (node_tree i (module_node m)) ≡ m.imports }
+{}
+
+/// Where an export with a written type has no cause, the type brings no resource of its own, the item matches it, and the entry is
+/// what the type gives.
+pub fn an_exported_item_matches_its_written_type()
+    ensures { (fs : WasmFeatures) (n : Names) (p : Place) (s : Tree_stack) (e : ComponentExport) (r : ComponentTypeRef) → e.ty ≡ Some r → is_built_ref r ≡ true → IsFree (export_checks fs (tree_maker n p) s e) →
+        (x : Type_tree) × (b : Brought tree_reader) × (exported_at s.top e ≡ Some x) × (written (tree_maker n p) s.top r ≡ Some b) × (exported (tree_maker n p) s.top e ≡ Some b) × (b.resources ≡ []) × (tree_reader.matches s.groups x b.entity ≡ true) }
+{}
+
+/// No resource that an instantiation replaces is owned inside what it replaces in, where a stack is calm. A calm stack stays so behind an
+/// item, and an instantiation asks for it that the types on top are regular, as those that an arena holds are: then nodes that arguments
+/// give own nothing that a type around them owns, since types that are regular, and balanced as a calm stack keeps them, are even.
+pub fn items_keep_a_stack_calm()
+    ensures spared { (a : Numbers) (n : Names) (p : Place) (s : Tree_stack) (i : ℕ) (args : List (Text × Type_tree)) (c : Type_tree) → IsCalm a s → component_at s.top i ≡ Some c → All (λ e. SparesOwn (opening n p args c) e.1) (exports c) }
+    ensures calm { (a b : Numbers) (n : GivenNames) (p : Place) (fs : WasmFeatures) (s t : Tree_stack) (f : Form) → AtMost a b → GivesAt (Under p) a b n → IsCalm a s → ItemRegular s.top f → AllOwn b t.top →
+        grow fs (tree_maker (names_of n) p) s f ≡ Some t → IsCalm b t }
+    ensures apart { (a : Numbers) (fs : WasmFeatures) (n : Names) (p : Place) (s t : Tree_stack) (i : Instance_form) → IsCalm a s → AreRegular s.top → grow fs (tree_maker n p) s (instance_item i) ≡ Some t → InstanceApart n p s i }
+    ensures regular { (a : Arena) (q : Slot) → AllFit a → SlotStands a q → IsRegular (node_height a) (slot_tree (trees a.nodes) q) }
+    ensures even { (n : Identity → ℕ) (v : Name → ℕ) (t : Type_tree) → IsRegular n t → IsBalanced v t → IsEven (record { node_of = n; owner_of = v }) t }
+{}
+
+/// Whether arguments open a component is decided by the test, where types are orderly and their core types are of the table. Where
+/// an instantiation has no cause, the substitution that the recorded paths find opens the imports, and no other does; it is what
+/// the imported resources become.
+pub fn an_instantiation_opens_in_one_way()
+    ensures decided { (s : Tree_stack) (i : ℕ) (args : List ComponentInstantiationArg) (c : Type_tree) → IsTable s.groups → AllEntries (λ t. Orderly t × CoreWithin s.groups t) s.top → component_at s.top i ≡ Some c →
+        Decides (tree_reader.opens s.groups (arguments s.top args) c) ((u : Name → Name) × Opens s.groups u (arguments s.top args) c) }
+    ensures accepted { (fs : WasmFeatures) (n : Names) (p : Place) (s : Tree_stack) (i : ℕ) (args : List ComponentInstantiationArg) → IsTable s.groups → AllEntries (λ t. Orderly t × CoreWithin s.groups t) s.top → IsFree (instance_checks fs (tree_maker n p) s (instantiate i args)) →
+        (c : Type_tree) × (component_at s.top i ≡ Some c) × Opens s.groups (argument_for (arguments s.top args) c) (arguments s.top args) c ×
+        ((u : Name → Name) → Opens s.groups u (arguments s.top args) c → (r : Name) → member r (imported_at (head c)) ≡ true → argument_for (arguments s.top args) c r ≡ u r) }
+    ensures imported { (n : Names) (p : Place) (args : List (Text × Type_tree)) (c : Type_tree) (r : Name) → member r (imported_at (head c)) ≡ true → opened_resource n p args c r ≡ Some (argument_for args c r) }
+{}
+
+/// With names by place, instantiations at two places define no resource that is one, of whichever components.
+pub fn two_instantiations_define_disjoint_resources()
+    ensures { (p q : Place) (c d : Type_tree) (r : Name) → (p ≡ q → ⊥) → member r (firsts (instantiated_resources names_by_place p c)) ≡ true → member r (firsts (instantiated_resources names_by_place q d)) ≡ true → ⊥ }
 {}
 
 /// The test of arguments answers whether core instances serve what a core module imports, where their core types
@@ -116,4 +166,14 @@ pub fn two_imports_of_a_type_have_two_resources()
     ensures types { (fs : WasmFeatures) (r f a b : ComponentExternName) (x : Text) → option_map (λ (s : Tree_stack). s.top.space in_types) (imported_twice fs r f x a b) ≡ Some (type_entry (made_type r f x) ∷ []) }
     ensures imports { (fs : WasmFeatures) (r f a b : ComponentExternName) (x : Text) → option_map (λ (s : Tree_stack). s.top.side importing) (imported_twice fs r f x a b) ≡ Some ((extern_name a, made_instance r f x 1) ∷ (extern_name b, made_instance r f x 2) ∷ []) }
     ensures imported { (fs : WasmFeatures) (r f a b : ComponentExternName) (x : Text) → option_map (λ (s : Tree_stack). s.top.imported) (imported_twice fs r f x a b) ≡ Some ((at (1 ∷ []) own, 0 ∷ 0 ∷ []) ∷ (at (2 ∷ []) own, 1 ∷ 0 ∷ []) ∷ []) }
+{}
+
+/// A worked component and its instance: the imported resource becomes that of the argument, and the reference that stands for the
+/// import the argument's; the list that was handed in stands where the imported one stood; the resource that the component defines
+/// is new, and its reference keeps its stamp; what mentions something of these is made again. Without an argument nothing opens.
+pub fn an_instance_of_a_worked_component()
+    ensures opens { tree_reader.opens [] worked_arguments worked_component ≡ true }
+    ensures unopened { tree_reader.opens [] [] worked_component ≡ false }
+    ensures made { instantiated names_by_place third worked_arguments worked_component ≡ worked_instance }
+    ensures new { instantiated_resources names_by_place third worked_component ≡ (at third made, 0 ∷ []) ∷ [] }
 {}
