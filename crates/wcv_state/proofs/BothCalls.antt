@@ -69,7 +69,8 @@ export_by_both a b outer p s t s' e x h g w same v =
     let c : Tree_context = context_of a s in
     let tree : Type_tree = entity_tree (trees b.nodes) x in
     let mk : Maker tree_reader = tree_maker (names_of v.names) p in
-    let looked = free_built (is_built_item e) (exported_checks c e) w.free in
+    let of_item : Checks = exported_checks a.core (tree_maker (names_of w.names) p) c e in
+    let looked = free_built (is_built_item e) of_item w.free in
     let plain : brought_at mk tree ≡ brought_by tree_reader tree = stays_at b (names_of v.names) p x w.stands w.alone in
     let of_entity : Checks = entity_checks s.features exporting (extern_name e.name) c tree in
     let room : Checks = full_side true exporting (counts c) in
@@ -78,13 +79,13 @@ export_by_both a b outer p s t s' e x h g w same v =
     let here : join_checks true t.features exporting (extern_name e.name) (context_of b t) (brought_at mk tree).entity ≡ room ++ of_entity =
     λ j. join_checks true (features j) exporting (extern_name e.name) (context_same a b outer s t h g w.core same j) (plain j).entity in
     let joined : IsFree (room ++ of_entity) = subst IsFree here met.1 in
-    let all : IsFree (room ++ (exported_checks c e ++ of_entity)) = free_both room (exported_checks c e ++ of_entity) (free_left room of_entity joined) (free_both (exported_checks c e) of_entity looked.1 (free_right room of_entity joined)) in
+    let all : IsFree (room ++ (of_item ++ of_entity)) = free_both room (of_item ++ of_entity) (free_left room of_entity joined) (free_both of_item of_entity looked.1 (free_right room of_entity joined)) in
     record {
       names = w.names;
       given = w.given;
       grown = ap (λ o. option_map (λ q. apply q (stack_of a s outer)) (option_map (enters exporting (extern_name e.name)) o)) w.found ∙
           (λ j. Some (apply (enters exporting (extern_name e.name) (sym plain j)) (sym (stack_same a b outer s t h g w.core same) j))) ∙ ap Some (sym v.entered);
-      free = built_free (is_built_item e) _ looked.0 (subst (λ (o : Option (Brought tree_reader)). IsFree (entries.entry_checks s.features exporting (extern_name e.name) c (exported_checks c e) o)) (sym w.found) all);
+      free = built_free (is_built_item e) _ looked.0 (subst (λ (o : Option (Brought tree_reader)). IsFree (entries.entry_checks s.features exporting (extern_name e.name) c of_item o)) (sym w.found) all);
       live = v.live;
     }
 

@@ -38,7 +38,7 @@ use Rattle.wcv_subtype.proofs.Sparing.{nothing_given, sparing_hygienic}
 use Rattle.wcv_subtype.proofs.Starting.{sound_new}
 use Rattle.wcv_subtype.specs.Entities.{EntityHygienic}
 use Rattle.wcv_subtype.specs.Hygiene.{Hygienic}
-use Rattle.wcv_subtype.specs.Map.{Sent, Map, same_part, resources_by}
+use Rattle.wcv_subtype.specs.Map.{Sent, Map, same_part, resource_to, resources_by}
 use Rattle.wcv_subtype.specs.Remap.{EntryServed, Serves, Sound, Visits, Visited, Each}
 use Rattle.wcv_state.proofs.ExportsAnew.{Item, exports_are, slot_more}
 use Rattle.wcv_state.proofs.Mentioning.{path_changed, new_unowned_in, spares_own}
@@ -59,7 +59,7 @@ some_owned : (own : Paths) → is_empty (names_of_resources own) ≡ false → (
 some_owned [] h = absurd (false≢true (sym h))
 some_owned (e ∷ es) h = (e, first e es)
 
-is_member : (own : Paths) (e : With_path) → Contains own e → member (number e.0.index) (names_of_resources own) ≡ true
+pub is_member : (own : Paths) (e : With_path) → Contains own e → member (number e.0.index) (names_of_resources own) ≡ true
 is_member [] e c = absurd (omega (arith, c.1))
 is_member (x ∷ xs) e c =
     cases ((eqb e.0.index x.0.index || member (number e.0.index) (names_of_resources xs)) ≡ true) x xs e c
@@ -82,7 +82,7 @@ sought k (e ∷ es) j s h = go (eqb j e.0.index) h (λ w. sought (suc k) es j s 
     go true h rest = refl
     go false h rest = rest h
 
-sent_owned : (k : ℕ) (own : Paths) (map : Map) (r s : Name) → map.resources ≡ to_numbers k own → resources_by map r ≡ Some s → member r (names_of_resources own) ≡ true
+pub sent_owned : (k : ℕ) (own : Paths) (map : Map) (r s : Name) → map.resources ≡ to_numbers k own → resources_by map r ≡ Some s → member r (names_of_resources own) ≡ true
 sent_owned k own map (number j) s e h = sought k own j s (ap (λ (rs : List (ResourceId × ResourceId)). option_map (λ (r : ResourceId). number r.index) (lookup (same_resource (resource_at j)) rs)) (sym e) ∙ h)
 sent_owned k own map (stamp n) s e h = absurd (cc)
 sent_owned k own map (base q) s e h = absurd (cc)
@@ -92,17 +92,31 @@ sent_owned k own map (aside x) s e h = absurd (cc)
 
 -- ## Before the exports
 
+-- a map with nothing in it
+abbrev pub no_map : Map
+no_map = record { resources = []; types = [] }
+
+pub anew : (a b : Arena) (m map : Map) (own ps : Paths) → m ≡ no_map → Replaced a b m map own ps → Replaced a b no_map map own ps
+anew a b m map own ps e w = subst (λ (x : Map). Replaced a b x map own ps) e w
+
+pub none_sent : (m : Map) (own : Paths) → m ≡ no_map → All (λ (e : With_path). resource_to m e.0 ≡ None) own
+none_sent m own e = subst (λ (x : Map). All (λ (r : With_path). resource_to x r.0 ≡ None) own) (sym e) (all own)
+  where
+    all : (es : Paths) → All (λ (r : With_path). resource_to no_map r.0 ≡ None) es
+    all [] = All-nil (λ (r : With_path). resource_to no_map r.0 ≡ None)
+    all (x ∷ xs) = All-cons (λ (r : With_path). resource_to no_map r.0 ≡ None) x xs refl (all xs)
+
 no_types : (map : Map) (q : Part) (s : Sent) → map.types ≡ [] → Contains map.types (q, s) → ⊥
 no_types map q s e c = let d : Contains {X = Part × Sent} [] (q, s) = subst (λ (es : List (Part × Sent)). Contains es (q, s)) e c in absurd (omega (arith, d.1))
 
-to_each : (j k : ℕ) (own : Paths) (r q : ResourceId) → k + length own ≤ j → Contains (to_numbers k own) (r, q) → q.index < j
+pub to_each : (j k : ℕ) (own : Paths) (r q : ResourceId) → k + length own ≤ j → Contains (to_numbers k own) (r, q) → q.index < j
 to_each j k [] r q h c = absurd (omega (arith, c.1))
 to_each j k (e ∷ es) r q h c =
     let l : suc k + length es ≤ j = omega (arith, h) in
     let n : k < j = omega (arith, h) in
     cases (q.index < j) (e.0, resource_at k) (to_numbers (suc k) es) (r, q) c (λ f. subst (λ (y : ResourceId × ResourceId). y.1.index < j) f n) (λ d. to_each j (suc k) es r q l d)
 
-pub sound_replaced : (a b : Arena) (map : Map) (own ps : Paths) → Replaced a b map own ps → Sound b map
+pub sound_replaced : (a b : Arena) (map : Map) (own ps : Paths) → Replaced a b no_map map own ps → Sound b map
 sound_replaced a b map own ps w =
     let n : b.resources ≡ a.resources + length own = ap (λ (c : Arena). c.resources) w.arena in
     sound_new b map w.types (λ r q c. to_each b.resources a.resources own r q (omega (arith, n)) (subst (λ (rs : List (ResourceId × ResourceId)). Contains rs (r, q)) w.resources c))
@@ -112,13 +126,13 @@ entry_unowned r ts [] e h c = absurd (omega (arith, c.1))
 entry_unowned r ts (x ∷ xs) e h c = cases (OwnsNot r (entity_tree ts e.1.ty)) x xs e c (λ f. subst (λ (y : Item). OwnsNot r (entity_tree ts y.1.ty)) f h.0) (λ d. entry_unowned r ts xs e h.1 d)
 
 -- the arena with more resources has the same nodes
-same_nodes : (a b : Arena) (map : Map) (own ps : Paths) → Replaced a b map own ps → trees b.nodes ≡ trees a.nodes
+pub same_nodes : (a b : Arena) (map : Map) (own ps : Paths) → Replaced a b no_map map own ps → trees b.nodes ≡ trees a.nodes
 same_nodes a b map own ps w = ap (λ (c : Arena). trees c.nodes) w.arena
 
 apart_there : (a : Arena) (i : ComponentInstanceTypeId) (o : Opened) → IsOpened a i o → OwnsApart (tree_at a (p.Instance i)) → OwnsApart (instance_type (number i.index) (names_of_resources o.owned) (entry_trees (trees a.nodes) o.exports))
 apart_there a i o w h = subst OwnsApart w.tree h
 
-export_hygienic : (a b : Arena) (i : ComponentInstanceTypeId) (o : Opened) (map : Map) (ps : Paths) (e : Item) → IsOpened a i o → OwnsApart (tree_at a (p.Instance i)) → Replaced a b map o.owned ps → Contains o.exports e → EntityHygienic b map e.1.ty
+export_hygienic : (a b : Arena) (i : ComponentInstanceTypeId) (o : Opened) (map : Map) (ps : Paths) (e : Item) → IsOpened a i o → OwnsApart (tree_at a (p.Instance i)) → Replaced a b no_map map o.owned ps → Contains o.exports e → EntityHygienic b map e.1.ty
 export_hygienic a b i o map ps e w h r c m s =
     let plain : (x : Identity) → m.nodes x ≡ None = nothing_given b map m s (λ q k d. absurd (no_types map q k r.types d)) in
     let apart : OwnsApart (instance_type (number i.index) (names_of_resources o.owned) (entry_trees (trees a.nodes) o.exports)) = apart_there a i o w h in
@@ -129,7 +143,7 @@ export_hygienic a b i o map ps e w h r c m s =
 pub exports_stand : (a b : Arena) (i : ComponentInstanceTypeId) (o : Opened) → IsOpened a i o → Extends a b → All (EntryStands b) o.exports
 exports_stand a b i o w g = All-weaker (EntryStands a) (EntryStands b) (λ e h. slot_more a b (entity_slot e.1.ty) g h) o.exports w.stand
 
-pub exports_hygienic : (a b : Arena) (i : ComponentInstanceTypeId) (o : Opened) (map : Map) (ps : Paths) → IsOpened a i o → OwnsApart (tree_at a (p.Instance i)) → Replaced a b map o.owned ps → All (λ (e : Item). EntityHygienic b map e.1.ty) o.exports
+pub exports_hygienic : (a b : Arena) (i : ComponentInstanceTypeId) (o : Opened) (map : Map) (ps : Paths) → IsOpened a i o → OwnsApart (tree_at a (p.Instance i)) → Replaced a b no_map map o.owned ps → All (λ (e : Item). EntityHygienic b map e.1.ty) o.exports
 exports_hygienic a b i o map ps w h r =
     All-weaker (Contains o.exports) (λ (e : Item). EntityHygienic b map e.1.ty) (λ e c. export_hygienic a b i o map ps e w h r c) o.exports (All-contains_itself o.exports)
 
@@ -138,7 +152,7 @@ exports_hygienic a b i o map ps w h r =
 abbrev pub names_at : Arena → Arena → ComponentInstanceTypeId → Paths → Map → Place → GivenNames
 names_at a b i own map q = record { resources = numbered q a.resources own; identities = (again q (number i.index), number (length b.nodes)) ∷ remade q map.types }
 
-rank_place : (q : Part) → 0 < rank q → rank q ≡ suc (place q)
+pub rank_place : (q : Part) → 0 < rank q → rank q ≡ suc (place q)
 rank_place (p.Resource r) h = absurd (omega (arith, h))
 rank_place (p.Core i) h = absurd (omega (arith, h))
 rank_place (p.Defined i) h = refl
@@ -157,7 +171,7 @@ pub record WasVisited (a b : Arena) (i : ComponentInstanceTypeId) (map : Map) (e
   pub before : place e.0 < i.index
   pub fresh : same_part e.0 e.1.to ≡ false → length a.nodes < rank e.1.to
 
-all_visited : (a c b : Arena) (i : ComponentInstanceTypeId) (o : Opened) (m0 m1 : Map) (ps : Paths) (ys : Items) → IsOpened a i o → Replaced a c m0 o.owned ps → ExportsRemapped c b m0 m1 o.exports ys → (e : Part × Sent) → Contains m1.types e → WasVisited a b i m1 e
+all_visited : (a c b : Arena) (i : ComponentInstanceTypeId) (o : Opened) (m0 m1 : Map) (ps : Paths) (ys : Items) → IsOpened a i o → Replaced a c no_map m0 o.owned ps → ExportsRemapped c b m0 m1 o.exports ys → (e : Part × Sent) → Contains m1.types e → WasVisited a b i m1 e
 all_visited a c b i o m0 m1 ps ys w r x e h =
     let v : Visits Anything (length c.nodes) (suc i.index) m0 m1 = x.visits (suc i.index) (λ y d. w.before y d) in
     let these : m1.types ≡ v.more = v.types ∙ ap (λ (es : Visited_list). es ++ v.more) r.types in
@@ -202,7 +216,7 @@ lead_there es k (e ∷ own) h =
     (lead_there es (suc k) own (λ l f c le g. h l f (behind e own f c) (omega (arith, le)) (behind (again [] (number e.0.index), number k) (numbered [] (suc k) own) (again [] (number f.0.index), number l) g)))
 
 -- with the same nodes before
-each_before : (a c b : Arena) (map : Map) (xs ys : Items) → trees c.nodes ≡ trees a.nodes → Each (EntryBecomes c b map) xs ys → Each (EntryBecomes a b map) xs ys
+pub each_before : (a c b : Arena) (map : Map) (xs ys : Items) → trees c.nodes ≡ trees a.nodes → Each (EntryBecomes c b map) xs ys → Each (EntryBecomes a b map) xs ys
 each_before a c b map [] [] e w = tt
 each_before a c b map (x ∷ xs) (y ∷ ys) e w =
     (record { named = w.0.named; stands = w.0.stands; tree = λ m s. w.0.tree m s ∙ ap (λ (ts : List Type_tree). replaced m (entity_tree ts x.1.ty)) e }, each_before a c b map xs ys e w.1)
@@ -210,7 +224,7 @@ each_before a c b map [] (y ∷ ys) e w = absurd w
 each_before a c b map (x ∷ xs) [] e w = absurd w
 
 module _ (a c b d : Arena) (i j : ComponentInstanceTypeId) (o : Opened) (m0 m1 : Map) (ps : Paths) (ys : Items) (st : Stands a (p.Instance i)) (gave : AllNamesGiven a) (own : owns_none (tree_at a (p.Instance i)) ≡ false) (w : IsOpened a i o) (g0 : Extends a c)
-    (r : Replaced a c m0 o.owned ps) (x : ExportsRemapped c b m0 m1 o.exports ys) (keys : IsDistinct same_part (keys_of m1.types)) (n : InstancePushed b d ys j) where
+    (r : Replaced a c no_map m0 o.owned ps) (x : ExportsRemapped c b m0 m1 o.exports ys) (keys : IsDistinct same_part (keys_of m1.types)) (n : InstancePushed b d ys j) where
   abbrev given_names : Place → GivenNames
   given_names = names_at a b i o.owned m1
 

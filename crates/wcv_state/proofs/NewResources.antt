@@ -4,6 +4,7 @@ use Rattle.std.specs.Prelude.{Option, slice_get}
 use Rattle.std.specs.List.{IsDistinct, AllByRecursion}
 use Rattle.std.specs.Map.{keys_of, lookup}
 use Rattle.std.proofs.lemmas.Bool.{ne_eqb, eqb-true, eqb-false}
+use Rattle.std.proofs.lemmas.List.{append-nil, append_assoc}
 use Rattle.std.proofs.lemmas.List.Elements.{All-nil, All-cons, All-head, All-tail}
 use Rattle.std.proofs.lemmas.Map.Keys.{IsDistinct-head, IsDistinct-tail}
 use Rattle.wcv_core.specs.Names.{Name, number}
@@ -23,6 +24,7 @@ use Rattle.wcv_types.specs.declared.ids.ResourceId.{ResourceId}
 use Rattle.wcv_lower.specs.NewTypes.{path_or_none}
 use Rattle.wcv_lower.specs.Trees.{Entries}
 use Rattle.wcv_subtype.specs.Map.{Map}
+use Rattle.wcv_state.proofs.Walks.{found_holds}
 use Rattle.wcv_state.specs.Opening.{Paths, Replaced, more_given, names_of_resources, one_more, renumbered, to_numbers}
 
 abbrev pub With_path : Type 0
@@ -90,8 +92,11 @@ none_given a =
     let f : a.stamps ≡ a.stamps + 0 = omega arith in
     λ j. record a { resources = e j; stamps = f j }
 
-pub replaced_none : (a : Arena) (map : Map) → map ≡ record { resources = []; types = [] } → Replaced a a map [] []
-replaced_none a map e = record { arena = none_given a; resources = ap (λ (m : Map). m.resources) e; types = ap (λ (m : Map). m.types) e; paths = refl }
+abbrev pub Sent_resources : Type 0
+Sent_resources = List (ResourceId × ResourceId)
+
+pub replaced_none : (a : Arena) (map : Map) → Replaced a a map map [] []
+replaced_none a map = record { arena = none_given a; resources = sym (append-nil map.resources); types = refl; paths = refl }
 
 given_twice : (a : Arena) (k : ℕ) → one_more (more_given a k) ≡ more_given a (suc k)
 given_twice a k =
@@ -99,32 +104,53 @@ given_twice a k =
     let f : a.stamps + k + 1 ≡ a.stamps + suc k = omega arith in
     λ j. record a { resources = e j; stamps = f j }
 
-pub replaced_push : (a b c : Arena) (map map' : Map) (es ps ps' : Paths) (e : With_path) → Replaced a b map es ps → c ≡ one_more b → map' ≡ record map { resources = map.resources ++ (e.0, resource_at b.resources) ∷ [] } →
-    ps' ≡ ps ++ (resource_at b.resources, e.1) ∷ [] → Replaced a c map' (es ++ e ∷ []) ps'
-replaced_push a b c map map' es ps ps' e w x y z =
+pub replaced_push : (a b c : Arena) (m map map' : Map) (es ps ps' : Paths) (e : With_path) → Replaced a b m map es ps → c ≡ one_more b → map' ≡ record map { resources = map.resources ++ (e.0, resource_at b.resources) ∷ [] } →
+    ps' ≡ ps ++ (resource_at b.resources, e.1) ∷ [] → Replaced a c m map' (es ++ e ∷ []) ps'
+replaced_push a b c m map map' es ps ps' e w x y z =
     let n : b.resources ≡ a.resources + length es = ap (λ (d : Arena). d.resources) w.arena in
     let l : length (es ++ e ∷ []) ≡ suc (length es) = length-append es (e ∷ []) ∙ omega arith in
-    let P : List (ResourceId × ResourceId) → ℕ → List (ResourceId × ResourceId) = λ rs k. rs ++ (e.0, resource_at k) ∷ [] in
+    let P : Sent_resources → ℕ → Sent_resources = λ rs k. rs ++ (e.0, resource_at k) ∷ [] in
     let Q : Paths → ℕ → Paths = λ rs k. rs ++ (resource_at k, e.1) ∷ [] in
     record {
       arena = x ∙ ap one_more w.arena ∙ given_twice a (length es) ∙ ap (more_given a) (sym l);
-      resources = ap (λ (m : Map). m.resources) y ∙ (λ j. P (w.resources j) (n j)) ∙ sym (to_numbers_push a.resources es e);
+      resources = ap (λ (m : Map). m.resources) y ∙ (λ j. P (w.resources j) (n j)) ∙ append_assoc m.resources (to_numbers a.resources es) ((e.0, resource_at (a.resources + length es)) ∷ []) ∙
+          ap (λ (rs : Sent_resources). m.resources ++ rs) (sym (to_numbers_push a.resources es e));
       types = ap (λ (m : Map). m.types) y ∙ w.types;
       paths = z ∙ (λ j. Q (w.paths j) (n j)) ∙ sym (renumbered_push a.resources es e);
     }
 
-pub replaced_next : (a b c : Arena) (map map' : Map) (es ps ps' : Paths) (k : ℕ) (e : With_path) → slice_get es k ≡ Some e → Replaced a b map (take k es) ps → c ≡ one_more b →
-    map' ≡ record map { resources = map.resources ++ (e.0, resource_at b.resources) ∷ [] } → ps' ≡ ps ++ (resource_at b.resources, e.1) ∷ [] → Replaced a c map' (take (k + 1) es) ps'
-replaced_next a b c map map' es ps ps' k e g w x y z =
+pub replaced_next : (a b c : Arena) (m map map' : Map) (es ps ps' : Paths) (k : ℕ) (e : With_path) → slice_get es k ≡ Some e → Replaced a b m map (take k es) ps → c ≡ one_more b →
+    map' ≡ record map { resources = map.resources ++ (e.0, resource_at b.resources) ∷ [] } → ps' ≡ ps ++ (resource_at b.resources, e.1) ∷ [] → Replaced a c m map' (take (k + 1) es) ps'
+replaced_next a b c m map map' es ps ps' k e g w x y z =
     let s : suc k ≡ k + 1 = omega arith in
-    subst (λ (xs : Paths). Replaced a c map' xs ps') (sym (take-next es k e g) ∙ ap (λ (n : ℕ). take n es) s) (replaced_push a b c map map' (take k es) ps ps' e w x y z)
+    subst (λ (xs : Paths). Replaced a c m map' xs ps') (sym (take-next es k e g) ∙ ap (λ (n : ℕ). take n es) s) (replaced_push a b c m map map' (take k es) ps ps' e w x y z)
+
+-- what the first part of a list does not have, the rest may
+pub behind_resources : (test : ResourceId → Bool) (xs ys : Sent_resources) → lookup test xs ≡ None → lookup test (xs ++ ys) ≡ lookup test ys
+behind_resources test [] ys h = refl
+behind_resources test (x ∷ xs) ys h = go (test x.0) h (λ f. behind_resources test xs ys f)
+  where
+    go : (b : Bool) → cond b (Some x.1) (lookup test xs) ≡ None → (lookup test xs ≡ None → lookup test (xs ++ ys) ≡ lookup test ys) → cond b (Some x.1) (lookup test (xs ++ ys)) ≡ lookup test ys
+    go true f rest = absurd (cc)
+    go false f rest = rest f
+
+pub first_resources : (test : ResourceId → Bool) (xs ys : Sent_resources) (q : ResourceId) → lookup test xs ≡ Some q → lookup test (xs ++ ys) ≡ Some q
+first_resources test [] ys q h = absurd (cc)
+first_resources test (x ∷ xs) ys q h = go (test x.0) h (λ f. first_resources test xs ys q f)
+  where
+    go : (b : Bool) → cond b (Some x.1) (lookup test xs) ≡ Some q → (lookup test xs ≡ Some q → lookup test (xs ++ ys) ≡ Some q) → cond b (Some x.1) (lookup test (xs ++ ys)) ≡ Some q
+    go true f rest = f
+    go false f rest = rest f
 
 -- what the next one needs
-pub next_absent : (a b : Arena) (map : Map) (es ps : Paths) (k : ℕ) (e : With_path) → IsDistinct same_resource (keys_of es) → slice_get es k ≡ Some e → Replaced a b map (take k es) ps → lookup (same_resource e.0) map.resources ≡ None
-next_absent a b map es ps k e d g w = ap (λ (rs : List (ResourceId × ResourceId)). lookup (same_resource e.0) rs) w.resources ∙ before_absent a.resources k es e d g
+pub next_absent : (a b : Arena) (m map : Map) (es ps : Paths) (k : ℕ) (e : With_path) → All (λ (r : With_path). lookup (same_resource r.0) m.resources ≡ None) es → IsDistinct same_resource (keys_of es) → slice_get es k ≡ Some e → Replaced a b m map (take k es) ps →
+    lookup (same_resource e.0) map.resources ≡ None
+next_absent a b m map es ps k e o d g w =
+    ap (λ (rs : Sent_resources). lookup (same_resource e.0) rs) w.resources ∙
+    behind_resources (same_resource e.0) m.resources (to_numbers a.resources (take k es)) (found_holds (λ (r : With_path). lookup (same_resource r.0) m.resources ≡ None) es k e o g) ∙ before_absent a.resources k es e d g
 
-pub next_fresh : (a b : Arena) (map : Map) (es ps : Paths) → Replaced a b map es ps → lookup (same_resource (resource_at b.resources)) ps ≡ None
-next_fresh a b map es ps w =
+pub next_fresh : (a b : Arena) (m map : Map) (es ps : Paths) → Replaced a b m map es ps → lookup (same_resource (resource_at b.resources)) ps ≡ None
+next_fresh a b m map es ps w =
     let n : b.resources ≡ a.resources + length es = ap (λ (d : Arena). d.resources) w.arena in
     ap (λ (rs : Paths). lookup (same_resource (resource_at b.resources)) rs) w.paths ∙ behind_numbers b.resources a.resources es (omega (arith, n))
 
@@ -199,8 +225,8 @@ given_grown a b k e = subst (λ (x : Arena). Extends a x) (sym e) (numbers_more 
 pub same_grown : (a b : Arena) → b ≡ a → Extends a b
 same_grown a b e = subst (λ (x : Arena). Extends a x) (sym e) (extends_refl a)
 
-pub replaced_grown : (a b : Arena) (map : Map) (es ps : Paths) → Replaced a b map es ps → Extends a b
-replaced_grown a b map es ps w = given_grown a b (length es) w.arena
+pub replaced_grown : (a b : Arena) (m map : Map) (es ps : Paths) → Replaced a b m map es ps → Extends a b
+replaced_grown a b m map es ps w = given_grown a b (length es) w.arena
 
-pub replaced_all : (a b : Arena) (m : Map) (es ps : Paths) (k : ℕ) → length es ≤ k → Replaced a b m (take k es) ps → Replaced a b m es ps
-replaced_all a b m es ps k h w = subst (λ (xs : Paths). Replaced a b m xs ps) (take_all k es h) w
+pub replaced_all : (a b : Arena) (m map : Map) (es ps : Paths) (k : ℕ) → length es ≤ k → Replaced a b m map (take k es) ps → Replaced a b m map es ps
+replaced_all a b m map es ps k h w = subst (λ (xs : Paths). Replaced a b m map xs ps) (take_all k es h) w

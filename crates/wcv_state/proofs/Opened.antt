@@ -20,7 +20,7 @@ use Rattle.wcv_types.specs.declared.shapes.ComponentEntityType.{ComponentEntityT
 use Rattle.wcv_types.specs.declared.shapes.ComponentEntityType.TheVariants as entity
 use Rattle.wcv_types.proofs.Grown.{extends_refl, extends_trans}
 use Rattle.wcv_types.proofs.Unfolding.{sort_stands}
-use Rattle.wcv_lower.specs.Checks.{Checks}
+use Rattle.wcv_lower.specs.Checks.{Checks, IsFree}
 use Rattle.wcv_lower.specs.Given.{GivenNames, names_of, none_given, both_given, GivesAt}
 use Rattle.wcv_lower.specs.Names.{Names, Under}
 use Rattle.wcv_lower.specs.NewTypes.{owned_anew, instance_tree}
@@ -128,7 +128,7 @@ module _ (a b : Arena) (i : ComponentInstanceTypeId) (m : NewInstance) (g : Exte
 pub both_none : (n : GivenNames) → both_given n none_given ≡ n
 both_none n = λ j. record { resources = append-nil n.resources j; identities = append-nil n.identities j }
 
-module _ (a m b : Arena) (x : ComponentEntityType) (n : NewEntity) (looked : Checks) (brings : Brings) (w : Looked a m x looked brings) (o : EntityOpened m b x n) where
+module _ (a m b : Arena) (x : ComponentEntityType) (n : NewEntity) (looked : Maker tree_reader → Checks) (brings : Brings) (w : Looked a m x looked brings) (o : EntityOpened m b x n) where
   all_fresh : All (λ (r : ResourceId × List ℕ). a.resources ≤ r.0.index) n.resources
   all_fresh =
       All-weaker (λ (r : ResourceId × List ℕ). (introduced_id x ≡ Some r.0) ⊎ (m.resources ≤ r.0.index)) (λ (r : ResourceId × List ℕ). a.resources ≤ r.0.index)
@@ -140,6 +140,10 @@ module _ (a m b : Arena) (x : ComponentEntityType) (n : NewEntity) (looked : Che
   -- what is brought where those names are given
   abbrev AreBrought : Place → GivenNames → Type 0
   AreBrought p names = let mk : Maker tree_reader = tree_maker (names_of names) p in brings mk ≡ Some (brought_at mk (entity_tree (trees m.nodes) x))
+
+  -- there is no cause by those names
+  abbrev AreFree : Place → GivenNames → Type 0
+  AreFree p names = IsFree (looked (tree_maker (names_of names) p))
 
   pub opened_found : Found a b n looked brings
   opened_found = go (is_instance_entity x) refl
@@ -153,7 +157,7 @@ module _ (a m b : Arena) (x : ComponentEntityType) (n : NewEntity) (looked : Che
             given_names = o.given_names;
             given = λ p. subst (λ (y : Arena). GivesAt (Under p) (numbers_of y) (numbers_of b) (o.given_names p)) i.0 (o.given p);
             brought = λ p. subst (λ (g : GivenNames). AreBrought p (both_given g (o.given_names p))) (i.1 p) (w.brought p (o.given_names p)) ∙ ap Some (o.brought p);
-            free = w.free;
+            free = λ p. subst (λ (g : GivenNames). AreFree p (both_given g (o.given_names p))) (i.1 p) (w.free p (o.given_names p));
             may_join = o.may_join;
             fresh = all_fresh;
             stamped = is_stamped;
@@ -167,7 +171,7 @@ module _ (a m b : Arena) (x : ComponentEntityType) (n : NewEntity) (looked : Che
             given = λ p. subst (λ (y : Arena). GivesAt (Under p) (numbers_of a) (numbers_of y) (w.given_names p)) (sym same.0) (w.given p);
             brought = λ p. subst (AreBrought p) (both_none (w.given_names p)) (w.brought p none_given) ∙
                 ap Some (as_it_is_at m (tree_maker (names_of (w.given_names p)) p) x w.stands e ∙ sym (as_it_is_at m (tree_maker (names_of (o.given_names p)) p) x w.stands e) ∙ o.brought p);
-            free = w.free;
+            free = λ p. subst (AreFree p) (both_none (w.given_names p)) (w.free p none_given);
             may_join = o.may_join;
             fresh = all_fresh;
             stamped = is_stamped;

@@ -41,7 +41,7 @@ parts_are : (ts : List Type_tree) (es : Items) → slot_parts ts (entry_slots ex
 parts_are ts [] = refl
 parts_are ts (e ∷ es) = ap (λ (ps : Parts Name Name). part (export (entry_name e)) (entity_tree ts e.1.ty) ps) (parts_are ts es)
 
-entries_stand : (a : Arena) (bound : ℕ) (es : Items) → All (StandsBefore a bound) (parts_in (entry_slots export es)) → All (EntryStands a) es
+pub entries_stand : (a : Arena) (bound : ℕ) (es : Items) → All (StandsBefore a bound) (parts_in (entry_slots export es)) → All (EntryStands a) es
 entries_stand a bound [] h = All-nil (EntryStands a)
 entries_stand a bound (e ∷ es) h =
     All-cons (EntryStands a) e es
@@ -59,7 +59,7 @@ refs_before a k (q ∷ qs) h =
     let b : rank q < suc k = (All-head (StandsBefore a (suc k)) q qs h).before in
     max-le (omega (arith, b)) (refs_before a k qs (All-tail (StandsBefore a (suc k)) q qs h))
 
-entries_before : (a : Arena) (k : ℕ) (es : Items) → All (StandsBefore a (suc k)) (parts_in (entry_slots export es)) → All (λ (e : Item). entry_rank e < suc k) es
+pub entries_before : (a : Arena) (k : ℕ) (es : Items) → All (StandsBefore a (suc k)) (parts_in (entry_slots export es)) → All (λ (e : Item). entry_rank e < suc k) es
 entries_before a k [] h = All-nil (λ (e : Item). entry_rank e < suc k)
 entries_before a k (e ∷ es) h =
     let b : entry_rank e ≤ k = refs_before a k (slot_refs (entity_slot e.1.ty)) (all_left (StandsBefore a (suc k)) (slot_refs (entity_slot e.1.ty)) (parts_in (entry_slots export es)) h) in

@@ -48,6 +48,7 @@ module _ (a b : Arena) (p : Place) where
         reference_known = λ e. absurd (false≢true e);
         instance_of = λ x e. absurd (cc);
         instance_known = λ x e. absurd (cc);
+        instantiate = λ args x e. absurd (cc);
         build = λ n e. absurd (cc);
         build_type = λ n e. absurd (cc);
       }
@@ -62,6 +63,7 @@ module _ (a b : Arena) (p : Place) where
     reference_known = λ g. (record { resource = omega (arith, e); stamp = omega (arith, f) }, record { resource = omega (arith, e); stamp = omega (arith, f) });
     instance_of = λ x e. absurd (cc);
     instance_known = λ x e. absurd (cc);
+    instantiate = λ args x e. absurd (cc);
     build = λ n e. absurd (cc);
     build_type = λ n e. absurd (cc);
   }
@@ -79,6 +81,7 @@ module _ (a b : Arena) (p : Place) where
         reference_known = λ e. absurd (false≢true e);
         instance_of = λ x e. absurd (cc);
         instance_known = λ x e. absurd (cc);
+        instantiate = λ args x e. absurd (cc);
         build = λ m e. subst (λ (k : New_node (slot_reader b)). node_tree (names.identity (introduced p)) (map_node (to_trees b) k) ≡ tree_at b (next_node a k)) (some-inj e) built;
         build_type = λ m e. subst (λ (k : New_node (slot_reader b)). type_entry (node_tree (names.identity (introduced p)) (map_node (to_trees b) k)) ≡ type_of (tree_at b (next_node a k)) (tree_at b (next_node a k))) (some-inj e) (ap type_entry built);
       }
@@ -100,6 +103,7 @@ module _ (a b : Arena) (p : Place) where
         reference_known = λ e. absurd (false≢true e);
         instance_of = λ y e. subst (λ (z : Slot). (tree_maker names p).instance_of (slot_tree (trees b.nodes) z) ≡ map_brought (to_trees b) (instance_slot a b z)) (some-inj e) (same ∙ ap (map_brought (to_trees b)) (sym by));
         instance_known = λ y e. subst (λ (z : Slot). SlotStands b (instance_slot a b z).entity) (some-inj e) (subst (λ (w : Brought (slot_reader b)). SlotStands b w.entity) (sym by) h);
+        instantiate = λ args x e. absurd (cc);
         build = λ n e. absurd (cc);
         build_type = λ n e. absurd (cc);
       }

@@ -62,14 +62,15 @@ pub record EntityOpened (a b : Arena) (x : ComponentEntityType) (n : NewEntity) 
   pub fresh : All (λ (r : ResourceId × List ℕ). (introduced_id x ≡ Some r.0) ⊎ (a.resources ≤ r.0.index)) n.resources
   pub created : created_reference n.ty ≡ created_reference x
 
--- what joins was found for an entry, in an arena that may have grown: what is brought at each place, by names that the arena gave
-pub record Found (a b : Arena) (n : NewEntity) (looked : Checks) (brings : Maker tree_reader → Option (Brought tree_reader)) : Type 0 where
+-- what joins was found for an entry, in an arena that may have grown: what is brought at each place, by names that the arena gave, with no
+-- cause
+pub record Found (a b : Arena) (n : NewEntity) (looked : Maker tree_reader → Checks) (brings : Maker tree_reader → Option (Brought tree_reader)) : Type 0 where
   pub grown : Extends a b
   pub core : b.core ≡ a.core
   pub given_names : Place → GivenNames
   pub given : (p : Place) → GivesAt (Under p) (numbers_of a) (numbers_of b) (given_names p)
   pub brought : (p : Place) → brings (tree_maker (names_of (given_names p)) p) ≡ Some (brought_new b n)
-  pub free : IsFree looked
+  pub free : (p : Place) → IsFree (looked (tree_maker (names_of (given_names p)) p))
   pub may_join : MayJoin b n
   -- its resources are new
   pub fresh : All (λ (r : ResourceId × List ℕ). a.resources ≤ r.0.index) n.resources

@@ -1,5 +1,5 @@
 -- How an instance is made of an instance type: its own resources become new ones, and what mentions one is made again.
-use Rattle.std.specs.Prelude.{ℕ, suc, List, [], ◌∷◌, ◌++◌, Bool, true, false, length, Some, All, Contains, ◌+◌, ◌≡◌, ◌<◌, ◌≤◌}
+use Rattle.std.specs.Prelude.{ℕ, suc, List, [], ◌∷◌, ◌++◌, Bool, length, Some, All, Contains, ◌+◌, ◌≡◌, ◌<◌, ◌≤◌}
 use Rattle.std.specs.List.{IsDistinct}
 use Rattle.std.specs.Map.{keys_of}
 use Rattle.wcv_core.specs.Names.{Name, number}
@@ -18,6 +18,7 @@ use Rattle.wcv_types.specs.declared.ids.Part.TheVariants as part
 use Rattle.wcv_types.specs.declared.ids.ResourceId.{ResourceId}
 use Rattle.wcv_types.specs.declared.item_map.ComponentItem.{ComponentItem}
 use Rattle.wcv_types.specs.declared.shapes.ComponentEntityType.{ComponentEntityType}
+pub use Rattle.wcv_lower.specs.Defined.{is_empty}
 use Rattle.wcv_subtype.specs.Entities.{top_rank}
 use Rattle.wcv_subtype.specs.Map.{Map}
 use Rattle.wcv_subtype.specs.Remap.{Each, Serves, Sound, Visits}
@@ -32,10 +33,6 @@ abbrev pub Paths : Type 0
 Paths = List (ResourceId × List ℕ)
 
 -- ## The type
-
-abbrev pub is_empty : {X : Type 0} → List X → Bool
-is_empty [] = true
-is_empty (x ∷ xs) = false
 
 abbrev pub owns_none : Type_tree → Bool
 owns_none t = is_empty (owned t)
@@ -76,10 +73,10 @@ to_numbers k [] = []
 to_numbers k (e ∷ es) = (e.0, record { index = k }) ∷ to_numbers (suc k) es
 
 -- new resources came in the places of the old ones, with their paths
-pub record Replaced (a b : Arena) (map : Map) (old new : Paths) : Type 0 where
+pub record Replaced (a b : Arena) (map map' : Map) (old new : Paths) : Type 0 where
   pub arena : b ≡ more_given a (length old)
-  pub resources : map.resources ≡ to_numbers a.resources old
-  pub types : map.types ≡ []
+  pub resources : map'.resources ≡ map.resources ++ to_numbers a.resources old
+  pub types : map'.types ≡ map.types
   pub paths : new ≡ renumbered a.resources old
 
 -- ## Its exports

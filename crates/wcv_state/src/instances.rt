@@ -24,14 +24,14 @@ use wcv_types::{
     NodeStore, Paths, ResourceId, ResourceSet, Steps, TypeAlloc,
 };
 
-/// An instance of an instance type, and the resources that are new in it, each with the first path to it.
+/// An instance of an instance type or of a component, and the resources that are new in it, each with a path to it.
 #[derive(Drop)]
 pub struct NewInstance {
     pub ty: ComponentInstanceTypeId,
     pub resources: Paths,
 }
 
-/// What an instance type exports, and the resources that it owns, each with the first path to it.
+/// What a type exports, and the resources that become new in its instances, each with a path to it.
 #[derive(Drop)]
 pub struct Opened {
     pub exports: ItemMap,
@@ -40,7 +40,7 @@ pub struct Opened {
 
 /// Whether the type owns no resource.
 #[tactic(auto, using(crate::proofs::OpenedType::closed_is))]
-fn is_closed(types: &TypeAlloc, id: ComponentInstanceTypeId) -> bool
+pub fn is_closed(types: &TypeAlloc, id: ComponentInstanceTypeId) -> bool
     requires { Stands types.now (part.Instance id) }
     ensures { result ≡ owns_none (tree_at types.now (part.Instance id)) }
 {
@@ -86,14 +86,14 @@ fn replace_resource(
 }
 
 /// So do new resources in the places of those that a type owns.
-fn replace_resources(
+pub(crate) fn replace_resources(
     types: &mut TypeAlloc,
     owned: &Paths,
     map: &mut Remapping,
 ) -> Result<Paths, OutOfMemory>
-    requires { map.old ≡ record { resources = []; types = [] } }
+    requires { All (λ e. resource_to map.old e.0 ≡ None) owned.now }
     ensures grown { Extends types.old types.new }
-    ensures ok { IfOk result (λ paths. Replaced types.old types.new map.new owned.now paths) }
+    ensures ok { IfOk result (λ paths. Replaced types.old types.new map.old map.new owned.now paths) }
 {
     let mut paths = Paths::new(types.allocator());
     for k in 0..owned.len() {
@@ -160,7 +160,7 @@ fn push_remapped<L: Ledger>(
 }
 
 /// What the map makes of the exports.
-fn remapped_exports<L: Ledger>(
+pub(crate) fn remapped_exports<L: Ledger>(
     types: &mut TypeAlloc,
     exports: &ItemMap,
     map: &mut Remapping,
@@ -184,7 +184,7 @@ fn remapped_exports<L: Ledger>(
 
 /// An instance type that owns nothing, with these exports.
 #[tactic(auto, using(crate::proofs::OpenedType::instance_pushed))]
-fn push_instance(
+pub fn push_instance(
     types: &mut TypeAlloc,
     exports: ItemMap,
 ) -> Result<ComponentInstanceTypeId, OutOfMemory>

@@ -11,15 +11,19 @@ ghost use Rattle.wcv_lower.specs.Trees.{Tree_context};
 ghost use Rattle.wcv_state.specs.Bringing.{EntityOpened, Found};
 ghost use Rattle.wcv_state.specs.Contents.{marks_aside, context_of, StateStands};
 ghost use Rattle.wcv_state.specs.Instances.{MayOpen, EntityMayOpen};
-ghost use Rattle.wcv_state.specs.Looking.{is_built_entity as built_entity};
-ghost use Rattle.wcv_state.specs.Promises.{MemoryOrCausedBy, Keeps, Grew, Refuses, RefusesBy, if_built, WrittenEntity, ref_checks, Exported, item_checks, Entered, EntryCaused, is_instance_entity, MayJoinExports};
+ghost use Rattle.wcv_state.specs.Looking.{is_built_entity as built_entity, GivesItem};
+ghost use Rattle.wcv_state.specs.Promises.{MemoryOrCausedBy, Keeps, Grew, Refuses, RefusesBy, if_built, WrittenEntity, ref_checks, Exported, ItemCaused, Entered, EntryCaused, is_instance_entity, MayJoinExports};
 
+use crate::ascribing::check_ascribed;
 use crate::bringing::{NewEntity, as_it_is, open_entity};
 use crate::entries::is_built_entity;
-use crate::forms::{exported, unbuilt, written};
+use crate::forms::{exported, item_at, unbuilt, written};
 use crate::state::ComponentState;
 use wcv_core::Error;
-use wcv_syntax::{ComponentExport, ComponentExternName, ComponentImport, ComponentTypeRef};
+use wcv_syntax::{
+    ComponentExport, ComponentExternName, ComponentImport, ComponentTypeRef,
+    is_built_item as is_item_built,
+};
 use wcv_types::{ComponentEntityType, TypeAlloc};
 
 /// What joins of an entity, which has to be of a sort that is built.
@@ -77,7 +81,7 @@ impl ComponentState {
         requires stands { StateStands types.old self.now }
         requires opens { MayOpen types.old self.now.spaces.types ty.now }
         ensures built { OnOk result (is_built_ref ty.now ≡ true) }
-        ensures ok { IfOk result (λ n. Found types.old types.new n (written_checks (context_of types.old self.now) ty.now) (λ k. rules.written k (context_of types.old self.now) ty.now)) }
+        ensures ok { IfOk result (λ n. Found types.old types.new n (λ k. written_checks (context_of types.old self.now) ty.now) (λ k. rules.written k (context_of types.old self.now) ty.now)) }
         ensures grown { Extends types.old types.new }
         ensures err { IfErr result (MemoryOrCausedBy (ref_checks (context_of types.old self.now) ty.now) offset) }
     {
@@ -119,8 +123,43 @@ impl ComponentState {
         }
     }
 
-    /// The entity of an exported item, which may be handed to `add_export` next. Refuses an index that is not below the length as `OutOfBounds`, and a
-    /// form that is not built yet as `Unbuilt`.
+    /// The entity of an exported item: what stands at the index, a type created again, or what the written type
+    /// gives.
+    fn exported_entity(
+        &self,
+        export: &ComponentExport,
+        types: &mut TypeAlloc,
+        offset: u64,
+    ) -> Result<ComponentEntityType, Error>
+        requires { StateStands types.old self.now }
+        ensures built { OnOk result (is_built_item export.now ≡ true) }
+        ensures ok { IfOk result (GivesItem types.old types.new self.now.spaces export.now export.now.ty) }
+        ensures grown { Extends types.old types.new }
+        ensures err { IfErr result (λ e. (p : Place) → ItemCaused types.old types.new p self.now export.now offset e) }
+    {
+        if !is_item_built(export) {
+            return Err(Error::from(unbuilt(offset)));
+        }
+        match &export.ty {
+            None => {
+                let entity = exported(&self.spaces, export, types, offset)?;
+                Ok(entity)
+            }
+            Some(ty) => {
+                let item = item_at(&self.spaces, export.kind, export.index, offset)?;
+                let entity = written(&self.spaces, ty, types, offset)?;
+                match check_ascribed(types, &item, &entity, offset) {
+                    Ok(()) => Ok(entity),
+                    Err(error) => Err(error),
+                }
+            }
+        }
+    }
+
+    /// The entity of an exported item, which may be handed to `add_export` next: where a type is written beside it,
+    /// what that gives. Refuses an index that is not below the length as `OutOfBounds`, what `check_type_ref` refuses
+    /// of the written type, an item that does not match it as `Mismatch`, and a form that is not built yet as
+    /// `Unbuilt`. No item matches a type that brings resources of its own.
     pub fn export_to_entity_type(
         &mut self,
         export: &ComponentExport,
@@ -132,13 +171,17 @@ impl ComponentState {
         ensures ok { IfOk result (λ x. (p : Place) → Exported types.old types.new p self.old export.now x) }
         ensures joins { IfOk result (MayJoinExports types.new self.new) }
         ensures same { OnOk result (marks_aside self.new ≡ marks_aside self.old) }
-        ensures err { IfErr result (RefusesBy (item_checks (context_of types.old self.old) export.now) self.new offset) }
+        ensures spent { OnErr result (self.new.spent ≡ true) }
+        ensures err { IfErr result (λ e. (p : Place) → ItemCaused types.old types.new p self.old export.now offset e) }
         ensures keeps { Keeps types.old types.new self.old self.new }
     {
-        self.spent = true;
-        let entity = exported(&self.spaces, export, types, offset)?;
-        self.spent = false;
-        Ok(entity)
+        match self.exported_entity(export, types, offset) {
+            Ok(entity) => Ok(entity),
+            Err(error) => {
+                self.spent = true;
+                Err(error)
+            }
+        }
     }
 
     /// Reads an export of that entity: it joins the exports and the space of its sort. Refuses as
@@ -186,13 +229,17 @@ impl ComponentState {
     ) -> Result<NewEntity, Error>
         requires { StateStands types.old self.now }
         ensures built { OnOk result (is_built_item export.now ≡ true) }
-        ensures ok { IfOk result (λ n. Found types.old types.new n (exported_checks (context_of types.old self.now) export.now) (λ k. rules.exported k (context_of types.old self.now) export.now)) }
+        ensures ok { IfOk result (λ n. Found types.old types.new n (λ k. exported_checks types.old.core k (context_of types.old self.now) export.now) (λ k. rules.exported k (context_of types.old self.now) export.now)) }
         ensures grown { Extends types.old types.new }
-        ensures err { IfErr result (MemoryOrCausedBy (item_checks (context_of types.old self.now) export.now) offset) }
+        ensures err { IfErr result (λ e. (p : Place) → ItemCaused types.old types.new p self.now export.now offset e) }
     {
-        let entity = exported(&self.spaces, export, types, offset)?;
-        let new = as_it_is(entity, types.allocator())?;
-        Ok(new)
+        match self.exported_entity(export, types, offset) {
+            Ok(entity) => {
+                let new = as_it_is(entity, types.allocator())?;
+                Ok(new)
+            }
+            Err(error) => Err(error),
+        }
     }
 
     /// Reads an export item: the exported item joins the exports and the space of its sort. Refuses what

@@ -1,0 +1,45 @@
+// Types that are written beside exported items.
+ghost use Rattle.std.specs.Prelude.{◌≡◌, OnOk, IfErr};
+ghost use Rattle.wcv_types.specs.Entities.{EntityStands};
+ghost use Rattle.wcv_lower.specs.Checks.{IsFree};
+ghost use Rattle.wcv_state.specs.Looking as looking;
+ghost use Rattle.wcv_state.specs.Looking.{ascribed_id_checks};
+ghost use Rattle.wcv_state.specs.Promises.{MemoryOrCausedBy};
+
+use crate::instances::is_closed;
+use crate::resources::introduced;
+use wcv_core::{Error, ErrorKind, Why};
+use wcv_subtype::component_entity_type;
+use wcv_types::{ComponentEntityType, TypeAlloc};
+
+/// Whether the entity brings resources of its own where it joins.
+fn brings_own(types: &TypeAlloc, ty: &ComponentEntityType) -> bool
+    requires { EntityStands types.now ty.now }
+    ensures { result ≡ looking.brings_own types.now ty.now }
+{
+    match ty {
+        ComponentEntityType::Instance(id) => !is_closed(types, *id),
+        _ => introduced(ty).is_some(),
+    }
+}
+
+/// Whether the item has the type that is written beside it, which may bring no resources of its own.
+pub fn check_ascribed(
+    types: &TypeAlloc,
+    item: &ComponentEntityType,
+    ty: &ComponentEntityType,
+    offset: u64,
+) -> Result<(), Error>
+    requires item { EntityStands types.now item.now }
+    requires ty { EntityStands types.now ty.now }
+    ensures ok { OnOk result (IsFree (ascribed_id_checks types.now item.now ty.now)) }
+    ensures err { IfErr result (MemoryOrCausedBy (ascribed_id_checks types.now item.now ty.now) offset) }
+{
+    types.nodes_fit();
+    let _count = types.core_types().len();
+    if brings_own(types, ty) {
+        let why = Why::new("no item has a type that brings resources of its own");
+        return Err(Error::from(Error::new(ErrorKind::Mismatch, offset, why)));
+    }
+    component_entity_type(types, item, ty, offset)
+}
