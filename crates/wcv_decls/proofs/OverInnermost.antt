@@ -17,7 +17,7 @@ use Rattle.wcv_lower.specs.Context.{is_concrete}
 use Rattle.wcv_lower.specs.DeclaredCalls.{TypeRead, TypeRefused, DeclRead}
 use Rattle.wcv_lower.specs.Given.{names_of, none_given}
 use Rattle.wcv_lower.specs.Names.{Names}
-use Rattle.wcv_lower.specs.Owned.{IsLed}
+use Rattle.wcv_lower.specs.Owned.{ItemRegular, IsLed}
 use Rattle.wcv_lower.specs.Trees.{Tree_context, Tree_stack, tree_maker}
 use Rattle.wcv_lower.specs.Types.{type_checks}
 use Rattle.wcv_state.specs.Contents.{Contents, spent, context_of, stack_of}
@@ -68,8 +68,8 @@ module _ (a b : Arena) (ss ss' : List Contents) (w : ChangesLast stay ss ss') (h
     pub export_reads : (n : ComponentExternName) (r : ComponentTypeRef) → ((p : Place) → ExportDeclared a b cs p w.old w.new n r) → ReadsDecl a b ss ss' (export_decl n r)
     export_reads n r g = read_over (export_decl n r) (λ p. export_read a b cs p w.old n r w.new (g p))
 
-    pub grown_stays : (f : Form) → Grew a b cs [] w.old w.new f → StayReady b ss ss'
-    grown_stays f g = stays a b ss ss' w h.each k g.live (grown_calm a b cs w.old w.new k (old_calm a b ss ss' w h.calm) f g)
+    pub grown_stays : (f : Form) → ((top : Tree_context) → ItemRegular top f) → Grew a b cs [] w.old w.new f → StayReady b ss ss'
+    grown_stays f regular g = stays a b ss ss' w h.each k g.live (grown_calm a b cs w.old w.new k (old_calm a b ss ss' w h.calm) f regular g)
 
     pub export_stays : (n : ComponentExternName) (r : ComponentTypeRef) → w.new.spent ≡ false → ExportDeclared a b cs [] w.old w.new n r → StayReady b ss ss'
     export_stays n r live g = stays a b ss ss' w h.each k live (export_calm a b cs w.old w.new k (old_calm a b ss ss' w h.calm) n r g)
@@ -115,7 +115,7 @@ module _ (a b : Arena) (ss ss' : List Contents) (h : AreReady a ss) (kept : Keep
         (core_read a b (outer_contexts a b ss ss' w) p w.old w.new t (f p).grew)
 
     pub core_stays : StayReady b ss ss'
-    core_stays = grown_stays a b ss ss' (f []).last h own_kept (core_type_item t) (f []).grew
+    core_stays = grown_stays a b ss ss' (f []).last h own_kept (core_type_item t) (λ top. tt) (f []).grew
 
     pub core_body : DeclaresInstance a ss → DeclaresInstance b ss'
     core_body = core_declares a b ss ss' (f []).last h own_kept t (f []).grew

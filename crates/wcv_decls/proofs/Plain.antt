@@ -105,4 +105,4 @@ module _ (fs : WasmFeatures) (mk : Maker tree_reader) (s u : Tree_stack) where
 -- the stack stays calm
 pub plain_calm : (a b : Arena) (s s' : Contents) (outer : List Tree_context) (t : Type_form) → Declares a b s s' t → IsCalm (numbers_of a) (stack_of a s outer) → IsCalm (numbers_of b) (stack_of b s' outer)
 plain_calm a b s s' outer t w c =
-    calm_grows (Under []) (numbers_of a) (numbers_of b) (w.given_names []) [] (stack_of a s outer) (grown_numbers a b w.keeps.arena) (w.given []) c s.features (stack_of b s' outer) (type_item t) (own_given b s' w.keeps.stands) (w.grown outer [])
+    calm_grows (Under []) (numbers_of a) (numbers_of b) (w.given_names []) [] (stack_of a s outer) (grown_numbers a b w.keeps.arena) (w.given []) c s.features (stack_of b s' outer) (type_item t) tt (own_given b s' w.keeps.stands) (w.grown outer [])

@@ -32,7 +32,7 @@ use Rattle.wcv_lower.specs.Entries.{extern_name, import_checks, written}
 use Rattle.wcv_lower.specs.Given.{GivenNames, names_of, GivesAt}
 use Rattle.wcv_lower.specs.Growth.{grow, call_checks, unbuilt}
 use Rattle.wcv_lower.specs.Names.{Under}
-use Rattle.wcv_lower.specs.Owned.{IsCalm, IsLed}
+use Rattle.wcv_lower.specs.Owned.{ItemRegular, IsCalm, IsLed}
 use Rattle.wcv_lower.specs.Readers.{Maker}
 use Rattle.wcv_lower.specs.Step.{core_appends, interns, introduces, lists, creates, change, Step, Brought, apply, joins, enters}
 use Rattle.wcv_lower.specs.Trees.{Tree_context, Tree_stack, tree_reader, tree_maker}
@@ -96,8 +96,9 @@ module _ (a b : Arena) (outer : List Tree_context) (p : Place) (s : Contents) wh
 -- ## The stack stays calm
 
 module _ (a b : Arena) (outer : List Tree_context) (s s' : Contents) (k : Keeps a b s s') (c : IsCalm (numbers_of a) (stack_of a s outer)) where
-  pub grown_calm : (f : Form) → Grew a b outer [] s s' f → IsCalm (numbers_of b) (stack_of b s' outer)
-  grown_calm f w = calm_grows (Under []) (numbers_of a) (numbers_of b) w.names [] (stack_of a s outer) (grown_numbers a b k.arena) w.given c s.features (stack_of b s' outer) f (own_given b s' k.stands) w.grown
+  pub grown_calm : (f : Form) → ((top : Tree_context) → ItemRegular top f) → Grew a b outer [] s s' f → IsCalm (numbers_of b) (stack_of b s' outer)
+  grown_calm f regular w =
+      calm_grows (Under []) (numbers_of a) (numbers_of b) w.names [] (stack_of a s outer) (grown_numbers a b k.arena) w.given c s.features (stack_of b s' outer) f (regular (stack_of a s outer).top) (own_given b s' k.stands) w.grown
 
   pub export_calm : (n : ComponentExternName) (r : ComponentTypeRef) → ExportDeclared a b outer [] s s' n r → IsCalm (numbers_of b) (stack_of b s' outer)
   export_calm n r w = calm_exports (Under []) (numbers_of a) (numbers_of b) w.names [] (stack_of a s outer) (grown_numbers a b k.arena) w.given c (stack_of b s' outer) n r (own_given b s' k.stands) w.read

@@ -15,6 +15,7 @@ mod declared_limits;
 mod defined;
 mod features;
 mod func;
+mod instance_limits;
 mod limits;
 mod lists;
 mod lower;
@@ -35,6 +36,7 @@ pub use core_limits::{
 };
 pub use core_module::add_core_module_to;
 pub use declared_limits::check_declared_limits;
+pub use instance_limits::check_component_instance_limits;
 pub use limits::check_limits;
 pub use name_texts::check_name;
 pub use stack::Declare;

@@ -63,7 +63,7 @@ returns-clause-ready c =
     let here : s ≡ innermost ss = c.index_mut.ensures.value ∙ indexed ss k s c.requires.ready.some last in
     let w : ChangesLast stay ss (slice_set ss k t) = last_changed ss k s t c.requires.ready.some last here in
     let cs : List Tree_context = contexts_around a (around ss) in
-    on_ok_weaker c.add_import.result (λ f. grown_stays a b ss (slice_set ss k t) w c.requires.ready c.add_import.ensures.keeps (import_item c.args.import) (f cs [])) c.add_import.ensures.ok
+    on_ok_weaker c.add_import.result (λ f. grown_stays a b ss (slice_set ss k t) w c.requires.ready c.add_import.ensures.keeps (import_item c.args.import) (λ top. tt) (f cs [])) c.add_import.ensures.ok
 
 pub returns-clause-err : goal.returns-clause-err
 returns-clause-err c =

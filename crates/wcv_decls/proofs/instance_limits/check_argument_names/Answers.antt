@@ -1,0 +1,22 @@
+use Rattle.std.proofs.Common.{arith, subst, sym}
+use Rattle.std.proofs.lemmas.Result.{err_from_is_err_and}
+use Rattle.wcv_syntax.specs.declared.instance.ComponentInstantiationArg.{ComponentInstantiationArg}
+use Rattle.wcv_lower.specs.Instances.{argument_names}
+use Rattle.wcv_lower.specs.Checks.{IsFree, too_long}
+use Rattle.wcv_state.specs.Promises.{MemoryOrCausedBy}
+use Rattle.wcv_decls.proofs.Texts.{named_at, texts_caused, texts_push}
+use Rattle.wcv_decls.proofs.instance_limits.check_argument_names.Goals as goal
+
+pub returns-in_err-check_text-clause-err : goal.returns-in_err-check_text-clause-err
+returns-in_err-check_text-clause-err c =
+    let p = err_from_is_err_and c.from_residual.result c.from_residual.ensures.1 in
+    let x = c.index-args-k.result in
+    rw (p.1, p.2)
+    (texts_caused (argument_names c.args.args.now) c.loop-k.k x.name (named_at (λ (y : ComponentInstantiationArg). y.name) c.args.args.now c.loop-k.k x (omega arith) c.index-args-k.is) c.args.offset c.in_err-check_text.field-0.0
+    (subst (λ (y : ComponentInstantiationArg). MemoryOrCausedBy (too_long y.name) c.args.offset c.in_err-check_text.field-0.0) (sym c.index-args-k.is) c.in_err-check_text.ensures.err))
+
+pub loop-k-preserved : goal.loop-k-preserved
+loop-k-preserved c =
+    let x = c.index-args-k.result in
+    texts_push (argument_names c.args.args.now) c.loop-k.k x.name (named_at (λ (y : ComponentInstantiationArg). y.name) c.args.args.now c.loop-k.k x (omega arith) c.index-args-k.is) c.loop-k.invariant
+    (subst (λ (y : ComponentInstantiationArg). IsFree (too_long y.name)) (sym c.index-args-k.is) c.in_ok-check_text.ensures.ok)
