@@ -1,16 +1,17 @@
 -- What an import or an export does to a context: it lists the resources that the entry brings, each with a path that leads to it.
 use Rattle.std.proofs.Common.{◌≡◌, ℕ, zero, suc, List, [], ◌∷◌, ◌++◌, length, true, false, refl, sym, ap, subst, inl, inr, Some, None, ◌⊎◌}
-use Rattle.std.specs.Prelude.{All, slice_get}
+use Rattle.std.specs.Prelude.{All, Option, slice_get}
 use Rattle.std.specs.Option.{option_map}
 use Rattle.std.proofs.lemmas.Bool.{false≢true}
 use Rattle.std.proofs.lemmas.List.Elements.{All-append, All-nil, All-cons, All-head, All-tail, All-weaker}
 use Rattle.wcv_core.specs.Names.{Name, Place, base, at}
-use Rattle.wcv_syntax.specs.Built.{is_built_ref}
+use Rattle.wcv_syntax.specs.Built.{is_built_ref, is_built_written}
 use Rattle.wcv_syntax.specs.declared.component_type.ComponentTypeRef.{ComponentTypeRef}
 use Rattle.wcv_syntax.specs.declared.component_type.ComponentTypeRef.TheVariants as ref
 use Rattle.wcv_syntax.specs.declared.component_type.TypeBounds.TheVariants as bounds
 use Rattle.wcv_syntax.specs.declared.instance.ComponentExternalKind.{ComponentExternalKind}
 use Rattle.wcv_syntax.specs.declared.instance.ComponentExternalKind.TheVariants as kind
+use Rattle.wcv_syntax.specs.declared.name.ComponentExport.{ComponentExport}
 use Rattle.wcv_types.specs.FirstPath.{first_path}
 use Rattle.wcv_types.specs.Led.{HasPath}
 use Rattle.wcv_types.specs.Paths.{PathLeadsTo}
@@ -19,7 +20,7 @@ use Rattle.wcv_types.specs.Tree.{Extern_name, Sort, is_func, is_instance, is_com
 use Rattle.wcv_types.proofs.Lists.{some-inj, map-map}
 use Rattle.wcv_lower.specs.Checks.{same_sort}
 use Rattle.wcv_lower.specs.Context.{Space, in_types, in_funcs, in_values, in_instances, in_components, core_modules, Side, importing, exporting, is_concrete, placed, unknown}
-use Rattle.wcv_lower.specs.Entries.{module_type_at, again_brought, new_resource, written, items_of, exported_as}
+use Rattle.wcv_lower.specs.Entries.{module_type_at, again_brought, new_resource, written, items_of, exported_at, exported_as, exported_by}
 use Rattle.wcv_lower.specs.Names.{names_by_place}
 use Rattle.wcv_lower.specs.NewTypes.{new_reference, path_or_none}
 use Rattle.wcv_lower.specs.Owned.{OwnsNot, IsLed}
@@ -30,9 +31,9 @@ use Rattle.wcv_lower.proofs.Bringing.{of_some, type_has}
 use Rattle.wcv_lower.proofs.Owning.{owns_not_inherited}
 use Rattle.wcv_link.proofs.Growing.{Leads, Ready, AreNew, Adds, Does, SameLists, same-leads, same-led, nothing-new}
 use Rattle.wcv_link.proofs.Having.{Has, has-right, has-beside, has-beside_back, once-beside}
-use Rattle.wcv_link.proofs.Known.{mapped-some, all-get, Fine, created-fine, In, Any, After, enters-bring, in-apply}
+use Rattle.wcv_link.proofs.Known.{mapped-some, then-some, all-get, Fine, created-fine, In, Any, After, enters-bring, in-apply}
 use Rattle.wcv_link.proofs.Looking.{FineType, sorted-here, again-fine, reference-fine, type-fine, sorted-fine, sorted-sort, plain-fine, module-fine}
-use Rattle.wcv_link.proofs.Instances.{free-opened, brought-placed, opened-once, opened-leads}
+use Rattle.wcv_link.proofs.OpenedInstances.{free-opened, brought-placed, opened-once, opened-leads}
 use Rattle.wcv_link.proofs.Placed.{PlacedAt}
 use Rattle.wcv_link.proofs.Sound.{instance-sound}
 
@@ -220,3 +221,10 @@ module _ (p : Place) (s : Tree_stack) (h : Ready p s.top) where
   export-does n kind.Module i b e =
       let m = mapped-some (bare tree_reader) (slice_get (s.top.core core_modules) i) b e in
       subst (Enters exporting n) m.2 (bare-does exporting n m.0 (all-get (Fine (In s.top)) (s.top.core core_modules) i m.0 (h.fine.core core_modules) m.1))
+
+  -- an exported item, with a type that is written beside it or without
+  pub exported-does : (n : Extern_name) (x : ComponentExport) (o : Option ComponentTypeRef) (b : Brought tree_reader) → is_built_written o ≡ true → exported_by (tree_maker names_by_place p) s.top x o ≡ Some b → Does exporting p s (enters exporting n b)
+  exported-does n x None b i e = export-does n x.kind x.index b e
+  exported-does n x (Some r) b i e =
+      let m = then-some (λ y. written (tree_maker names_by_place p) s.top r) (exported_at s.top x) b e in
+      written-does exporting n r b i m.2

@@ -6,13 +6,14 @@ use Rattle.wcv_core.specs.declared.error.Error.{Error}
 use Rattle.wcv_syntax.specs.Built.{is_plain, is_built_type}
 use Rattle.wcv_syntax.specs.Model.{Form, Type_form, type_item}
 use Rattle.wcv_types.specs.Arena.{Arena}
+use Rattle.wcv_types.specs.Standing.{AllFit}
 use Rattle.wcv_types.proofs.Grown.{extends_refl}
 use Rattle.wcv_lower.specs.Checks.{IsFree}
 use Rattle.wcv_lower.specs.Declared.{declared_left}
 use Rattle.wcv_lower.specs.Given.{names_of}
 use Rattle.wcv_lower.specs.Growth.{left_checks, unbuilt}
 use Rattle.wcv_lower.specs.Names.{Under}
-use Rattle.wcv_lower.specs.Owned.{IsCalm}
+use Rattle.wcv_lower.specs.Owned.{ItemRegular, IsCalm}
 use Rattle.wcv_lower.specs.Trees.{Tree_context, tree_maker}
 use Rattle.wcv_lower.proofs.CalmGrowth.{calm_grows}
 use Rattle.wcv_state.specs.Contents.{Contents, context_of, stack_of}
@@ -25,6 +26,7 @@ use Rattle.wcv_decls.proofs.Plain.{own_given}
 use Rattle.wcv_decls.proofs.ReadingOn.{grown_numbers, extends_on, innermost_kept}
 use Rattle.wcv_decls.proofs.SimpleDecls as simple
 use Rattle.wcv_link.specs.Progress.{IsReady, RefusedAt, TakesItem, TakenOn, AcceptsItem, RefusesItem, LeavesItem, AllMayOpen}
+use Rattle.wcv_link.proofs.Regular.{item_regular}
 use Rattle.wcv_link.proofs.Steps.{OneStep, grew_here, step_refused, type_grew, type_caused, type_left_caused, caused_same_at}
 
 -- lists that end alike
@@ -69,12 +71,12 @@ module _ (a b : Arena) (ss ss' : List Contents) (h : IsReady a ss) (f : Form) (t
         record { taken = taken; ready = record { some = r.some; usable = r.each; calm = calm_all b ss' r.calm }; arena = keeps.arena }
 
     -- what is read in one step leaves them calm
-    pub accepts_step : OneStep f → AcceptsItem a b ss ss' f
-    accepts_step one =
+    pub accepts_step : OneStep f → ItemRegular (context_of a last.old) f → AcceptsItem a b ss ss' f
+    accepts_step one regular =
         let g = (taken []).grew in
         accepts_so
         (calm_grows (Under []) (numbers_of a) (numbers_of b) g.names [] (stack_on a last.outer last.old) (grown_numbers a b keeps.arena) g.given (h.calm last.outer last.old last.was)
-        last.old.features (stack_of b last.new (outer_contexts a b ss ss' last)) f (own_given b last.new keeps.stands)
+        last.old.features (stack_of b last.new (outer_contexts a b ss ss' last)) f regular (own_given b last.new keeps.stands)
         (sym (one.read last.old.features (tree_maker (names_of g.names)) [] (stack_on a last.outer last.old)) ∙ g.grown))
 
     -- a type is said to
@@ -82,7 +84,7 @@ module _ (a b : Arena) (ss ss' : List Contents) (h : IsReady a ss) (f : Form) (t
     accepts_calm calm = accepts_so (subst (λ (cs : List Tree_context). IsCalm (numbers_of b) (stack_of b last.new cs)) (taken []).around (calm last.outer last.new last.becomes))
 
 -- a state took it
-module _ (a b : Arena) (ss : List Contents) (k : ℕ) (s s' : Contents) (e : k ≡ length ss - 1) (i : s ≡ slice_index_or ss k s) (h : IsReady a ss) (f : Form) (one : OneStep f) (w : TakesItem a b s s' f) where
+module _ (a b : Arena) (ss : List Contents) (k : ℕ) (s s' : Contents) (e : k ≡ length ss - 1) (i : s ≡ slice_index_or ss k s) (h : IsReady a ss) (f : Form) (one : OneStep f) (fit : AllFit a) (w : TakesItem a b s s' f) where
   abbrev taken_last : (p : Place) → TakenOn a b p ss (slice_set ss k s') f
   taken_last p = record {
     last = last_changed ss k s s' h.some e (is_innermost ss k s h.some e i);
@@ -92,7 +94,7 @@ module _ (a b : Arena) (ss : List Contents) (k : ℕ) (s s' : Contents) (e : k �
   }
 
   pub accepts_last : AcceptsItem a b ss (slice_set ss k s') f
-  accepts_last = accepts_step a b ss (slice_set ss k s') h f taken_last w.keeps w.live one
+  accepts_last = accepts_step a b ss (slice_set ss k s') h f taken_last w.keeps w.live one (item_regular a s (last_open a ss k s e i h).stands fit f)
 
 -- a state left it
 pub refuses_last : {M : Type 0} (a b : Arena) (ss : List Contents) (k : ℕ) (s : Contents) (e : k ≡ length ss - 1) (some : 0 < length ss) (i : s ≡ slice_index_or ss k s) (f : Form) (offset : ℕ) (x : Error M) →
@@ -113,7 +115,7 @@ module _ (a b : Arena) (ss ss' : List Contents) (h : IsReady a ss) (keeps : Keep
       (subst (Keeps a b (innermost ss)) (ap innermost last.becomes ∙ innermost_at last.outer last.new) (innermost_kept a b ss ss' h.some keeps))
 
   -- an item that is read in one step was taken
-  module _ (f : Form) (one : OneStep f) (built : is_plain f ≡ true) (left : (s : Contents) → IsFree (left_checks (context_of a s) f)) (grew : (p : Place) → GrewOn a b p ss ss' f) where
+  module _ (f : Form) (one : OneStep f) (regular : (s : Contents) → ItemRegular (context_of a s) f) (built : is_plain f ≡ true) (left : (s : Contents) → IsFree (left_checks (context_of a s) f)) (grew : (p : Place) → GrewOn a b p ss ss' f) where
     abbrev one_taken : (p : Place) → TakenOn a b p ss ss' f
     one_taken p =
         let g = grew p in
@@ -125,7 +127,7 @@ module _ (a b : Arena) (ss ss' : List Contents) (h : IsReady a ss) (keeps : Keep
         }
 
     pub accepts_one : AcceptsItem a b ss ss' f
-    accepts_one = accepts_step a b ss ss' h f one_taken (kept_last (grew []).last) (grew []).grew.live one
+    accepts_one = accepts_step a b ss ss' h f one_taken (kept_last (grew []).last) (grew []).grew.live one (regular (grew []).last.old)
 
   -- a type was
   module _ (t : Type_form) (built : is_built_type t ≡ true) (left : IsFree (declared_left t)) (declares : (p : Place) → DeclaresOn true a b p ss ss' t) where

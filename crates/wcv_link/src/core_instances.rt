@@ -37,33 +37,8 @@ use wcv_types::{
     InstanceType, TypeAlloc, TypeInfo, core_instance_of,
 };
 
-/// A state to which instances are added.
-pub trait Instantiate: Sized {
-    ghost use Rattle.wcv_state.specs.Contents.{Contents};
-
-    /// What the state holds.
-    ghost contents: { Self → Contents };
-
-    /// One more core instance: of a core module, whose imports the arguments serve by their names, or one that lists
-    /// core items. Refuses an index that is not below the length of its space as `OutOfBounds`, an import that no
-    /// argument serves as `Mismatch`, a name that stands twice as `Conflict`, a tag without its feature as `Feature`,
-    /// and more instances, or a larger list, than there may be as `Limit`. Arguments that the module does not ask for are
-    /// looked up, and passed over. The lengths of lists and of texts are left to the caller. After an error the state is
-    /// spent.
-    fn add_core_instance(
-        &mut self,
-        instance: Instance,
-        types: &mut TypeAlloc,
-        offset: u64,
-    ) -> Result<(), Error>
-        requires open { IsOpen types.old (contents self.old) }
-        ensures ok { OnOk result ((outer : List Tree_context) (p : Place) → Grew types.old types.new outer p (contents self.old) (contents self.new) (core_instance_item (core_instance_view instance))) }
-        ensures err { IfErr result (λ e. (outer : List Tree_context) (p : Place) → Refuses types.old types.new outer p (contents self.old) (contents self.new) (core_instance_item (core_instance_view instance)) offset e) }
-        ensures keeps { Keeps types.old types.new (contents self.old) (contents self.new) };
-}
-
 /// Whether the names of a list differ. What has them is for the message.
-fn check_differ<V>(
+pub fn check_differ<V>(
     alloc: Global,
     entries: &[(Text, V)],
     what: &'static str,
@@ -77,7 +52,7 @@ fn check_differ<V>(
         let name = entries[k].0.as_str();
         let copy = String::from_str(alloc, name)?;
         if seen.insert(copy)?.is_some() {
-            let why = Why::new("two %ws of the core instance have the name `%n`");
+            let why = Why::new("two %w have the name `%n`");
             let why = why.word(what).name(name);
             return Err(Error::from(Error::new(ErrorKind::Conflict, offset, why)));
         }
@@ -86,7 +61,7 @@ fn check_differ<V>(
 }
 
 /// Whether there is room for one more instance.
-fn check_room(
+pub fn check_room(
     state: &ComponentState,
     types: &TypeAlloc,
     offset: u64,
@@ -226,7 +201,7 @@ fn of_module(
     let id = state.module_at(module_index, offset)?;
     let found = find_args(alloc, args, state, offset)?;
     let list = found.as_slice();
-    check_differ(alloc, list, "argument", offset)?;
+    check_differ(alloc, list, "arguments of the core instance", offset)?;
     check_room(state, types, offset)?;
     check_served(types, list, id, offset)?;
     Ok(core_instance_of(types, id))
@@ -273,7 +248,7 @@ fn of_exports(
     let alloc = types.allocator();
     let found = find_items(alloc, exports, state, offset)?;
     let list = found.as_slice();
-    check_differ(alloc, list, "export", offset)?;
+    check_differ(alloc, list, "exports of the core instance", offset)?;
     check_room(state, types, offset)?;
     let size = check_size(types.core_types(), list, offset)?;
     Ok(listing(found, size, types))
@@ -326,26 +301,26 @@ fn join_instance(
     }
 }
 
-impl Instantiate for ComponentState {
-    ghost use Rattle.wcv_state.specs.Contents.{Contents};
-
-    ghost contents = { λ s. s };
-
-    fn add_core_instance(
-        &mut self,
-        instance: Instance,
-        types: &mut TypeAlloc,
-        offset: u64,
-    ) -> Result<(), Error> {
-        match instance_made(instance, self, types, offset) {
-            Ok(shape) => match join_instance(shape, self, types) {
-                Ok(()) => Ok(()),
-                Err(error) => Err(Error::from(error)),
-            },
-            Err(error) => {
-                self.mark_spent();
-                Err(error)
-            }
+/// The core instance that an item makes joins the state. After an error the state is spent.
+pub fn add_core_instance(
+    instance: Instance,
+    state: &mut ComponentState,
+    types: &mut TypeAlloc,
+    offset: u64,
+) -> Result<(), Error>
+    requires open { IsOpen types.old state.old }
+    ensures ok { OnOk result ((outer : List Tree_context) (p : Place) → Grew types.old types.new outer p state.old state.new (core_instance_item (core_instance_view instance))) }
+    ensures err { IfErr result (λ e. (outer : List Tree_context) (p : Place) → Refuses types.old types.new outer p state.old state.new (core_instance_item (core_instance_view instance)) offset e) }
+    ensures keeps { Keeps types.old types.new state.old state.new }
+{
+    match instance_made(instance, state, types, offset) {
+        Ok(shape) => match join_instance(shape, state, types) {
+            Ok(()) => Ok(()),
+            Err(error) => Err(Error::from(error)),
+        },
+        Err(error) => {
+            state.mark_spent();
+            Err(error)
         }
     }
 }

@@ -1,19 +1,22 @@
-// Reading core types, core modules, core instances and aliases.
+// Reading core types, core modules, instances, core instances and aliases.
 ghost use Rattle.std.specs.Prelude.{map, OnOk, IfErr};
-ghost use Rattle.wcv_syntax.specs.Model.{core_type_item, core_module_item, core_instance_item, alias_item};
-ghost use Rattle.wcv_syntax.specs.View.{core_type_view, code_decl_view, core_instance_view};
+ghost use Rattle.wcv_syntax.specs.Model.{core_type_item, core_module_item, core_instance_item, instance_item, alias_item};
+ghost use Rattle.wcv_syntax.specs.View.{core_type_view, code_decl_view, core_instance_view, instance_view};
 ghost use Rattle.wcv_state.specs.Promises.{Keeps};
 ghost use Rattle.wcv_decls.specs.Stack.{IsOpen};
 ghost use Rattle.wcv_link.specs.Progress.{IsReady, TakesItem, LeavesItem, AcceptsItem, RefusesItem};
 
-use crate::core_instances::Instantiate;
+use crate::instantiate::Instantiate;
 use wcv_core::Error;
 use wcv_decls::{
-    Declare, add_core_module_to, check_alias_limits, check_core_limits, check_core_module_limits,
-    check_instance_limits,
+    Declare, add_core_module_to, check_alias_limits, check_component_instance_limits,
+    check_core_limits, check_core_module_limits, check_instance_limits,
 };
 use wcv_state::{ComponentState, check_form};
-use wcv_syntax::{AliasForm, ComponentAlias, CoreType, Instance, ModuleDecl, is_built_alias};
+use wcv_syntax::{
+    AliasForm, ComponentAlias, ComponentInstance, CoreType, Instance, InstanceForm, ModuleDecl,
+    is_built_alias, is_built_instance,
+};
 use wcv_types::TypeAlloc;
 
 /// Reads a core type into the innermost state: a group of types, or the type of a module.
@@ -61,6 +64,27 @@ pub fn read_core_instance(
 {
     check_instance_limits(&instance, offset)?;
     state.add_core_instance(instance, types, offset)
+}
+
+/// Reads an instance.
+pub fn read_instance(
+    instance: ComponentInstance,
+    state: &mut ComponentState,
+    types: &mut TypeAlloc,
+    offset: u64,
+) -> Result<(), Error>
+    requires open { IsOpen types.old state.old }
+    ensures ok { OnOk result (TakesItem types.old types.new state.old state.new (instance_item (instance_view instance))) }
+    ensures err { IfErr result (LeavesItem types.old types.new state.old (instance_item (instance_view instance)) offset) }
+    ensures keeps { Keeps types.old types.new state.old state.new }
+{
+    check_form(
+        is_built_instance(&instance),
+        InstanceForm(&instance),
+        offset,
+    )?;
+    check_component_instance_limits(&instance, offset)?;
+    state.add_instance(instance, types, offset)
 }
 
 /// Reads an alias into the innermost state.

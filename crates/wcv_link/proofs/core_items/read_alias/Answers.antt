@@ -50,7 +50,7 @@ returns-clause-ok c =
     let back = kept_back a b ss ys _ c.args.components.now.len c.args.components.now.ok.0 keeps in
     subst (λ (xs : List Contents). OnOk c.add_alias.result (AcceptsItem a b ss xs f)) (sym back)
     (on_ok_weaker c.add_alias.result
-    (λ g. accepts_one a b ss ys c.requires keeps f (one_step f refl) built (λ s. c.in_ok-check_alias_limits.ensures.ok)
+    (λ g. accepts_one a b ss ys c.requires keeps f (one_step f refl) (λ s. tt) built (λ s. c.in_ok-check_alias_limits.ensures.ok)
     (λ p. subst (λ (xs : List Contents). GrewOn a b p xs ys f) same (g p)))
     c.add_alias.ensures.ok)
 

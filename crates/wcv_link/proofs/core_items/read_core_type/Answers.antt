@@ -40,7 +40,7 @@ returns-clause-ok c =
     let back = kept_back a b ss ys _ c.args.components.now.len c.args.components.now.ok.0 keeps in
     subst (λ (xs : List Contents). OnOk c.add_core_type.result (AcceptsItem a b ss xs (core_type_item t))) (sym back)
     (on_ok_weaker c.add_core_type.result
-    (λ g. accepts_one a b ss ys c.requires keeps (core_type_item t) (one_step (core_type_item t) refl) refl (λ s. c.in_ok-check_core_limits.ensures.ok)
+    (λ g. accepts_one a b ss ys c.requires keeps (core_type_item t) (one_step (core_type_item t) refl) (λ s. tt) refl (λ s. c.in_ok-check_core_limits.ensures.ok)
     (λ p. subst (λ (xs : List Contents). GrewOn a b p xs ys (core_type_item t)) same (unmapped (λ xs zs. GrewOn a b p xs zs (core_type_item t)) ws ys (g p))))
     c.add_core_type.ensures.ok)
 

@@ -28,7 +28,7 @@ returns-clause-ok c =
     let last : k ≡ length ss - 1 = ap (λ (n : ℕ). n - 1) (c.len-last.ensures ∙ c.args.components.now.ok.0) in
     let f : Form = section_view c.args.section in
     on_ok_weaker c.read_entry.result
-    (λ w. accepts_last c.args.types.now c.read_entry.new.types ss k c.index_mut.result.now c.read_entry.new.state last c.index_mut.ensures.value c.requires.ready f (one_step f (other f c.requires.kind)) w)
+    (λ w. accepts_last c.args.types.now c.read_entry.new.types ss k c.index_mut.result.now c.read_entry.new.state last c.index_mut.ensures.value c.requires.ready f (one_step f (other f c.requires.kind)) c.nodes_fit.ensures.all w)
     c.read_entry.ensures.ok
 
 pub returns-clause-err : goal.returns-clause-err

@@ -1,0 +1,78 @@
+-- Instances that list items, over the ids of a state.
+use Rattle.std.specs.Prelude.{ℕ, List, [], ◌∷◌, ◌++◌, ◌<◌, ◌≤◌, All, Some, is_some, map, true, ◌≡◌}
+use Rattle.std.specs.List.{IsDistinct}
+use Rattle.wcv_core.specs.Limits.{max_depth, max_size}
+use Rattle.wcv_core.specs.Names.{Place, number}
+use Rattle.wcv_core.specs.declared.error.Error.{Error}
+use Rattle.wcv_core.specs.declared.error.ErrorKind.TheVariants as kind
+use Rattle.wcv_core.specs.declared.features.WasmFeatures.{WasmFeatures}
+use Rattle.wcv_syntax.specs.Built.{is_built_instance}
+use Rattle.wcv_syntax.specs.Model.{Instance_form, instance_item}
+use Rattle.wcv_syntax.specs.declared.name.ComponentExport.{ComponentExport}
+use Rattle.wcv_syntax.specs.declared.name.ComponentExternName.{ComponentExternName}
+use Rattle.wcv_types.specs.Arena.{Arena}
+use Rattle.wcv_types.specs.Measure.{size, depth}
+use Rattle.wcv_types.specs.Sets.{same_resource}
+use Rattle.wcv_types.specs.Standing.{Stands}
+use Rattle.wcv_types.specs.Tree.{Text, firsts, instance_type, owned}
+use Rattle.wcv_types.specs.Unfold.{Type_tree, tree_at}
+use Rattle.wcv_types.specs.declared.ids.Part.TheVariants as part
+use Rattle.wcv_types.specs.declared.item_map.ComponentItem.{ComponentItem}
+use Rattle.wcv_types.specs.declared.shapes.ComponentEntityType.{ComponentEntityType}
+use Rattle.wcv_names.specs.Externs.{entry_of}
+use Rattle.wcv_lower.specs.Checks.{Checks, IsFree, too_many}
+use Rattle.wcv_lower.specs.Given.{GivenNames, names_of, GivesAt}
+use Rattle.wcv_lower.specs.Growth.{call_checks}
+use Rattle.wcv_lower.specs.Instances.{instance_checks, instance_made, names_checks}
+use Rattle.wcv_lower.specs.Names.{Under}
+use Rattle.wcv_lower.specs.Trees.{Entries, Tree_context, tree_maker, tree_reader}
+use Rattle.wcv_state.specs.Contents.{Contents, SpaceLists, stack_of}
+use Rattle.wcv_state.specs.Instantiations.{brought_of}
+use Rattle.wcv_state.specs.Looking.{item_id, item_id_checks}
+use Rattle.wcv_state.specs.Promises.{MemoryOrCausedBy, numbers_of}
+use Rattle.wcv_state.specs.declared.instances.NewInstance.{NewInstance}
+
+-- ## What is looked up
+
+-- an item that is listed, by its whole name
+abbrev pub IsListed : SpaceLists → ComponentExport → ComponentExternName × ComponentEntityType → Type 0
+IsListed s e x = (x.0 ≡ e.name) × (item_id s e.kind e.index ≡ Some x.1)
+
+-- items with their names, as the entries of an instance
+abbrev pub as_entries : List (ComponentExternName × ComponentEntityType) → List (Text × ComponentItem)
+as_entries xs = map (λ x. entry_of x.0 x.1) xs
+
+-- a type is written beside it, or there is none
+abbrev pub item_checks : SpaceLists → ComponentExport → Checks
+item_checks s e = (kind.Shape, is_some e.ty) ∷ item_id_checks s e.kind e.index
+
+abbrev pub size_checks : Type_tree → Checks
+size_checks t = too_many max_size (size t) ++ too_many max_depth (depth t)
+
+-- ## What is made
+
+-- the instance is what the item makes at each place, by names that the arena gave, in whatever contexts further out, and the item has no cause
+pub record MadeInstance (a b : Arena) (s : Contents) (i : Instance_form) (m : NewInstance) : Type 0 where
+  pub given_names : Place → GivenNames
+  pub given : (q : Place) → GivesAt (Under q) (numbers_of a) (numbers_of b) (given_names q)
+  pub made : (outer : List Tree_context) (q : Place) → instance_made (tree_maker (names_of (given_names q)) q) (stack_of a s outer) i ≡ Some (brought_of b m)
+  pub free : (outer : List Tree_context) (q : Place) → IsFree (instance_checks s.features (tree_maker (names_of (given_names q)) q) (stack_of a s outer) i)
+  pub built : is_built_instance i ≡ true
+  pub stands : Stands b (part.Instance m.ty)
+  pub alone : owned (tree_at b (part.Instance m.ty)) ≡ []
+  pub fresh : All (λ r. a.resources ≤ r.0.index) m.resources
+  pub below : All (λ r. r.0.index < b.resources) m.resources
+  pub distinct : IsDistinct same_resource (firsts m.resources)
+  pub core : b.core ≡ a.core
+
+-- the error is out of memory, or a cause of the item at each place by names that the arena gave
+pub record CausedInstance {M : Type 0} (a b : Arena) (s : Contents) (i : Instance_form) (offset : ℕ) (e : Error M) : Type 0 where
+  pub given_names : Place → GivenNames
+  pub given : (q : Place) → GivesAt (Under q) (numbers_of a) (numbers_of b) (given_names q)
+  pub caused : (outer : List Tree_context) (q : Place) → MemoryOrCausedBy (call_checks s.features (tree_maker (names_of (given_names q)) q) (stack_of a s outer) (instance_item i)) offset e
+
+-- ## A list of items
+
+-- the names of entries, each beside those before it, and the size and the depth of the instance that lists them
+abbrev pub list_checks : WasmFeatures → Entries → Checks
+list_checks fs es = names_checks tree_reader fs [] es ++ size_checks (instance_type (number 0) [] es)

@@ -1,0 +1,169 @@
+// Instances that list items.
+ghost use Rattle.std.specs.Prelude.{◌≡◌, ◌∷◌, [], List, All, true, OnOk, IfOk, IfErr};
+ghost use Rattle.std.specs.List.{AllZip, list_all};
+ghost use Rattle.wcv_core.specs.Checks.{all_checks};
+ghost use Rattle.wcv_core.specs.Names.{Place};
+ghost use Rattle.wcv_syntax.specs.Built.{is_built_item};
+ghost use Rattle.wcv_syntax.specs.Model.{bag, instance_item};
+ghost use Rattle.wcv_syntax.specs.View.{instance_view};
+ghost use Rattle.wcv_types.specs.Entities.{entry_trees, EntityStands};
+ghost use Rattle.wcv_types.specs.ByName.{NamesDiffer};
+ghost use Rattle.wcv_types.specs.Standing.{Extends};
+ghost use Rattle.wcv_types.specs.Unfold.{trees};
+ghost use Rattle.wcv_lower.specs.Checks.{IsFree};
+ghost use Rattle.wcv_lower.specs.Trees.{Tree_context};
+ghost use Rattle.wcv_state.specs.Contents.{StateStands};
+ghost use Rattle.wcv_state.specs.Looking.{item_id};
+ghost use Rattle.wcv_state.specs.Promises.{MemoryOrCausedBy, Grew, Keeps, Refuses};
+ghost use Rattle.wcv_state.specs.Stack.{IsOpen};
+ghost use Rattle.wcv_link.specs.Instances.{as_entries, item_checks, list_checks, CausedInstance, IsListed, MadeInstance};
+
+use crate::core_instances::check_room;
+use std::alloc::Global;
+use wcv_core::{Error, ErrorKind, ExternKind, Refusal, WasmFeatures, Why};
+use wcv_names::{ComponentNameContext, NameSet};
+use wcv_state::{ComponentState, NewInstance, push_instance, unbuilt};
+use wcv_syntax::{ComponentExport, ComponentExternName, ComponentInstance, is_built_instance};
+use wcv_types::{ComponentEntityType, ItemMap, Paths, TypeAlloc, TypeInfo};
+
+/// The item that an export lists, beside which no type is written.
+fn find_item(
+    export: &ComponentExport,
+    state: &ComponentState,
+    offset: u64,
+) -> Result<ComponentEntityType, Refusal<'static>>
+    requires { is_built_item export.now ≡ true }
+    ensures ok { IfOk result (λ item. item_id state.now.spaces export.now.kind export.now.index ≡ Some item) }
+    ensures free { OnOk result (IsFree (item_checks state.now.spaces export.now)) }
+    ensures err { IfErr result (MemoryOrCausedBy (item_checks state.now.spaces export.now) offset) }
+{
+    if export.ty.is_some() {
+        let why = Why::new("no type may be written beside an item that an instance lists");
+        return Err(Error::new(ErrorKind::Shape, offset, why));
+    }
+    state.item_at(export.kind, export.index, offset)
+}
+
+/// The items that exports list, each by its name.
+fn find_items(
+    alloc: Global,
+    exports: Vec<ComponentExport>,
+    state: &ComponentState,
+    offset: u64,
+) -> Result<Vec<(ComponentExternName, ComponentEntityType)>, Error>
+    requires { list_all is_built_item exports.items ≡ true }
+    ensures ok { IfOk result (λ found. AllZip (IsListed state.now.spaces) exports.items found.items) }
+    ensures free { OnOk result (IsFree (all_checks (item_checks state.now.spaces) exports.items)) }
+    ensures err { IfErr result (MemoryOrCausedBy (all_checks (item_checks state.now.spaces) exports.items) offset) }
+{
+    let mut found = Vec::with_capacity(alloc, exports.len())?;
+    for export in exports {
+        let item = find_item(&export, state, offset)?;
+        found.push((export.name, item))?;
+    }
+    Ok(found)
+}
+
+/// The items as the entries of an instance, where their names may stand beside each other and the instance is not too large.
+fn list_items(
+    found: &[(ComponentExternName, ComponentEntityType)],
+    features: &WasmFeatures,
+    types: &mut TypeAlloc,
+    offset: u64,
+) -> Result<ItemMap, Error>
+    requires { All (λ x. EntityStands types.old x.1) found.now }
+    ensures ok { IfOk result (λ items. items ≡ as_entries found.now) }
+    ensures apart { OnOk result (NamesDiffer (as_entries found.now)) }
+    ensures free { OnOk result (IsFree (list_checks features.now (entry_trees (trees types.old.nodes) (as_entries found.now)))) }
+    ensures err { IfErr result (MemoryOrCausedBy (list_checks features.now (entry_trees (trees types.old.nodes) (as_entries found.now))) offset) }
+    ensures types { types.new ≡ types.old }
+{
+    let alloc = types.allocator();
+    let names = ComponentNameContext::new(alloc);
+    let mut keys = NameSet::new(alloc);
+    let mut items = ItemMap::new(alloc);
+    let mut info = TypeInfo { size: 1, depth: 1 };
+    for k in 0..found.len() {
+        let entry = &found[k];
+        names.validate_extern(
+            &entry.0,
+            ExternKind::Export,
+            &entry.1,
+            types,
+            offset,
+            &mut keys,
+            &mut items,
+            &mut info,
+            features,
+        )?;
+    }
+    Ok(items)
+}
+
+/// An instance that lists what the exports name.
+fn of_exports(
+    exports: Vec<ComponentExport>,
+    state: &ComponentState,
+    types: &mut TypeAlloc,
+    offset: u64,
+) -> Result<NewInstance, Error>
+    requires built { list_all is_built_item exports.items ≡ true }
+    requires stands { StateStands types.old state.now }
+    ensures ok { IfOk result (MadeInstance types.old types.new state.now (bag exports.items)) }
+    ensures err { IfErr result (CausedInstance types.old types.new state.now (bag exports.items) offset) }
+    ensures grown { Extends types.old types.new }
+{
+    let found = find_items(types.allocator(), exports, state, offset)?;
+    check_room(state, types, offset)?;
+    let items = list_items(found.as_slice(), state.features(), types, offset)?;
+    let ty = push_instance(types, items)?;
+    Ok(NewInstance {
+        ty,
+        resources: Paths::new(types.allocator()),
+    })
+}
+
+/// The instance that an item makes.
+fn instance_made(
+    instance: ComponentInstance,
+    state: &ComponentState,
+    types: &mut TypeAlloc,
+    offset: u64,
+) -> Result<NewInstance, Error>
+    requires stands { StateStands types.old state.now }
+    ensures ok { IfOk result (MadeInstance types.old types.new state.now (instance_view instance)) }
+    ensures err { IfErr result (CausedInstance types.old types.new state.now (instance_view instance) offset) }
+    ensures grown { Extends types.old types.new }
+{
+    if !is_built_instance(&instance) {
+        return Err(Error::from(unbuilt(offset)));
+    }
+    match instance {
+        ComponentInstance::Instantiate { args: _args, .. } => unreachable!(),
+        ComponentInstance::FromExports(exports) => of_exports(exports, state, types, offset),
+    }
+}
+
+/// The instance that an item makes joins the state. After an error the state is spent.
+pub fn add_instance(
+    instance: ComponentInstance,
+    state: &mut ComponentState,
+    types: &mut TypeAlloc,
+    offset: u64,
+) -> Result<(), Error>
+    requires open { IsOpen types.old state.old }
+    ensures ok { OnOk result ((outer : List Tree_context) (p : Place) → Grew types.old types.new outer p state.old state.new (instance_item (instance_view instance))) }
+    ensures err { IfErr result (λ e. (outer : List Tree_context) (p : Place) → Refuses types.old types.new outer p state.old state.new (instance_item (instance_view instance)) offset e) }
+    ensures keeps { Keeps types.old types.new state.old state.new }
+{
+    match instance_made(instance, state, types, offset) {
+        Ok(made) => match state.join_instance(&made, types) {
+            Ok(()) => Ok(()),
+            Err(error) => Err(Error::from(error)),
+        },
+        Err(error) => {
+            state.mark_spent();
+            Err(error)
+        }
+    }
+}
