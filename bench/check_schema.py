@@ -5,7 +5,7 @@
 
 The listings that are changed are those in examples/, one for each example of a form in the schema, one for
 each canonical function, and the .json files below each FOLDER; each second change is one of a listing whose
-forms are all built. In six of examples/ (functions, defined, resources, modules, linked and component-type)
+forms are all built. In seven of examples/ (functions, defined, resources, modules, linked, component-type and listed)
 each place is also changed in each way. The same seed makes the same listings. What disagrees is printed, and the last line has
 counts. Needs Python 3.10 and its package `jsonschema`, 4.0, or later versions of both.
 
@@ -42,7 +42,7 @@ FORMS = [key for key in PARTS["item"]["properties"] if key != "at"]
 WHOLE = Draft202012Validator(SCHEMA)
 LONGEST = 8_000  # bytes of a listing of a folder that is changed
 DEEPEST = 127  # levels of nesting that are JSON
-WHOLLY_CHANGED = ("functions.json", "defined.json", "resources.json", "modules.json", "linked.json", "component-type.json")
+WHOLLY_CHANGED = ("functions.json", "defined.json", "resources.json", "modules.json", "linked.json", "component-type.json", "listed.json")
 
 
 class NotJson(Exception):
@@ -154,6 +154,14 @@ def is_built_declaration(declaration):
     return True
 
 
+def is_built_export(export):
+    """So of an export, and of an item that an instance lists."""
+    match export:
+        case {"sort": "value"} | {"type": {"value": _}}:
+            return False
+    return True
+
+
 def is_built(item):
     """Whether an item that has a form is of one that is read and built today."""
     match item:
@@ -166,7 +174,9 @@ def is_built(item):
         case {"import": {"type": ty}}:
             return "value" not in ty
         case {"export": export}:
-            return export["sort"] != "value" and "type" not in export
+            return is_built_export(export)
+        case {"instance": {"exports": exports}}:
+            return all(map(is_built_export, exports))
     return False
 
 

@@ -439,3 +439,89 @@ def one_interface(count, resources):
     yield {"type": instance(*decls)}
     for k in range(count):
         yield {"import": {"name": words_name("instance", k), "type": {"instance": 0}}}
+
+
+def over_resource(name, index, kind="own"):
+    """Declarations of a handle of the type at the index, of a function over it, and what exports the function. They
+    add two types."""
+    return [defined({kind: index}), func_type([["x", index + 1]], "u32"), export_decl(name, {"func": index + 2})]
+
+
+def instantiated(count, width=50):
+    """A component type that imports so many resources and a function over each, and exports another resource and a
+    function over it for each: as many instances, each over all arguments. All functions are over other handles."""
+    decls, items = [], []
+    for n in range(width):
+        decls += [{"import": {"name": f"r{n}", "type": "sub-resource"}}, defined({"own": 3 * n})]
+        decls += [func_type([["x", 3 * n + 1]], "u32"), {"import": {"name": f"f{n}", "type": {"func": 3 * n + 2}}}]
+        items += [{"import": {"name": f"r{n}", "type": "sub-resource"}}, defined({"own": 3 * n + 1})]
+        items += [func_type([["x", 3 * n + 2]], "u32"), import_of(f"f{n}", 3 * n + 3)]
+    for n in range(width):
+        decls += [export_decl(f"s{n}", "sub-resource"), *over_resource(f"g{n}", 3 * (width + n))]
+    yield {"type": {"component": decls}}
+    yield {"import": {"name": "component", "type": {"component": 0}}}
+    yield from items
+    args = [it for n in range(width) for it in ([f"r{n}", "type", 3 * n + 1], [f"f{n}", "func", n])]
+    for _ in range(count):
+        yield {"instance": {"component": 0, "args": args}}
+
+
+def listed(limit, width=10_000):
+    """Instances that list one function under so many names, and at the end an export of the first."""
+    yield func_type([["x", "u32"]], None)
+    yield import_of("function", 0)
+    exports = [{"name": words_name("listed", n), "sort": "func", "index": 0} for n in range(width)]
+    yield from bounded(limit, lambda k: {"instance": {"exports": exports}})
+    yield {"export": {"name": "first", "sort": "instance", "index": 0}}
+
+
+def in_types(inner, depth, *names):
+    """An instance type in so many others, each of which exports the one inside as a type under each name."""
+    for _ in range(depth):
+        inner = instance({"type": inner}, *(export_decl(name, {"eq": 0}) for name in names))
+    return inner
+
+
+def compared(count, depth=36, names=("inner",), times=1):
+    """So many pairs of instance types that differ in the order of two exports at the bottom, so many types further
+    in. Each pair is compared both ways, so many times: a component imports the one as a type, and the other is its
+    argument."""
+    function = func_type([["x", "u32"]], None)
+
+    def pair(k):
+        one, other = (instance(function, *(export_decl(it, {"func": 0}) for it in order)) for order in ("fg", "gf"))
+        wanted = {"component": [{"type": in_types(one, depth, *names)}, {"import": {"name": "t", "type": {"eq": 0}}}]}
+        yield {"type": in_types(other, depth, *names)}
+        yield {"type": wanted}
+        yield {"import": {"name": f"component{k}", "type": {"component": 2 * k + 1}}}
+        for _ in range(times):
+            yield {"instance": {"component": k, "args": [["t", "type", 2 * k]]}}
+
+    for k in range(count):
+        yield from pair(k)
+
+
+def opposite_orders(count):
+    """Two instance types with the same exports, so many, in opposite order: an instance of the one is exported by the
+    other, and the types themselves are, which compares them both ways."""
+    function = func_type([["x", "u32"]], None)
+    exports = [export_decl(words_name("function", n), {"func": 0}) for n in range(count)]
+    yield {"type": instance(function, *exports)}
+    yield {"type": instance(function, *reversed(exports))}
+    yield {"import": {"name": "instance", "type": {"instance": 0}}}
+    yield {"export": {"name": "other", "sort": "instance", "index": 0, "type": {"instance": 1}}}
+    yield {"export": {"name": "type", "sort": "type", "index": 0, "type": {"eq": 1}}}
+
+
+def one_resource(count, width=1_000):
+    """A component that imports instances with so many instances inside, all of one type with a resource, and one
+    resource in the place of each."""
+    resource = instance(export_decl("r", "sub-resource"), *over_resource("f", 0, "borrow"))
+    many = instance({"type": resource}, *(export_decl(f"i{n}", {"instance": 0}) for n in range(width)))
+    imports = [{"import": {"name": f"many{n}", "type": {"instance": 0}}} for n in range(count // width)]
+    yield {"type": {"component": [{"type": many}, *imports]}}
+    yield {"import": {"name": "component", "type": {"component": 0}}}
+    yield {"type": resource}
+    yield {"import": {"name": "one", "type": {"instance": 1}}}
+    yield {"instance": {"exports": [{"name": f"i{n}", "sort": "instance", "index": 0} for n in range(width)]}}
+    yield {"instance": {"component": 0, "args": [[f"many{n}", "instance", 1] for n in range(count // width)]}}

@@ -4,11 +4,11 @@
     bench/measure.py [RUNS] [TABLE ..]
 
 The tables are `overview`, `small`, `front`, `long`, `nested`, `types`, `resources`, `names`, `core`, `ends`,
-`setters`, `reports`, `declared` and `instances`, all of them if none is named. Times are the smallest of RUNS runs, 5 if not given, in
-which the programs that are compared take turns: what else the machine does can only add to them. Peak memory is
-the largest resident size of one more run, in which the bytes that it writes are counted too. Where valgrind is
-there, the instructions of one run are counted: they do not depend on what else the machine does. Memory and
-instructions are told for each byte of the listing as well.
+`setters`, `reports`, `declared`, `instances` and `components`, all of them if none is named. Times are the smallest
+of RUNS runs, 5 if not given, in which the programs that are compared take turns: what else the machine does can only
+add to them. Peak memory is the largest resident size of one more run, in which the bytes that it writes are counted
+too. Where valgrind is there, the instructions of one run are counted: they do not depend on what else the machine
+does. Memory and instructions are told for each byte of the listing as well.
 
 `overview` is one row for each kind of items, the first table of docs/PERFORMANCE.md.
 """
@@ -209,6 +209,21 @@ def instances(runs):
     print_table("Listing of aliases of each export of one core instance, and of core instances that list them", ALL, sizes, runs)
 
 
+def components(runs):
+    make = make_listings
+    counts = [(f"{n} instances", make.instantiated(n), n < 1_000) for n in (250, 500, 1_000)]
+    print_table("Listing of instances of a component type with 100 imports and 100 exports", ALL, counts, runs)
+    print_table("Listing of instances that list 10,000 exports each", ALL, by_size(make.listed, (1,)), runs)
+    rows = [(f"{n} pairs, 36 deep", make.compared(n), n < 1_000) for n in (250, 500, 1_000)]
+    rows += [(f"10 pairs, {n} deep, each with the one inside twice", make.compared(10, n, "ab"), True) for n in (7, 14)]
+    rows += [(f"one pair {n} times, 15 deep, each with the one inside twice", make.compared(1, 15, "ab", n), n < 1_000) for n in (250, 1_000)]
+    print_table("Listing of instance types in instance types, compared both ways", ALL, rows, runs)
+    rows = [(f"{n:,} exports", make.opposite_orders(n), True) for n in (25_000, 50_000, 99_999)]
+    print_table("Listing of two instance types with their exports in opposite order", ALL, rows, runs)
+    rows = [(f"{n:,} instances", make.one_resource(n), True) for n in (2_000, 5_000, 10_000)]
+    print_table("Listing of a component that imports instances, all over one resource", ALL, rows, runs)
+
+
 KINDS = (
     ("functions", make_listings.ordinary),
     ("tuples that name the type before twice", make_listings.twice),
@@ -257,6 +272,7 @@ TABLES = {
     "reports": reports,
     "declared": declared,
     "instances": instances,
+    "components": components,
 }
 
 
