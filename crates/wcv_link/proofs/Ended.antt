@@ -17,7 +17,7 @@ use Rattle.wcv_lower.specs.Renamed.{Renaming, renaming}
 use Rattle.wcv_lower.specs.Trees.{Type_tree, Entries, Tree_context, Tree_stack, tree_reader, node_tree}
 use Rattle.wcv_lower.proofs.EndingLaws.{any_free-mapped}
 use Rattle.wcv_lower.proofs.Renamed.{renaming_commutes}
-use Rattle.wcv_link.proofs.Apart.{start-settles, reading-settles}
+use Rattle.wcv_link.proofs.Apart.{start-settles, start-tidy, reading-settles}
 use Rattle.wcv_link.proofs.Closed.{free-listed, all-exports}
 use Rattle.wcv_link.proofs.Growing.{Leads}
 use Rattle.wcv_link.proofs.Having.{Has, has-contains, contains-has, has-renamed, has-renamed_back, Once, once-both, once-renamed_back, distinct}
@@ -138,5 +138,5 @@ module _ (i : Name) (c : Tree_context) (h : Listing c) (leads : Leads c) where
 -- a valid root lists the resources of its type
 pub valid_lists : (fs : WasmFeatures) (is : Items) (s : Tree_stack) (i : Name) (t : Type_tree) → ValidTo fs is s → type_at_end (node_tree i) s.top ≡ Some t → ListsResources t
 valid_lists fs is s i t v e =
-    let r = reading-settles fs [] 0 start is s v.0 (start-settles []) in
+    let r = reading-settles fs [] 0 start is s refl v.0 (start-settles []) (start-tidy []) in
     lists i s.top (listing [] r.0 s.top r.1) r.1.leads t e

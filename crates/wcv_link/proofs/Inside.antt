@@ -113,16 +113,16 @@ module _ (fs : WasmFeatures) where
         let m = then-some (ended declares_instance (tree_maker names_by_place p)) (read_decls fs (tree_maker names_by_place) p 0 (inside declares_instance s) ds) v e in
         closes declares_instance p s m.0 v (decls-charge fs (tree_maker names_by_place) p 0 (inside declares_instance s) m.0 ds m.1) m.2 h
         (of_instance p s m.0 ds b (decls-settle p 0 (inside declares_instance s) m.0 ds (inside_built ds b) m.1 (empty-settles p declares_instance)))
-    type-grows p s v (defined_type d) b e h = grow-grows p s h fs (type_item (defined_type d)) v b e
-    type-grows p s v (func_type f) b e h = grow-grows p s h fs (type_item (func_type f)) v b e
-    type-grows p s v (resource_type rep dtor) b e h = grow-grows p s h fs (type_item (resource_type rep dtor)) v b e
+    type-grows p s v (defined_type d) b e h = grow-grows p s h fs (type_item (defined_type d)) v tt b e
+    type-grows p s v (func_type f) b e h = grow-grows p s h fs (type_item (func_type f)) v tt b e
+    type-grows p s v (resource_type rep dtor) b e h = grow-grows p s h fs (type_item (resource_type rep dtor)) v tt b e
 
     decl-grows : (p : Place) (s u : Tree_stack) (d : Decl) → is_built_decl d ≡ true → read_decl fs (tree_maker names_by_place) p s d ≡ Some u → Ready p s.top → Grows (decl_side d) p s.top u.top
-    decl-grows p s u (core_type_decl t) b e h = grow-grows p s h fs (core_type_item t) u b e
+    decl-grows p s u (core_type_decl t) b e h = grow-grows p s h fs (core_type_item t) u tt b e
     decl-grows p s u (type_decl t) b e h = type-grows p s u t b e h
     decl-grows p s u (alias_decl a) b e h = absurd (false≢true b)
     decl-grows p s u (export_decl n r) b e h = declared-grows p s h n r u b e
-    decl-grows p s u (import_decl i) b e h = grow-grows p s h fs (import_item i) u b e
+    decl-grows p s u (import_decl i) b e h = grow-grows p s h fs (import_item i) u tt b e
 
     decls-settle : (p : Place) (k : ℕ) (s u : Tree_stack) (ds : Decls) → are_built ds ≡ true → read_decls fs (tree_maker names_by_place) p k s ds ≡ Some u → Settles p k s.top → Read p ds s u
     decls-settle p k s u no_decls b e h =

@@ -146,7 +146,7 @@ impl fmt::Display for TypeForm<'_> {
     }
 }
 
-/// Shows that imports or exports are not built of what has that name.
+/// Shows that imports, exports or arguments are not built of what has that name.
 fn write_entry<W: fmt::Write>(f: &mut fmt::Formatter<W>, side: &str, word: &str) -> fmt::Result {
     write!(f, "{side} of {word} are not built yet")
 }
@@ -181,12 +181,11 @@ impl fmt::Display for ExportForm<'_> {
 
 impl fmt::Display for InstanceForm<'_> {
     fn fmt<W: fmt::Write>(&self, f: &mut fmt::Formatter<W>) -> fmt::Result {
-        match self.0 {
-            ComponentInstance::Instantiate { .. } => {
-                f.write_str("instances of components are not built yet")
-            }
-            ComponentInstance::FromExports(_) => write_entry(f, "exports", "values"),
-        }
+        let side = match self.0 {
+            ComponentInstance::Instantiate { .. } => "arguments",
+            ComponentInstance::FromExports(_) => "exports",
+        };
+        write_entry(f, side, "values")
     }
 }
 
