@@ -55,10 +55,7 @@ fn find_args(
 }
 
 /// The same items, as what opens a component takes them.
-fn as_map(
-    alloc: Global,
-    found: Vec<(Text, ComponentEntityType)>,
-) -> Result<EntityMap, OutOfMemory>
+fn as_map(alloc: Global, found: Vec<(Text, ComponentEntityType)>) -> Result<EntityMap, OutOfMemory>
     ensures { IfOk result (λ map. map ≡ found.items) }
 {
     let mut map = EntityMap::new(alloc);

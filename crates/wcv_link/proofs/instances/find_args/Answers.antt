@@ -3,7 +3,6 @@ use Rattle.std.specs.Vec.Iter.{into_iter_items}
 use Rattle.std.proofs.lemmas.List.{nil_from_length}
 use Rattle.std.proofs.lemmas.Result.{err_from_is_err_and}
 use Rattle.wcv_core.proofs.Closing.{caused_same}
-
 use Rattle.wcv_link.specs.Instances.{IsArg, arg_checks}
 use Rattle.wcv_syntax.specs.Built.{is_built_arg}
 use Rattle.wcv_link.proofs.ItemsLooked.{item_free, next_holds}
