@@ -1,16 +1,21 @@
 // What of an item is not built yet, for messages.
 use crate::built::{is_built_in_component, is_built_in_instance};
+use crate::canonical_name::name_of;
 use crate::component_type::{
     ComponentType, ComponentTypeDeclaration, ComponentTypeRef, InstanceTypeDeclaration,
 };
 use crate::instance::{ComponentAlias, ComponentExternalKind, ComponentInstance};
-use crate::item::ItemForm;
+use crate::item::{ItemForm, Section};
 use crate::name::{ComponentExport, ComponentImport};
 use std::fmt;
 
 /// Shows which bodies of a form of items are read, for a body that is none of them.
 #[derive(Clone, Copy)]
 pub struct UnreadForm(pub ItemForm);
+
+/// Shows what of an item is not built, where it holds a canonical function or a body that is not read.
+#[derive(Clone, Copy)]
+pub struct SectionForm<'a>(pub &'a Section);
 
 /// Shows what of a type is not built, and in a declared type the first declaration that is not, at each depth.
 #[derive(Clone, Copy)]
@@ -31,6 +36,19 @@ pub struct InstanceForm<'a>(pub &'a ComponentInstance);
 /// Shows what of an alias is not built.
 #[derive(Clone, Copy)]
 pub struct AliasForm<'a>(pub &'a ComponentAlias);
+
+impl fmt::Display for SectionForm<'_> {
+    fn fmt<W: fmt::Write>(&self, f: &mut fmt::Formatter<W>) -> fmt::Result {
+        match self.0 {
+            Section::Canon(func) => {
+                let name = name_of(func);
+                write!(f, "the canonical function `{name}` is not built yet")
+            }
+            Section::Unbuilt(form) => write!(f, "{}", UnreadForm(*form)),
+            _ => f.write_str("this form of item is not built yet"),
+        }
+    }
+}
 
 impl fmt::Display for UnreadForm {
     fn fmt<W: fmt::Write>(&self, f: &mut fmt::Formatter<W>) -> fmt::Result {
@@ -61,7 +79,9 @@ impl fmt::Display for UnreadForm {
                 r#"the body of this "alias" is none of {"export": [INDEX, SORT, NAME]}, {"core-export": [INDEX, CORE-SORT, NAME]} and {"outer": [KIND, COUNT, INDEX]}"#
             }
             ItemForm::Start => r#"items of the form "start" are not built yet"#,
-            ItemForm::Canon => r#"items of the form "canon" are not built yet"#,
+            ItemForm::Canon => {
+                r#"the body of this "canon" is not {NAME: OPERANDS} with the NAME of a canonical function and the OPERANDS that it takes"#
+            }
         })
     }
 }
@@ -146,7 +166,7 @@ impl fmt::Display for TypeForm<'_> {
     }
 }
 
-/// Shows that imports or exports are not built of what has that name.
+/// Shows that imports, exports or arguments are not built of what has that name.
 fn write_entry<W: fmt::Write>(f: &mut fmt::Formatter<W>, side: &str, word: &str) -> fmt::Result {
     write!(f, "{side} of {word} are not built yet")
 }
@@ -181,12 +201,11 @@ impl fmt::Display for ExportForm<'_> {
 
 impl fmt::Display for InstanceForm<'_> {
     fn fmt<W: fmt::Write>(&self, f: &mut fmt::Formatter<W>) -> fmt::Result {
-        match self.0 {
-            ComponentInstance::Instantiate { .. } => {
-                f.write_str("instances of components are not built yet")
-            }
-            ComponentInstance::FromExports(_) => write_entry(f, "exports", "values"),
-        }
+        let side = match self.0 {
+            ComponentInstance::Instantiate { .. } => "arguments",
+            ComponentInstance::FromExports(_) => "exports",
+        };
+        write_entry(f, side, "values")
     }
 }
 
