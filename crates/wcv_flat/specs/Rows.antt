@@ -1,5 +1,5 @@
--- The rows of canonical functions: of each its name, how its operands are written, what is asked of them, and what it appends.
-use Rattle.std.specs.Prelude.{ℕ, List, [], ◌∷◌, codes, Bool, Option}
+-- The rows of canonical functions: what is asked of the operands of each, and what it appends. The names and operands of the same functions are canon_rows of wcv_syntax.
+use Rattle.std.specs.Prelude.{ℕ, List, [], ◌∷◌, Bool, Option}
 use Rattle.wcv_core.specs.declared.core_types.ValType.{ValType}
 use Rattle.wcv_core.specs.declared.core_types.ValType.TheVariants as core
 use Rattle.wcv_syntax.specs.Model.{Canon_form}
@@ -8,7 +8,6 @@ use Rattle.wcv_syntax.specs.declared.canonical.CanonicalFunction.{CanonicalFunct
 use Rattle.wcv_syntax.specs.declared.canonical.CanonicalFunction.TheVariants as canon
 use Rattle.wcv_syntax.specs.declared.canonical.CanonicalOption.{CanonicalOption}
 use Rattle.wcv_syntax.specs.declared.component_type.ComponentValType.{ComponentValType}
-use Rattle.wcv_types.specs.Tree.{Text}
 
 -- ## Features, by their bits
 
@@ -26,21 +25,6 @@ cm_threading = 4096
 
 abbrev pub cm_error_context : ℕ
 cm_error_context = 131072
-
--- ## How operands are written
-
-pub data Operand : Type 0 where
-  -- indices, each of its space
-  core_func_index core_type_index memory_index table_index type_index func_index : Operand
-  core_value_type option_value_type slot_number truth option_list : Operand
-
-pub data Operands : Type 0 where
-  -- none, as null
-  no_operands : Operands
-  -- one, as it is
-  alone : Operand → Operands
-  -- an object with these keys
-  keys : List (Text × Operand) → Operands
 
 -- ## What is asked of them
 
@@ -111,25 +95,17 @@ pub data Appends : Type 0 where
 -- ## The rows
 
 pub record Row : Type 0 where
-  pub name : Text
-  pub operands : Operands
   pub asks : List Ask
   pub appends : Appends
 
-abbrev row : Text → Operands → List Ask → Appends → Row
-row n os qs a = record { name = n; operands = os; asks = qs; appends = a }
+abbrev row : List Ask → Appends → Row
+row qs a = record { asks = qs; appends = a }
 
 abbrev i32 : Word
 i32 = word core.I32
 
 abbrev i64 : Word
 i64 = word core.I64
-
-abbrev type_key : Operand → Text × Operand
-type_key o = (codes "type", o)
-
-abbrev options_key : Text × Operand
-options_key = (codes "options", option_list)
 
 -- options that stand nowhere but where a function is lifted
 abbrev of_lifting : List Option_name
@@ -140,82 +116,82 @@ abbrev copies : Ask → List Ask → List CanonicalOption → List Ask
 copies at more os = feature cm_async ∷ more_without_async os ∷ at ∷ bars of_lifting os ∷ more
 
 -- one without operands, under a feature
-abbrev plain : Text → ℕ → List Word → List Word → Row
-plain n bit ps rs = row n no_operands (feature bit ∷ []) (core_func ps rs)
+abbrev plain : ℕ → List Word → List Word → Row
+plain bit ps rs = row (feature bit ∷ []) (core_func ps rs)
 
 -- one of a stream or a future alone, that drops an end of it
-abbrev drops : Text → Ask → Row
-drops n at = row n (alone type_index) (feature cm_async ∷ at ∷ []) (core_func (i32 ∷ []) [])
+abbrev drops : Ask → Row
+drops at = row (feature cm_async ∷ at ∷ []) (core_func (i32 ∷ []) [])
 
 -- one that forwards one to another
-abbrev forwards : Text → Ask → Row
-forwards n at = row n (alone type_index) (feature cm_async ∷ feature cm_forward ∷ at ∷ []) (core_func (i32 ∷ i32 ∷ []) [])
+abbrev forwards : Ask → Row
+forwards at = row (feature cm_async ∷ feature cm_forward ∷ at ∷ []) (core_func (i32 ∷ i32 ∷ []) [])
 
 -- one that cancels, and is async where that is so
-abbrev cancels : Text → Ask → Bool → Row
-cancels n at b = row n (keys (type_key type_index ∷ (codes "async", truth) ∷ [])) (feature cm_async ∷ more_where b ∷ at ∷ []) (core_func (i32 ∷ []) (i32 ∷ []))
+abbrev cancels : Ask → Bool → Row
+cancels at b = row (feature cm_async ∷ more_where b ∷ at ∷ []) (core_func (i32 ∷ []) (i32 ∷ []))
 
 -- one that looks at a set of what can be waited for
-abbrev waits : Text → ℕ → Row
-waits n m = row n (alone memory_index) (feature cm_async ∷ memory_at m ∷ []) (core_func (i32 ∷ pointer_word ∷ []) (i32 ∷ []))
+abbrev waits : ℕ → Row
+waits m = row (feature cm_async ∷ memory_at m ∷ []) (core_func (i32 ∷ pointer_word ∷ []) (i32 ∷ []))
 
 -- one that goes on with another thread
-abbrev switches : Text → Row
-switches n = plain n cm_threading (i32 ∷ []) (i32 ∷ [])
+abbrev switches : Row
+switches = plain cm_threading (i32 ∷ []) (i32 ∷ [])
 
 -- those without options
 abbrev builtin_row : CanonicalFunction → Row
-builtin_row (canon.ResourceNew k) = row (codes "resource.new") (alone type_index) (local_resource_at k ∷ []) (core_func (rep_word ∷ []) (i32 ∷ []))
-builtin_row (canon.ResourceDrop k) = row (codes "resource.drop") (alone type_index) (resource_at k ∷ []) (core_func (i32 ∷ []) [])
-builtin_row (canon.ResourceRep k) = row (codes "resource.rep") (alone type_index) (local_resource_at k ∷ []) (core_func (i32 ∷ []) (rep_word ∷ []))
-builtin_row (canon.ThreadSpawnRef t) = row (codes "thread.spawn-ref") (keys (type_key core_type_index ∷ [])) (feature shared_everything_threads ∷ spawn_type_at t ∷ []) (shared_func (spawned_word ∷ i32 ∷ []) (i32 ∷ []))
-builtin_row (canon.ThreadSpawnIndirect t n) = row (codes "thread.spawn-indirect") (keys (type_key core_type_index ∷ (codes "table", table_index) ∷ [])) (feature shared_everything_threads ∷ spawn_type_at t ∷ spawn_table_at n ∷ []) (shared_func (i32 ∷ i32 ∷ []) (i32 ∷ []))
-builtin_row canon.ThreadAvailableParallelism = row (codes "thread.available-parallelism") no_operands (feature shared_everything_threads ∷ []) (shared_func [] (i32 ∷ []))
-builtin_row canon.BackpressureInc = plain (codes "backpressure.inc") cm_async [] []
-builtin_row canon.BackpressureDec = plain (codes "backpressure.dec") cm_async [] []
-builtin_row canon.TaskCancel = plain (codes "task.cancel") cm_async [] []
-builtin_row (canon.ContextGet vt n) = row (codes "context.get") (keys (type_key core_value_type ∷ (codes "slot", slot_number) ∷ [])) (feature cm_async ∷ slot_of vt n ∷ []) (core_func [] (word vt ∷ []))
-builtin_row (canon.ContextSet vt n) = row (codes "context.set") (keys (type_key core_value_type ∷ (codes "slot", slot_number) ∷ [])) (feature cm_async ∷ slot_of vt n ∷ []) (core_func (word vt ∷ []) [])
-builtin_row canon.SubtaskDrop = plain (codes "subtask.drop") cm_async (i32 ∷ []) []
-builtin_row (canon.SubtaskCancel b) = row (codes "subtask.cancel") (keys ((codes "async", truth) ∷ [])) (feature cm_async ∷ more_where b ∷ []) (core_func (i32 ∷ []) (i32 ∷ []))
-builtin_row (canon.StreamNew t) = row (codes "stream.new") (alone type_index) (feature cm_async ∷ stream_at t ∷ []) (core_func [] (i64 ∷ []))
-builtin_row (canon.FutureNew t) = row (codes "future.new") (alone type_index) (feature cm_async ∷ future_at t ∷ []) (core_func [] (i64 ∷ []))
-builtin_row (canon.StreamForward t) = forwards (codes "stream.forward") (stream_at t)
-builtin_row (canon.FutureForward t) = forwards (codes "future.forward") (future_at t)
-builtin_row (canon.StreamCancelRead t b) = cancels (codes "stream.cancel-read") (stream_at t) b
-builtin_row (canon.StreamCancelWrite t b) = cancels (codes "stream.cancel-write") (stream_at t) b
-builtin_row (canon.FutureCancelRead t b) = cancels (codes "future.cancel-read") (future_at t) b
-builtin_row (canon.FutureCancelWrite t b) = cancels (codes "future.cancel-write") (future_at t) b
-builtin_row (canon.StreamDropReadable t) = drops (codes "stream.drop-readable") (stream_at t)
-builtin_row (canon.StreamDropWritable t) = drops (codes "stream.drop-writable") (stream_at t)
-builtin_row (canon.FutureDropReadable t) = drops (codes "future.drop-readable") (future_at t)
-builtin_row (canon.FutureDropWritable t) = drops (codes "future.drop-writable") (future_at t)
-builtin_row canon.ErrorContextDrop = plain (codes "error-context.drop") cm_error_context (i32 ∷ []) []
-builtin_row canon.WaitableSetNew = plain (codes "waitable-set.new") cm_async [] (i32 ∷ [])
-builtin_row (canon.WaitableSetWait m) = waits (codes "waitable-set.wait") m
-builtin_row (canon.WaitableSetPoll m) = waits (codes "waitable-set.poll") m
-builtin_row canon.WaitableSetDrop = plain (codes "waitable-set.drop") cm_async (i32 ∷ []) []
-builtin_row canon.WaitableJoin = plain (codes "waitable.join") cm_async (i32 ∷ i32 ∷ []) []
-builtin_row canon.ThreadIndex = plain (codes "thread.index") cm_threading [] (i32 ∷ [])
-builtin_row (canon.ThreadNewIndirect t n) = row (codes "thread.new-indirect") (keys (type_key core_type_index ∷ (codes "table", table_index) ∷ [])) (feature cm_threading ∷ start_type_at t ∷ start_table_at n ∷ []) (core_func (element_word ∷ start_word ∷ []) (i32 ∷ []))
-builtin_row canon.ThreadResumeLater = plain (codes "thread.resume-later") cm_threading (i32 ∷ []) []
-builtin_row canon.ThreadSuspend = plain (codes "thread.suspend") cm_threading [] (i32 ∷ [])
-builtin_row canon.ThreadYield = plain (codes "thread.yield") cm_async [] (i32 ∷ [])
-builtin_row canon.ThreadSuspendThenResume = switches (codes "thread.suspend-then-resume")
-builtin_row canon.ThreadYieldThenResume = switches (codes "thread.yield-then-resume")
-builtin_row canon.ThreadSuspendThenPromote = switches (codes "thread.suspend-then-promote")
-builtin_row canon.ThreadYieldThenPromote = switches (codes "thread.yield-then-promote")
+builtin_row (canon.ResourceNew k) = row (local_resource_at k ∷ []) (core_func (rep_word ∷ []) (i32 ∷ []))
+builtin_row (canon.ResourceDrop k) = row (resource_at k ∷ []) (core_func (i32 ∷ []) [])
+builtin_row (canon.ResourceRep k) = row (local_resource_at k ∷ []) (core_func (i32 ∷ []) (rep_word ∷ []))
+builtin_row (canon.ThreadSpawnRef t) = row (feature shared_everything_threads ∷ spawn_type_at t ∷ []) (shared_func (spawned_word ∷ i32 ∷ []) (i32 ∷ []))
+builtin_row (canon.ThreadSpawnIndirect t n) = row (feature shared_everything_threads ∷ spawn_type_at t ∷ spawn_table_at n ∷ []) (shared_func (i32 ∷ i32 ∷ []) (i32 ∷ []))
+builtin_row canon.ThreadAvailableParallelism = row (feature shared_everything_threads ∷ []) (shared_func [] (i32 ∷ []))
+builtin_row canon.BackpressureInc = plain cm_async [] []
+builtin_row canon.BackpressureDec = plain cm_async [] []
+builtin_row canon.TaskCancel = plain cm_async [] []
+builtin_row (canon.ContextGet vt n) = row (feature cm_async ∷ slot_of vt n ∷ []) (core_func [] (word vt ∷ []))
+builtin_row (canon.ContextSet vt n) = row (feature cm_async ∷ slot_of vt n ∷ []) (core_func (word vt ∷ []) [])
+builtin_row canon.SubtaskDrop = plain cm_async (i32 ∷ []) []
+builtin_row (canon.SubtaskCancel b) = row (feature cm_async ∷ more_where b ∷ []) (core_func (i32 ∷ []) (i32 ∷ []))
+builtin_row (canon.StreamNew t) = row (feature cm_async ∷ stream_at t ∷ []) (core_func [] (i64 ∷ []))
+builtin_row (canon.FutureNew t) = row (feature cm_async ∷ future_at t ∷ []) (core_func [] (i64 ∷ []))
+builtin_row (canon.StreamForward t) = forwards (stream_at t)
+builtin_row (canon.FutureForward t) = forwards (future_at t)
+builtin_row (canon.StreamCancelRead t b) = cancels (stream_at t) b
+builtin_row (canon.StreamCancelWrite t b) = cancels (stream_at t) b
+builtin_row (canon.FutureCancelRead t b) = cancels (future_at t) b
+builtin_row (canon.FutureCancelWrite t b) = cancels (future_at t) b
+builtin_row (canon.StreamDropReadable t) = drops (stream_at t)
+builtin_row (canon.StreamDropWritable t) = drops (stream_at t)
+builtin_row (canon.FutureDropReadable t) = drops (future_at t)
+builtin_row (canon.FutureDropWritable t) = drops (future_at t)
+builtin_row canon.ErrorContextDrop = plain cm_error_context (i32 ∷ []) []
+builtin_row canon.WaitableSetNew = plain cm_async [] (i32 ∷ [])
+builtin_row (canon.WaitableSetWait m) = waits m
+builtin_row (canon.WaitableSetPoll m) = waits m
+builtin_row canon.WaitableSetDrop = plain cm_async (i32 ∷ []) []
+builtin_row canon.WaitableJoin = plain cm_async (i32 ∷ i32 ∷ []) []
+builtin_row canon.ThreadIndex = plain cm_threading [] (i32 ∷ [])
+builtin_row (canon.ThreadNewIndirect t n) = row (feature cm_threading ∷ start_type_at t ∷ start_table_at n ∷ []) (core_func (element_word ∷ start_word ∷ []) (i32 ∷ []))
+builtin_row canon.ThreadResumeLater = plain cm_threading (i32 ∷ []) []
+builtin_row canon.ThreadSuspend = plain cm_threading [] (i32 ∷ [])
+builtin_row canon.ThreadYield = plain cm_async [] (i32 ∷ [])
+builtin_row canon.ThreadSuspendThenResume = switches
+builtin_row canon.ThreadYieldThenResume = switches
+builtin_row canon.ThreadSuspendThenPromote = switches
+builtin_row canon.ThreadYieldThenPromote = switches
 -- all others have options, and forms of their own
-builtin_row f = row [] no_operands [] (core_func [] [])
+builtin_row f = row [] (core_func [] [])
 
 abbrev pub canon_row : Canon_form → Row
-canon_row (form.lift f t os) = row (codes "lift") (keys ((codes "core", core_func_index) ∷ type_key type_index ∷ options_key ∷ [])) (lifts f t os ∷ []) (lifted t)
-canon_row (form.lower f os) = row (codes "lower") (keys ((codes "func", func_index) ∷ options_key ∷ [])) (bars of_lifting os ∷ async_func f os ∷ []) (lowered f)
-canon_row (form.task_return r os) = row (codes "task.return") (keys ((codes "result", option_value_type) ∷ options_key ∷ [])) (feature cm_async ∷ no_borrow r ∷ bars (realloc_option ∷ async_option ∷ of_lifting) os ∷ []) (returning r)
-canon_row (form.stream_read t os) = row (codes "stream.read") (keys (type_key type_index ∷ options_key ∷ [])) (copies (stream_at t) (needs memory_option (with_payload t) os ∷ needs realloc_option (with_pointer t) os ∷ []) os) (core_func (i32 ∷ pointer_word ∷ pointer_word ∷ []) (pointer_word ∷ []))
-canon_row (form.stream_write t os) = row (codes "stream.write") (keys (type_key type_index ∷ options_key ∷ [])) (copies (stream_at t) (needs memory_option (with_payload t) os ∷ []) os) (core_func (i32 ∷ pointer_word ∷ pointer_word ∷ []) (pointer_word ∷ []))
-canon_row (form.future_read t os) = row (codes "future.read") (keys (type_key type_index ∷ options_key ∷ [])) (copies (future_at t) (needs memory_option (with_payload t) os ∷ needs realloc_option (with_pointer t) os ∷ []) os) (core_func (i32 ∷ pointer_word ∷ []) (i32 ∷ []))
-canon_row (form.future_write t os) = row (codes "future.write") (keys (type_key type_index ∷ options_key ∷ [])) (copies (future_at t) (needs memory_option (with_payload t) os ∷ []) os) (core_func (i32 ∷ pointer_word ∷ []) (i32 ∷ []))
-canon_row (form.error_context_new os) = row (codes "error-context.new") (keys (options_key ∷ [])) (feature cm_error_context ∷ bars (async_option ∷ of_lifting) os ∷ needs memory_option in_any_case os ∷ []) (core_func (pointer_word ∷ pointer_word ∷ []) (i32 ∷ []))
-canon_row (form.error_context_message os) = row (codes "error-context.debug-message") (keys (options_key ∷ [])) (feature cm_error_context ∷ bars (async_option ∷ of_lifting) os ∷ needs memory_option in_any_case os ∷ needs realloc_option in_any_case os ∷ []) (core_func (i32 ∷ pointer_word ∷ []) [])
+canon_row (form.lift f t os) = row (lifts f t os ∷ []) (lifted t)
+canon_row (form.lower f os) = row (bars of_lifting os ∷ async_func f os ∷ []) (lowered f)
+canon_row (form.task_return r os) = row (feature cm_async ∷ no_borrow r ∷ bars (realloc_option ∷ async_option ∷ of_lifting) os ∷ []) (returning r)
+canon_row (form.stream_read t os) = row (copies (stream_at t) (needs memory_option (with_payload t) os ∷ needs realloc_option (with_pointer t) os ∷ []) os) (core_func (i32 ∷ pointer_word ∷ pointer_word ∷ []) (pointer_word ∷ []))
+canon_row (form.stream_write t os) = row (copies (stream_at t) (needs memory_option (with_payload t) os ∷ []) os) (core_func (i32 ∷ pointer_word ∷ pointer_word ∷ []) (pointer_word ∷ []))
+canon_row (form.future_read t os) = row (copies (future_at t) (needs memory_option (with_payload t) os ∷ needs realloc_option (with_pointer t) os ∷ []) os) (core_func (i32 ∷ pointer_word ∷ []) (i32 ∷ []))
+canon_row (form.future_write t os) = row (copies (future_at t) (needs memory_option (with_payload t) os ∷ []) os) (core_func (i32 ∷ pointer_word ∷ []) (i32 ∷ []))
+canon_row (form.error_context_new os) = row (feature cm_error_context ∷ bars (async_option ∷ of_lifting) os ∷ needs memory_option in_any_case os ∷ []) (core_func (pointer_word ∷ pointer_word ∷ []) (i32 ∷ []))
+canon_row (form.error_context_message os) = row (feature cm_error_context ∷ bars (async_option ∷ of_lifting) os ∷ needs memory_option in_any_case os ∷ needs realloc_option in_any_case os ∷ []) (core_func (i32 ∷ pointer_word ∷ []) [])
 canon_row (form.builtin f) = builtin_row f
