@@ -7,8 +7,9 @@ use Rattle.std.proofs.lemmas.List.Elements.{All-head, All-tail, All-map}
 use Rattle.wcv_core.specs.Names.{Name, Place, member}
 use Rattle.wcv_core.specs.declared.core_types.ValType.{ValType}
 use Rattle.wcv_types.specs.Led.{HasPath}
+use Rattle.wcv_types.specs.Paths.{PathLeadsTo}
 use Rattle.wcv_types.specs.Resources.{is_free, Free, FreeIn}
-use Rattle.wcv_types.specs.Tree.{Extern_name, Role, import, export, Parts, none, entries, exports_in, firsts}
+use Rattle.wcv_types.specs.Tree.{Extern_name, Role, import, export, Parts, none, entries, exports_in, imports_in, firsts}
 use Rattle.wcv_types.proofs.IsFree.{is_free-free, free-is_free}
 use Rattle.wcv_lower.specs.Context.{Side, importing, exporting, is_concrete}
 use Rattle.wcv_lower.specs.Ending.{is_free_among, any_free, kept, component_of, component_made, instance_made}
@@ -19,7 +20,7 @@ use Rattle.wcv_lower.proofs.Given.{or_left, or_right, not_so}
 use Rattle.wcv_lower.proofs.Members.{firsts_map}
 use Rattle.wcv_lower.proofs.Owning.{owns_not_inherited, entries_have}
 use Rattle.wcv_link.proofs.Having.{Has, Once, names_in, member-has, has-member}
-use Rattle.wcv_link.proofs.Kept.{any-free, kept-has, kept-old}
+use Rattle.wcv_link.proofs.Kept.{any-free, kept-has, kept-old, kept-once}
 use Rattle.wcv_link.proofs.Known.{mapped-some, Fine, In, IsFine}
 use Rattle.wcv_link.proofs.Placed.{PlacedUnder, in_list}
 use Rattle.wcv_link.proofs.Settled.{Settles}
@@ -53,6 +54,14 @@ pub all-exports : (es : Entries) → exports_in (entries export es none) ≡ es
 all-exports [] = refl
 all-exports (e ∷ es) = ap (λ (xs : Entries). e ∷ xs) (all-exports es)
 
+no-imports : (es : Entries) → imports_in (entries export es none) ≡ []
+no-imports [] = refl
+no-imports (e ∷ es) = no-imports es
+
+all-imports : (es outs : Entries) → imports_in (entries import es (entries export outs none)) ≡ es
+all-imports [] outs = no-imports outs
+all-imports (e ∷ es) outs = ap (λ (xs : Entries). e ∷ xs) (all-imports es outs)
+
 -- ## Names
 
 once-differ : {X : Type 0} (xs : List (Name × X)) → Once xs → Differ (names_in xs)
@@ -62,7 +71,7 @@ once-differ (x ∷ xs) o = (not_so (member x.0 (names_in xs)) (λ e. o.0 (member
 has-firsts : (rs : List (Name × List ℕ)) (r : Name) → Has rs r → member r (firsts rs) ≡ true
 has-firsts rs r h = subst (λ (xs : List Name). member r xs ≡ true) (sym (firsts_map rs)) (has-member rs r h)
 
-firsts-has : (rs : List (Name × List ℕ)) (r : Name) → member r (firsts rs) ≡ true → Has rs r
+pub firsts-has : (rs : List (Name × List ℕ)) (r : Name) → member r (firsts rs) ≡ true → Has rs r
 firsts-has rs r e = member-has rs r (subst (λ (xs : List Name). member r xs ≡ true) (firsts_map rs) e)
 
 -- ## The node
@@ -137,7 +146,7 @@ module _ (p : Place) (k : ℕ) (i : Name) (c : Tree_context) (h : Settles p k c)
     component-node : IsClosed p (node_tree i (component_of c ks))
     component-node = record {
       closed = λ r f. free r f;
-      sound = tt;
+      sound = (kept-once outs c.defined ks are_kept h.defined_once, subst (λ (es : Entries). All (λ x. PathLeadsTo x.1 x.0 es) c.imported) (sym (all-imports ins outs)) h.leads);
       owns = λ r n. (
         not_so (is_own r) (foreign-own r n),
         entries_have (owns_not_inherited r) import ins (entries export outs none) ((foreign-owned r n).side importing) (entries_have (owns_not_inherited r) export outs none ((foreign-owned r n).side exporting) tt),

@@ -65,7 +65,7 @@ of_module-within P i t w r (inl x) = absurd x
 of_module-within P i t w r (inr (o, inl x)) = w r x
 of_module-within P i t w r (inr (o, inr x)) = absurd x
 
-if-some : {A : Type 0} (b : Bool) (o : Option A) (x : A) → cond b o None ≡ Some x → o ≡ Some x
+pub if-some : {A : Type 0} (b : Bool) (o : Option A) (x : A) → cond b o None ≡ Some x → o ≡ Some x
 if-some true o x e = e
 if-some false o x e = cc
 

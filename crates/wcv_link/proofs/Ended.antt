@@ -7,22 +7,24 @@ use Rattle.std.proofs.lemmas.Bool.{false≢true}
 use Rattle.std.proofs.lemmas.List.Elements.{All-contains}
 use Rattle.wcv_core.specs.Names.{Name, Place}
 use Rattle.wcv_core.specs.declared.features.WasmFeatures.{WasmFeatures}
-use Rattle.wcv_syntax.specs.Model.{Items}
+use Rattle.wcv_syntax.specs.Model.{Items, no_items}
 use Rattle.wcv_types.specs.Paths.{PathLeadsTo}
 use Rattle.wcv_types.specs.Tree.{import, export, Parts, none, entries, exports_in, imports_in, component_type}
 use Rattle.wcv_lower.specs.Context.{importing, exporting}
 use Rattle.wcv_lower.specs.Ending.{is_free_among, any_free, kept, component_of, type_at_end}
 use Rattle.wcv_lower.specs.Mapped.{map_entries, map_context}
+use Rattle.wcv_lower.specs.Names.{names_by_place}
 use Rattle.wcv_lower.specs.Renamed.{Renaming, renaming}
 use Rattle.wcv_lower.specs.Trees.{Type_tree, Entries, Tree_context, Tree_stack, tree_reader, node_tree}
 use Rattle.wcv_lower.proofs.EndingLaws.{any_free-mapped}
 use Rattle.wcv_lower.proofs.Renamed.{renaming_commutes}
-use Rattle.wcv_link.proofs.Apart.{start-settles, reading-settles}
+use Rattle.wcv_link.proofs.AsFar.{root_as_far}
 use Rattle.wcv_link.proofs.Closed.{free-listed, all-exports}
+use Rattle.wcv_link.proofs.Going.{as_far_as_end}
 use Rattle.wcv_link.proofs.Growing.{Leads}
-use Rattle.wcv_link.proofs.Having.{Has, has-contains, contains-has, has-renamed, has-renamed_back, Once, once-both, once-renamed_back, distinct}
+use Rattle.wcv_link.proofs.Having.{Has, has-contains, contains-has, has-renamed, Once, once-both, once-renamed_back, distinct}
 use Rattle.wcv_link.proofs.Kept.{any-free, kept-has, kept-old, kept-once, kept-leads}
-use Rattle.wcv_link.proofs.Known.{mapped-some, In}
+use Rattle.wcv_link.proofs.Known.{mapped-some, In, in-renamed_back}
 use Rattle.wcv_link.proofs.Settled.{Settles}
 use Rattle.wcv_link.specs.Listed.{IsListed, IsImported, IsDefined, ListsResources}
 use Rattle.wcv_link.specs.Valid.{start, ValidTo}
@@ -58,14 +60,10 @@ module _ (w : Renaming) (c : Tree_context) where
   free-renamed r es e =
       sym (or-false (is_free_among tree_reader (f r) (map_entries (renaming w).entry es))) ∙ any_free-mapped (renaming w) (renaming_commutes w) ((r, None) ∷ []) es ∙ or-false (is_free_among tree_reader r es) ∙ e
 
-  in-renamed_back : (r : Name) → In d (f r) → In c r
-  in-renamed_back r (inl h) = inl (has-renamed_back f w.resources.back w.resources.is_back c.imported r h)
-  in-renamed_back r (inr h) = inr (has-renamed_back f w.resources.back w.resources.is_back c.defined r h)
-
   pub listing-renamed_back : Listing d → Listing c
   listing-renamed_back h = record {
-    in_imports = λ r e. in-renamed_back r (h.in_imports (f r) (free-renamed r (c.side importing) e));
-    in_exports = λ r e. in-renamed_back r (h.in_exports (f r) (free-renamed r (c.side exporting) e));
+    in_imports = λ r e. in-renamed_back w c r (h.in_imports (f r) (free-renamed r (c.side importing) e));
+    in_exports = λ r e. in-renamed_back w c r (h.in_exports (f r) (free-renamed r (c.side exporting) e));
     apart = λ r x y. h.apart (f r) (has-renamed f c.imported r x) (has-renamed f c.defined r y);
     imported_once = once-renamed_back f c.imported h.imported_once;
     defined_once = once-renamed_back f c.defined h.defined_once;
@@ -138,5 +136,6 @@ module _ (i : Name) (c : Tree_context) (h : Listing c) (leads : Leads c) where
 -- a valid root lists the resources of its type
 pub valid_lists : (fs : WasmFeatures) (is : Items) (s : Tree_stack) (i : Name) (t : Type_tree) → ValidTo fs is s → type_at_end (node_tree i) s.top ≡ Some t → ListsResources t
 valid_lists fs is s i t v e =
-    let r = reading-settles fs [] 0 start is s v.0 (start-settles []) in
-    lists i s.top (listing [] r.0 s.top r.1) r.1.leads t e
+    let n = as_far_as_end fs names_by_place [] 0 start is s v.0 in
+    let r = root_as_far fs is n.0 s no_items n.1 in
+    lists i s.top (listing [] n.0 s.top r.0) r.0.leads t e

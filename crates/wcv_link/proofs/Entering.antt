@@ -1,6 +1,6 @@
 -- What an import or an export does to a context: it lists the resources that the entry brings, each with a path that leads to it.
 use Rattle.std.proofs.Common.{◌≡◌, ℕ, zero, suc, List, [], ◌∷◌, ◌++◌, length, true, false, refl, sym, ap, subst, inl, inr, Some, None, ◌⊎◌}
-use Rattle.std.specs.Prelude.{All, Option, slice_get}
+use Rattle.std.specs.Prelude.{All, slice_get, Option}
 use Rattle.std.specs.Option.{option_map}
 use Rattle.std.proofs.lemmas.Bool.{false≢true}
 use Rattle.std.proofs.lemmas.List.Elements.{All-append, All-nil, All-cons, All-head, All-tail, All-weaker}
@@ -209,7 +209,7 @@ module _ (p : Place) (s : Tree_stack) (h : Ready p s.top) where
       let m = mapped-some (bare tree_reader) (slice_get (s.top.space k) i) b e in
       subst (Enters exporting n) m.2 (bare-does exporting n m.0 (all-get (Fine (In s.top)) (s.top.space k) i m.0 (h.fine.space k) m.1))
 
-  pub export-does : (n : Extern_name) (x : ComponentExternalKind) (i : ℕ) (b : Brought tree_reader) → option_map (exported_as (tree_maker names_by_place p) x) (slice_get (items_of s.top x) i) ≡ Some b → Does exporting p s (enters exporting n b)
+  export-does : (n : Extern_name) (x : ComponentExternalKind) (i : ℕ) (b : Brought tree_reader) → option_map (exported_as (tree_maker names_by_place p) x) (slice_get (items_of s.top x) i) ≡ Some b → Does exporting p s (enters exporting n b)
   export-does n kind.Ty i b e =
       let m = mapped-some (exported_as (tree_maker names_by_place p) kind.Ty) (slice_get (s.top.space in_types) i) b e in
       subst (Enters exporting n) m.2
@@ -222,9 +222,9 @@ module _ (p : Place) (s : Tree_stack) (h : Ready p s.top) where
       let m = mapped-some (bare tree_reader) (slice_get (s.top.core core_modules) i) b e in
       subst (Enters exporting n) m.2 (bare-does exporting n m.0 (all-get (Fine (In s.top)) (s.top.core core_modules) i m.0 (h.fine.core core_modules) m.1))
 
-  -- an exported item, with a type that is written beside it or without
-  pub exported-does : (n : Extern_name) (x : ComponentExport) (o : Option ComponentTypeRef) (b : Brought tree_reader) → is_built_written o ≡ true → exported_by (tree_maker names_by_place p) s.top x o ≡ Some b → Does exporting p s (enters exporting n b)
-  exported-does n x None b i e = export-does n x.kind x.index b e
-  exported-does n x (Some r) b i e =
-      let m = then-some (λ y. written (tree_maker names_by_place p) s.top r) (exported_at s.top x) b e in
-      written-does exporting n r b i m.2
+  -- an item, with what is written beside it
+  pub exported-does : (n : Extern_name) (e : ComponentExport) (o : Option ComponentTypeRef) (b : Brought tree_reader) → is_built_written o ≡ true → exported_by (tree_maker names_by_place p) s.top e o ≡ Some b → Does exporting p s (enters exporting n b)
+  exported-does n e None b w q = export-does n e.kind e.index b q
+  exported-does n e (Some r) b w q =
+      let m = then-some (λ (x : Type_tree). written (tree_maker names_by_place p) s.top r) (exported_at s.top e) b q in
+      written-does exporting n r b w m.2

@@ -22,6 +22,13 @@ module _ (fs : WasmFeatures) (names : Names) (w : Place) where
   as_far_as_start k c no_items = (refl, refl, refl)
   as_far_as_start k c (next_item at f is) = inl (refl, refl, refl)
 
+  -- all were read
+  pub as_far_as_end : (k : ℕ) (c : Tree_stack) (is : Items) (e : Tree_stack) → ValidFrom fs names w k c is e → (n : ℕ) × ValidAsFar fs names w k c is n e no_items
+  as_far_as_end k c no_items e h = (k, (refl, sym h, refl))
+  as_far_as_end k c (next_item at f is) e h =
+      let r = as_far_as_end (suc k) h.1.0 is e h.1.2 in
+      (r.0, inr (h.0, (h.1.0, h.1.1, r.1)))
+
   -- one more item
   pub one_further : (k : ℕ) (c : Tree_stack) (is : Items) (n : ℕ) (d e : Tree_stack) (at : ℕ) (f : Form) (rest : Items) → ValidAsFar fs names w k c is n d (next_item at f rest) →
       IsFree (item_causes fs (tree_maker names) (deeper w n) d f) → read_item fs (tree_maker names) (deeper w n) d f ≡ Some e → ValidAsFar fs names w k c is (suc n) e rest

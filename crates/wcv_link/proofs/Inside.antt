@@ -1,5 +1,5 @@
 -- A declared type: its context settles declaration by declaration, and its node joins the types of the context around it.
-use Rattle.std.proofs.Common.{◌≡◌, ℕ, suc, [], ◌∷◌, true, refl, sym, ◌∙◌, ap, subst, Some}
+use Rattle.std.proofs.Common.{◌≡◌, ℕ, suc, [], ◌∷◌, Bool, true, false, cond, refl, sym, ◌∙◌, ap, subst, Some}
 use Rattle.std.proofs.lemmas.Bool.{false≢true}
 use Rattle.wcv_core.specs.Names.{Place, base, deeper}
 use Rattle.wcv_core.specs.declared.features.WasmFeatures.{WasmFeatures}
@@ -7,9 +7,11 @@ use Rattle.wcv_core.proofs.Names.{and_left, and_right}
 use Rattle.wcv_syntax.specs.Built.{is_built_type, is_built_decl, are_built, is_built_inside, are_built_inside}
 use Rattle.wcv_syntax.specs.Model.{core_type_item, type_item, import_item, Type_form, defined_type, func_type, component_type, instance_type, resource_type, Decl, core_type_decl, type_decl, alias_decl, export_decl, import_decl, Decls, no_decls, declare}
 use Rattle.wcv_types.proofs.Lists.{some-inj}
+use Rattle.wcv_lower.specs.Checks.{Checks, IsFree}
 use Rattle.wcv_lower.specs.Context.{Kind, declares_instance, declares_component, in_types, Side, importing, exporting, is_concrete}
 use Rattle.wcv_lower.specs.Declared.{inside, ended, read_type, read_decl, read_decls}
 use Rattle.wcv_lower.specs.Ending.{declared_made}
+use Rattle.wcv_lower.specs.Growth.{unbuilt}
 use Rattle.wcv_lower.specs.Names.{names_by_place}
 use Rattle.wcv_lower.specs.Owned.{OwnsNot, AllEntries}
 use Rattle.wcv_lower.specs.Readers.{New_node}
@@ -26,13 +28,18 @@ use Rattle.wcv_link.proofs.Known.{then-some, Any}
 use Rattle.wcv_link.proofs.Outer.{Charged, AllCharged, around-parts, ends, decls-charge}
 use Rattle.wcv_link.proofs.Settled.{Settles, empty-settles, settles-ready, settles-more}
 
+-- what has no cause is of a form that is built
+pub built_here : (b : Bool) (cs : Checks) → IsFree (cond b cs unbuilt) → b ≡ true
+built_here true cs h = refl
+built_here false cs h = absurd (false≢true (sym h.0))
+
 -- ## What is counted as aliased
 
 module _ (c : Tree_context) (n : ℕ) where
   abbrev counted : Tree_context
   counted = record c { aliased = n }
 
-  counted-entries : (P : Type_tree → Type 0) → AllEntries P c → AllEntries P counted
+  pub counted-entries : (P : Type_tree → Type 0) → AllEntries P c → AllEntries P counted
   counted-entries P h = record { core = h.core; space = h.space; side = h.side }
 
   counted-ready : (p : Place) → Ready p c → Ready p counted
@@ -113,16 +120,16 @@ module _ (fs : WasmFeatures) where
         let m = then-some (ended declares_instance (tree_maker names_by_place p)) (read_decls fs (tree_maker names_by_place) p 0 (inside declares_instance s) ds) v e in
         closes declares_instance p s m.0 v (decls-charge fs (tree_maker names_by_place) p 0 (inside declares_instance s) m.0 ds m.1) m.2 h
         (of_instance p s m.0 ds b (decls-settle p 0 (inside declares_instance s) m.0 ds (inside_built ds b) m.1 (empty-settles p declares_instance)))
-    type-grows p s v (defined_type d) b e h = grow-grows p s h fs (type_item (defined_type d)) v b e
-    type-grows p s v (func_type f) b e h = grow-grows p s h fs (type_item (func_type f)) v b e
-    type-grows p s v (resource_type rep dtor) b e h = grow-grows p s h fs (type_item (resource_type rep dtor)) v b e
+    type-grows p s v (defined_type d) b e h = grow-grows p s h fs (type_item (defined_type d)) v tt b e
+    type-grows p s v (func_type f) b e h = grow-grows p s h fs (type_item (func_type f)) v tt b e
+    type-grows p s v (resource_type rep dtor) b e h = grow-grows p s h fs (type_item (resource_type rep dtor)) v tt b e
 
-    decl-grows : (p : Place) (s u : Tree_stack) (d : Decl) → is_built_decl d ≡ true → read_decl fs (tree_maker names_by_place) p s d ≡ Some u → Ready p s.top → Grows (decl_side d) p s.top u.top
-    decl-grows p s u (core_type_decl t) b e h = grow-grows p s h fs (core_type_item t) u b e
+    pub decl-grows : (p : Place) (s u : Tree_stack) (d : Decl) → is_built_decl d ≡ true → read_decl fs (tree_maker names_by_place) p s d ≡ Some u → Ready p s.top → Grows (decl_side d) p s.top u.top
+    decl-grows p s u (core_type_decl t) b e h = grow-grows p s h fs (core_type_item t) u tt b e
     decl-grows p s u (type_decl t) b e h = type-grows p s u t b e h
     decl-grows p s u (alias_decl a) b e h = absurd (false≢true b)
     decl-grows p s u (export_decl n r) b e h = declared-grows p s h n r u b e
-    decl-grows p s u (import_decl i) b e h = grow-grows p s h fs (import_item i) u b e
+    decl-grows p s u (import_decl i) b e h = grow-grows p s h fs (import_item i) u tt b e
 
     decls-settle : (p : Place) (k : ℕ) (s u : Tree_stack) (ds : Decls) → are_built ds ≡ true → read_decls fs (tree_maker names_by_place) p k s ds ≡ Some u → Settles p k s.top → Read p ds s u
     decls-settle p k s u no_decls b e h =

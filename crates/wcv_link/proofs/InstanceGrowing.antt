@@ -1,58 +1,159 @@
--- What an instance that lists items does to a context: it lists no resource, and what is free in it is free in an item.
-use Rattle.std.proofs.Common.{◌≡◌, List, [], ◌∷◌, Bool, true, false, cond, refl, subst, append-nil, Some, None, inl, inr}
+-- What an instance does to the context of a component: what is new in it is defined, and what else is free in it was listed.
+use Rattle.std.proofs.Common.{◌≡◌, ℕ, List, [], ◌∷◌, map, Bool, true, false, cond, refl, sym, ◌∙◌, subst, Some, None, ◌⊎◌, inl, inr}
 use Rattle.std.specs.Prelude.{All, not}
 use Rattle.std.specs.List.{list_all}
+use Rattle.std.specs.Option.{option_and_then}
+use Rattle.std.proofs.lemmas.Bool.{false≢true}
 use Rattle.std.proofs.lemmas.List.Elements.{All-nil, All-head, All-tail}
-use Rattle.wcv_core.specs.Names.{Name, Place, base}
+use Rattle.wcv_core.specs.Names.{Name, Place, base, at}
+use Rattle.wcv_syntax.specs.Model.{Instance_form, instantiate, bag}
+use Rattle.wcv_syntax.specs.declared.instance.ComponentInstantiationArg.{ComponentInstantiationArg}
 use Rattle.wcv_syntax.specs.declared.name.ComponentExport.{ComponentExport}
-use Rattle.wcv_syntax.specs.Model.{bag}
-use Rattle.wcv_types.specs.Resources.{FreeIn}
-use Rattle.wcv_types.specs.Tree.{Extern_name, export, none, entries}
+use Rattle.wcv_types.specs.Resources.{Free, FreeIn}
+use Rattle.wcv_types.specs.Tree.{Text, Extern_name, nothing, primitive, resource, defined, func, instance, component, type_entity, core_module, core_instance, core_type, core_item, export, node, none, entries, head}
 use Rattle.wcv_types.proofs.Lists.{some-inj}
+use Rattle.wcv_matching.specs.OnePass.{made_paths}
 use Rattle.wcv_lower.specs.Checks.{is_none}
-use Rattle.wcv_lower.specs.Context.{exporting, in_instances}
-use Rattle.wcv_lower.specs.Instances.{listed_at, listed, bag_made, instance_of_items, instance_made, instance_joins, instance_step}
+use Rattle.wcv_lower.specs.Context.{in_instances, in_components, exporting, is_concrete, unknown}
+use Rattle.wcv_lower.specs.Instances.{component_at, argument_at, arguments, if_opened, opened, listed_at, listed, bag_made, instance_of_component, instance_of_items, instance_made, instance_joins, instance_step}
 use Rattle.wcv_lower.specs.Names.{names_by_place}
 use Rattle.wcv_lower.specs.Readers.{New_node, instance_node}
 use Rattle.wcv_lower.specs.Step.{introduces, appends, Step, Brought, bare}
-use Rattle.wcv_lower.specs.Trees.{Type_tree, Tree_stack, Entries, tree_reader, tree_maker, node_tree}
+use Rattle.wcv_lower.specs.Trees.{Type_tree, Entries, Tree_stack, tree_reader, node_tree, tree_maker}
 use Rattle.wcv_lower.proofs.Bringing.{brings_one, brings_more}
-use Rattle.wcv_lower.proofs.Instantiating.{listed_have}
-use Rattle.wcv_link.proofs.Growing.{Ready, Does, same-does}
-use Rattle.wcv_link.proofs.Known.{mapped-some, Fine, Within, In, Any, After, in-apply}
+use Rattle.wcv_lower.proofs.Instantiating.{arguments_have, listed_have}
+use Rattle.wcv_link.proofs.Bare.{IsBare, AreBare}
+use Rattle.wcv_link.proofs.CoreGrowing.{if-some}
+use Rattle.wcv_link.proofs.Growing.{Ready, AreNew, Does, nothing-new}
+use Rattle.wcv_link.proofs.Having.{Has, has-right, has-beside, has-beside_back, Once, once-beside}
+use Rattle.wcv_link.proofs.Known.{mapped-some, then-some, all-get, Fine, In, Any, After, in-apply}
+use Rattle.wcv_link.proofs.Opened.{FreeAmong, free-instantiated}
+use Rattle.wcv_link.proofs.Sound.{IsSound}
 
--- what is free in entries is free in one of them
-entries-within : (P : Name → Type 0) (es : Entries) → All (λ (e : Extern_name × Type_tree). Fine P e.1) es → (r : Name) → FreeIn r (entries export es none) → P r
-entries-within P [] w r x = absurd x
-entries-within P (e ∷ es) w r (inl x) = (All-head (λ (e : Extern_name × Type_tree). Fine P e.1) e es w).0 r x
-entries-within P (e ∷ es) w r (inr x) = entries-within P es (All-tail (λ (e : Extern_name × Type_tree). Fine P e.1) e es w) r x
+-- what is free in entries
+within-entries : (P : Name → Type 0) (es : Entries) → All (λ e. Fine P e.1) es → (r : Name) → FreeIn r (entries export es none) → P r
+within-entries P [] a r x = absurd x
+within-entries P (e ∷ es) a r (inl x) = (All-head (λ (e : Extern_name × Type_tree). Fine P e.1) e es a).0 r x
+within-entries P (e ∷ es) a r (inr x) = within-entries P es (All-tail (λ (e : Extern_name × Type_tree). Fine P e.1) e es a) r x
 
--- so in an instance that owns nothing and exports them
-listed-within : (P : Name → Type 0) (i : Name) (es : Entries) → All (λ (e : Extern_name × Type_tree). Fine P e.1) es → Within P (node_tree i (instance_node [] es))
-listed-within P i es w r (inl x) = absurd x
-listed-within P i es w r (inr x) = entries-within P es w r x.1
+-- arguments that open a component
+pub opened-pair : (args : List (Text × Type_tree)) (t : Type_tree) (y : List (Text × Type_tree) × Type_tree) (b : Bool) → cond b (Some (args, t)) None ≡ Some y → (b ≡ true) × ((args, t) ≡ y)
+opened-pair args t y true e = (refl, some-inj e)
+opened-pair args t y false e = cc
 
-module _ (p : Place) (s : Tree_stack) (h : Ready p s.top) where
-  abbrev joined : Entries → Step tree_reader
-  joined es = instance_joins (bare tree_reader (node_tree (base p) (instance_node [] es)))
+module _ (p : Place) (s : Tree_stack) (h : Ready p s.top) (c : is_concrete s.top.kind ≡ true) where
+  -- an instance whose resources are new
+  joined-does : (b : Brought tree_reader) → Fine (After (instance_joins b) s) b.entity → AreNew p b.resources → Does exporting p s (instance_joins b)
+  joined-does b w new = record {
+    brings = brings_more (Fine (After (instance_joins b) s)) Any (introduces exporting b.resources) (appends in_instances b.entity ∷ []) (λ k x l. tt) (brings_one (Fine (After (instance_joins b) s)) Any (appends in_instances b.entity) w);
+    leads = h.leads;
+    led = λ k. absurd (false≢true (sym k ∙ c));
+    adds = record {
+      more = unknown b.resources;
+      new = record { placed = λ r w. new.placed r (has-beside_back (λ x. None) b.resources r w); once = once-beside (λ x. None) b.resources new.once };
+      imported = refl;
+      defined = refl;
+    };
+  }
 
-  listed-does : (es : Entries) → All (λ (e : Extern_name × Type_tree). Fine (In s.top) e.1) es → Does exporting p s (joined es)
-  listed-does es w =
-      let x : Step tree_reader = joined es in
-      let t : Type_tree = node_tree (base p) (instance_node [] es) in
-      let inside : Within (After x s) t = λ r f. in-apply x s r (listed-within (In s.top) (base p) es w r f) in
-      same-does p s h x
-      (brings_more (Fine (After x s)) Any (introduces exporting []) (appends in_instances t ∷ []) (λ k y l. tt) (brings_one (Fine (After x s)) Any (appends in_instances t) (inside, (tt, All-nil _))))
-      (record { imported = refl; defined = append-nil s.top.defined; imports = refl; exports = refl })
+  -- ## One that lists items
 
-  pub bag-does : (es : List ComponentExport) (x : Step tree_reader) → instance_step (tree_maker names_by_place p) s (bag es) ≡ Some x → Does exporting p s x
+  abbrev listing : List ComponentExport → New_node tree_reader
+  listing es = instance_node [] (listed s.top es)
+
+  abbrev instance_listed : List ComponentExport → Brought tree_reader
+  instance_listed es = bare tree_reader (node_tree (base p) (listing es))
+
+  listed-inside : (es : List ComponentExport) (r : Name) → FreeIn r (entries export (listed s.top es) none) → After (instance_joins (instance_listed es)) s r
+  listed-inside es r x = in-apply (instance_joins (instance_listed es)) s r (within-entries (In s.top) (listed s.top es) (listed_have (Fine (In s.top)) s.top h.fine es) r x)
+
+  listed-fine : (es : List ComponentExport) → Fine (After (instance_joins (instance_listed es)) s) (instance_listed es).entity
+  listed-fine es = ((λ r f. go r f), (tt, All-nil _))
+    where
+      go : (r : Name) → ⊥ ⊎ ((false ≡ false) × FreeIn r (entries export (listed s.top es) none)) → After (instance_joins (instance_listed es)) s r
+      go r (inl x) = absurd x
+      go r (inr x) = listed-inside es r x.1
+
+  bag-does : (es : List ComponentExport) (x : Step tree_reader) → instance_step (tree_maker names_by_place p) s (bag es) ≡ Some x → Does exporting p s x
   bag-does es x e =
       let m = mapped-some instance_joins (instance_made (tree_maker names_by_place p) s (bag es)) x e in
-      let n = mapped-some (instance_of_items (tree_maker names_by_place p)) (bag_made s.top es) m.0 m.1 in
-      subst (Does exporting p s) m.2 (subst (λ (b : Brought tree_reader). Does exporting p s (instance_joins b)) n.2 (made (list_all (λ (x : ComponentExport). not (is_none (listed_at s.top x))) es) n.0 n.1))
+      let o = mapped-some (instance_of_items (tree_maker names_by_place p)) (bag_made s.top es) m.0 m.1 in
+      let n = if-some (list_all (λ (e : ComponentExport). not (is_none (listed_at s.top e))) es) (Some (listing es)) o.0 o.1 in
+      subst (Does exporting p s) m.2
+      (subst (λ (b : Brought tree_reader). Does exporting p s (instance_joins b)) o.2
+      (subst (λ (k : New_node tree_reader). Does exporting p s (instance_joins (instance_of_items (tree_maker names_by_place p) k))) (some-inj n) (joined-does (instance_listed es) (listed-fine es) (nothing-new p))))
+
+  -- ## One of a component
+
+  module _ (args : List (Text × Type_tree)) (t : Type_tree) where
+    abbrev instance_of : Brought tree_reader
+    instance_of = (tree_maker names_by_place p).instantiate args t
+
+    made-new : (rs : List (Name × List ℕ)) → Once rs → AreNew p (map (λ (r : Name × List ℕ). (at p r.0, r.1)) rs)
+    made-new rs o = record { placed = λ r w. inr (back rs r w); once = once rs o }
+      where
+        back : (xs : List (Name × List ℕ)) (r : Name) → Has (map (λ (x : Name × List ℕ). (at p x.0, x.1)) xs) r → (x : Name) × (r ≡ at p x)
+        back [] r w = absurd w
+        back (x ∷ xs) r (inl e) = (x.0, e)
+        back (x ∷ xs) r (inr w) = back xs r w
+
+        old : (xs : List (Name × List ℕ)) (q : Name) → Has (map (λ (x : Name × List ℕ). (at p x.0, x.1)) xs) (at p q) → Has xs q
+        old [] q w = absurd w
+        old (x ∷ xs) q (inl e) = let f : q ≡ x.0 = cc in inl f
+        old (x ∷ xs) q (inr w) = inr (old xs q w)
+
+        once : (xs : List (Name × List ℕ)) → Once xs → Once (map (λ (x : Name × List ℕ). (at p x.0, x.1)) xs)
+        once [] o = tt
+        once (x ∷ xs) o = ((λ w. o.0 (old xs x.0 w)), once xs o.1)
+
+    made-once : (u : Type_tree) → IsSound u → Once (made_paths (head u))
+    made-once (node (component i ins outs) ps) w = w.0
+    made-once (node nothing ps) w = tt
+    made-once (node (primitive q) ps) w = tt
+    made-once (node (resource q x) ps) w = tt
+    made-once (node (defined i k) ps) w = tt
+    made-once (node (func i b) ps) w = tt
+    made-once (node (instance i own) ps) w = tt
+    made-once (node type_entity ps) w = tt
+    made-once (node (core_module i n) ps) w = tt
+    made-once (node (core_instance i n) ps) w = tt
+    made-once (node (core_type i) ps) w = tt
+    made-once (node (core_item x) ps) w = tt
+
+    -- where what is free in it is listed
+    component-does : Fine (In s.top) t → ((r : Name) → Free r instance_of.entity → After (instance_joins instance_of) s r) → Does exporting p s (instance_joins instance_of)
+    component-does w inside = joined-does instance_of (inside, (tt, All-nil _)) (made-new (made_paths (head t)) (made-once t w.1))
+
+  among-in : (args : List (Text × Type_tree)) (r : Name) → All (λ (e : Text × Type_tree). Fine (In s.top) e.1) args → FreeAmong r args → In s.top r
+  among-in [] r a f = absurd f
+  among-in (e ∷ es) r a (inl f) = (All-head (λ (e : Text × Type_tree). Fine (In s.top) e.1) e es a).0 r f
+  among-in (e ∷ es) r a (inr f) = among-in es r (All-tail (λ (e : Text × Type_tree). Fine (In s.top) e.1) e es a) f
+
+  -- what is free in an instance that is opened is free in the component or in an argument, or new
+  opened-inside : (args : List (Text × Type_tree)) (t : Type_tree) → All (λ (e : Text × Type_tree). Fine (In s.top) e.1) args → Fine (In s.top) t → All (λ (e : Text × Type_tree). IsBare e.1) args → IsBare t → tree_reader.opens s.groups args t ≡ true →
+      (r : Name) → Free r (instance_of args t).entity → After (instance_joins (instance_of args t)) s r
+  opened-inside args t a w b u o r f = go (free-instantiated s.groups p args b t u w.1 o r f)
     where
-      made : (b : Bool) (n : New_node tree_reader) → cond b (Some (instance_node [] (listed s.top es))) None ≡ Some n → Does exporting p s (instance_joins (instance_of_items (tree_maker names_by_place p) n))
-      made true n k =
-          subst (λ (n : New_node tree_reader). Does exporting p s (instance_joins (instance_of_items (tree_maker names_by_place p) n))) (some-inj k)
-          (listed-does (listed s.top es) (listed_have (Fine (In s.top)) s.top h.fine es))
-      made false n k = cc
+      go : Free r t ⊎ (FreeAmong r args ⊎ Has (instance_of args t).resources r) → After (instance_joins (instance_of args t)) s r
+      go (inl x) = in-apply (instance_joins (instance_of args t)) s r (w.0 r x)
+      go (inr (inl x)) = in-apply (instance_joins (instance_of args t)) s r (among-in args r a x)
+      go (inr (inr x)) = inr (has-right s.top.defined (unknown (instance_of args t).resources) r (has-beside (λ x. None) (instance_of args t).resources r x))
+
+  instantiate-does : AreBare s.top → (i : ℕ) (given : List ComponentInstantiationArg) (x : Step tree_reader) → instance_step (tree_maker names_by_place p) s (instantiate i given) ≡ Some x → Does exporting p s x
+  instantiate-does bare i given x e =
+      let args : List (Text × Type_tree) = arguments s.top given in
+      let m = mapped-some instance_joins (instance_made (tree_maker names_by_place p) s (instantiate i given)) x e in
+      let o = mapped-some (instance_of_component (tree_maker names_by_place p)) (opened s i given) m.0 m.1 in
+      let n = if-some (list_all (λ (a : ComponentInstantiationArg). not (is_none (argument_at s.top a))) given) (option_and_then (if_opened tree_reader s.groups args) (component_at s.top i)) o.0 o.1 in
+      let t = then-some (if_opened tree_reader s.groups args) (component_at s.top i) o.0 n in
+      let q = opened-pair args t.0 o.0 (tree_reader.opens s.groups args t.0) t.2 in
+      let w : Fine (In s.top) t.0 = all-get (Fine (In s.top)) (s.top.space in_components) i t.0 (h.fine.space in_components) t.1 in
+      let v : IsBare t.0 = all-get IsBare (s.top.space in_components) i t.0 (bare.space in_components) t.1 in
+      subst (Does exporting p s) m.2
+      (subst (λ (b : Brought tree_reader). Does exporting p s (instance_joins b)) o.2
+      (subst (λ (y : List (Text × Type_tree) × Type_tree). Does exporting p s (instance_joins (instance_of_component (tree_maker names_by_place p) y))) q.1
+      (component-does args t.0 w (opened-inside args t.0 (arguments_have (Fine (In s.top)) s.top h.fine given) w (arguments_have IsBare s.top bare given) v q.0))))
+
+  pub instance-does : AreBare s.top → (i : Instance_form) (x : Step tree_reader) → instance_step (tree_maker names_by_place p) s i ≡ Some x → Does exporting p s x
+  instance-does b (bag es) x e = bag-does es x e
+  instance-does b (instantiate i args) x e = instantiate-does b i args x e

@@ -10,11 +10,13 @@ use Rattle.wcv_types.specs.Tree as tree
 use Rattle.wcv_types.specs.Tree.{Extern_name, nothing, type_entity, Sort, is_nothing, is_value, is_resource, is_func, is_instance, is_component, is_type, is_module, is_core_instance, is_core_type, is_core_item, sort, node, Parts, none, part, first_part, rest_parts, type_of}
 use Rattle.wcv_types.proofs.Lists.{some-inj}
 use Rattle.wcv_lower.specs.Context.{in_types, in_funcs, in_values, in_instances, in_components, core_modules, Side, importing, exporting, same_space, same_core_space, same_side, joined, placed, unknown}
+use Rattle.wcv_lower.specs.Mapped.{map_context}
 use Rattle.wcv_lower.specs.Owned.{AllEntries}
+use Rattle.wcv_lower.specs.Renamed.{Renaming, renaming}
 use Rattle.wcv_lower.specs.Step.{Change, appends, lists, introduces, defines, creates, core_appends, interns, charges, Step, change, apply, joins, enters, Brought}
 use Rattle.wcv_lower.specs.Trees.{Type_tree, Tree_context, Tree_stack, tree_reader, created, referenced}
 use Rattle.wcv_lower.proofs.Bringing.{Brings, AllBring, brings_one, brings_more}
-use Rattle.wcv_link.proofs.Having.{Has, has-left}
+use Rattle.wcv_link.proofs.Having.{Has, has-left, has-renamed_back}
 use Rattle.wcv_link.proofs.Sound.{IsSound, created-sound}
 
 -- ## Options
@@ -32,7 +34,7 @@ all-get Q xs k x a e = subst Q (get_or_from_slice_get xs k x x e) (a k x (slice_
 
 -- ## Trees
 
-first-free : (r : Name) (ps : Parts Name Name) → Free r (first_part ps) → FreeIn r ps
+pub first-free : (r : Name) (ps : Parts Name Name) → Free r (first_part ps) → FreeIn r ps
 first-free r none (inl x) = absurd x
 first-free r none (inr x) = absurd x.1
 first-free r (part k t ps) x = inl x
@@ -78,7 +80,7 @@ module _ (P : Name → Type 0) where
 
 -- ## Contexts
 
-entries-weaker : (P Q : Type_tree → Type 0) (c : Tree_context) → ((t : Type_tree) → P t → Q t) → AllEntries P c → AllEntries Q c
+pub entries-weaker : (P Q : Type_tree → Type 0) (c : Tree_context) → ((t : Type_tree) → P t → Q t) → AllEntries P c → AllEntries Q c
 entries-weaker P Q c f h = record {
   core = λ k. All-weaker P Q f (c.core k) (h.core k);
   space = λ k. All-weaker P Q f (c.space k) (h.space k);
@@ -88,6 +90,11 @@ entries-weaker P Q c f h = record {
 -- the context lists the resource
 abbrev pub In : Tree_context → Name → Type 0
 In c r = Has c.imported r ⊎ Has c.defined r
+
+-- so it did before names were renamed
+pub in-renamed_back : (w : Renaming) (c : Tree_context) (r : Name) → In (map_context (renaming w) c) (w.resources.to r) → In c r
+in-renamed_back w c r (inl h) = inl (has-renamed_back w.resources.to w.resources.back w.resources.is_back c.imported r h)
+in-renamed_back w c r (inr h) = inr (has-renamed_back w.resources.to w.resources.back w.resources.is_back c.defined r h)
 
 -- each entry is sound, and what is free in it is listed
 abbrev pub IsFine : Tree_context → Type 0

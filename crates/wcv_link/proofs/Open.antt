@@ -25,7 +25,8 @@ use Rattle.wcv_decls.proofs.InnermostStates.{innermost_at, indexed, calm_all, op
 use Rattle.wcv_decls.proofs.Plain.{own_given}
 use Rattle.wcv_decls.proofs.ReadingOn.{grown_numbers, extends_on, innermost_kept}
 use Rattle.wcv_decls.proofs.SimpleDecls as simple
-use Rattle.wcv_link.specs.Progress.{IsReady, RefusedAt, TakesItem, TakenOn, AcceptsItem, RefusesItem, LeavesItem, AllMayOpen}
+use Rattle.wcv_link.specs.Instances.{AllMayInstantiate}
+use Rattle.wcv_link.specs.Progress.{IsReady, RefusedAt, TakesItem, TakenOn, AcceptsItem, RefusesItem, LeavesItem, AllMayOpen, LastMayInstantiate}
 use Rattle.wcv_link.proofs.Regular.{item_regular}
 use Rattle.wcv_link.proofs.Steps.{OneStep, grew_here, step_refused, type_grew, type_caused, type_left_caused, caused_same_at}
 
@@ -56,6 +57,10 @@ module _ (a : Arena) (ss : List Contents) (k : ℕ) (s : Contents) (e : k ≡ le
   last_may_open r =
       let was : ss ≡ around ss ++ s ∷ [] = (last_changed ss k s s h.some e (is_innermost ss k s h.some e i)).was in
       simple.may_open a (contexts_around a (around ss)) s r last_open.stands (h.calm (around ss) s was)
+
+  -- and of each component
+  pub last_may_instantiate : LastMayInstantiate a ss → AllMayInstantiate a s
+  last_may_instantiate m = subst (AllMayInstantiate a) (sym (is_innermost ss k s h.some e i)) m
 
 -- ## An item that the innermost took
 

@@ -6,16 +6,15 @@ use Rattle.std.proofs.lemmas.List.Elements.{All-nil, All-cons, All-head, All-tai
 use Rattle.wcv_core.specs.Names.{Name, Place, at, member, same}
 use Rattle.wcv_core.proofs.Names.{same-refl, same-true}
 use Rattle.wcv_types.specs.FirstPath.{first_path}
-use Rattle.wcv_types.specs.Identity.{Identity}
+use Rattle.wcv_types.specs.Identity.{Identity, identity_at}
 use Rattle.wcv_types.specs.Led.{HasPath}
 use Rattle.wcv_types.specs.Paths.{PathLeadsTo, IsWayTo}
-use Rattle.wcv_types.specs.Replacing.{Replacement, given_or, or_same, moves, changed_in, new_head, replaced, replaced_in}
+use Rattle.wcv_types.specs.Replacing.{Replacement, given_at, given_or, or_same, moves, changed_in, new_head, replaced, replaced_in}
 use Rattle.wcv_types.specs.Resources.{owns, RefersTo, Free, FreeIn}
 use Rattle.wcv_types.specs.Tree.{Extern_name, Head, resource, instance, node, Parts, none, part, exports_in, exports}
 use Rattle.wcv_types.specs.Unfold.{Type_tree}
 use Rattle.wcv_types.proofs.FirstPath.{first_path-none}
 use Rattle.wcv_types.proofs.Lists.{some-inj}
-use Rattle.wcv_types.proofs.Replacing.{none-given}
 use Rattle.wcv_lower.specs.Names.{names_by_place}
 use Rattle.wcv_lower.specs.NewTypes.{owned_anew, instance_tree, path_or_none, instance_resources}
 use Rattle.wcv_lower.specs.Owned.{OwnsNotIn}
@@ -28,10 +27,14 @@ use Rattle.wcv_link.proofs.Sound.{Differ}
 
 -- ## What is free where resources are replaced
 
-module _ (m : Replacement) (plain : (i : Identity) → m.nodes i ≡ None) where
-  -- it stays, or it comes in
+module _ (m : Replacement) where
+  -- it stays, or it comes in, by itself or in a node that is given
   abbrev pub Stays : (Name → Type 0) → Name → Type 0
-  Stays P q = (P q × (m.resources q ≡ None)) ⊎ ((r : Name) × (m.resources r ≡ Some q))
+  Stays P q = (P q × (m.resources q ≡ None)) ⊎ (((r : Name) × (m.resources r ≡ Some q)) ⊎ ((i : Identity) × (u : Type_tree) × (m.nodes i ≡ Some u) × Free q u))
+
+  pub stays-more : (P Q : Name → Type 0) (q : Name) → (P q → Q q) → Stays P q → Stays Q q
+  stays-more P Q q f (inl x) = inl (f x.0, x.1)
+  stays-more P Q q f (inr x) = inr x
 
   head-owns : (b : Bool) (h : Head Name Name) (q : Name) → owns (new_head m b h) q ≡ owns h q
   head-owns b (resource x s) q = refl
@@ -43,44 +46,37 @@ module _ (m : Replacement) (plain : (i : Identity) → m.nodes i ≡ None) where
     where
       go : (o : Option Name) → m.resources x ≡ o → q ≡ or_same x o → Stays (λ r. r ≡ x) q
       go None f e = inl (e, ap m.resources e ∙ f)
-      go (Some y) f e = inr (x, f ∙ ap Some (sym e))
+      go (Some y) f e = inr (inl (x, f ∙ ap Some (sym e)))
   head-refers true h q e = absurd e
   head-refers false h q e = absurd e
-
-  stays-node : (h : Head Name Name) (ps : Parts Name Name) (q : Name) → owns h q ≡ false → Stays (λ r. FreeIn r ps) q → Stays (λ r. Free r (node h ps)) q
-  stays-node h ps q o (inl x) = inl (inr (o, x.0), x.1)
-  stays-node h ps q o (inr x) = inr x
-
-  stays-head : (h : Head Name Name) (ps : Parts Name Name) (q : Name) → Stays (λ r. RefersTo r h) q → Stays (λ r. Free r (node h ps)) q
-  stays-head h ps q (inl x) = inl (inl x.0, x.1)
-  stays-head h ps q (inr x) = inr x
-
-  stays-first : (t : Type_tree) (ps : Parts Name Name) (q : Name) → Stays (λ r. Free r t) q → Stays (λ r. Free r t ⊎ FreeIn r ps) q
-  stays-first t ps q (inl x) = inl (inl x.0, x.1)
-  stays-first t ps q (inr x) = inr x
-
-  stays-rest : (t : Type_tree) (ps : Parts Name Name) (q : Name) → Stays (λ r. FreeIn r ps) q → Stays (λ r. Free r t ⊎ FreeIn r ps) q
-  stays-rest t ps q (inl x) = inl (inr x.0, x.1)
-  stays-rest t ps q (inr x) = inr x
 
   abbrev rebuilt : Head Name Name → Parts Name Name → Type_tree
   rebuilt h ps = node (new_head m (moves m h || changed_in m ps) h) (replaced_in m ps)
 
   free-rebuilt : (h : Head Name Name) (ps : Parts Name Name) (q : Name) → (FreeIn q (replaced_in m ps) → Stays (λ r. FreeIn r ps) q) → Free q (rebuilt h ps) → Stays (λ r. Free r (node h ps)) q
-  free-rebuilt h ps q inside (inl e) = stays-head h ps q (head-refers (moves m h || changed_in m ps) h q e)
-  free-rebuilt h ps q inside (inr x) = stays-node h ps q (sym (head-owns (moves m h || changed_in m ps) h q) ∙ x.0) (inside x.1)
+  free-rebuilt h ps q inside (inl e) = stays-more (λ r. RefersTo r h) (λ r. Free r (node h ps)) q (λ x. inl x) (head-refers (moves m h || changed_in m ps) h q e)
+  free-rebuilt h ps q inside (inr x) = stays-more (λ r. FreeIn r ps) (λ r. Free r (node h ps)) q (λ y. inr (sym (head-owns (moves m h || changed_in m ps) h q) ∙ x.0, y)) (inside x.1)
 
-  as-rebuilt : (h : Head Name Name) (ps : Parts Name Name) → replaced m (node h ps) ≡ rebuilt h ps
-  as-rebuilt h ps = ap (λ (o : Option Type_tree). given_or o (rebuilt h ps)) (none-given m plain h)
+  -- of a node that is given
+  free-given : (h : Head Name Name) (ps : Parts Name Name) (q : Name) → (Free q (rebuilt h ps) → Stays (λ r. Free r (node h ps)) q) → Free q (given_or (given_at m h) (rebuilt h ps)) → Stays (λ r. Free r (node h ps)) q
+  free-given h ps q own e = go (identity_at h) e
+    where
+      at_known : (i : Identity) (o : Option Type_tree) → m.nodes i ≡ o → Free q (given_or o (rebuilt h ps)) → Stays (λ r. Free r (node h ps)) q
+      at_known i None f e = own e
+      at_known i (Some u) f e = inr (inr (i, u, f, e))
+
+      go : (o : Option Identity) → Free q (given_or (elim o as (λ o. Option Type_tree) [ None ↦ None | Some i ↦ m.nodes i ]) (rebuilt h ps)) → Stays (λ r. Free r (node h ps)) q
+      go None e = own e
+      go (Some i) e = at_known i (m.nodes i) refl e
 
   mutual
-    free-replaced : (t : Type_tree) (q : Name) → Free q (replaced m t) → Stays (λ r. Free r t) q
-    free-replaced (node h ps) q e = free-rebuilt h ps q (λ x. free_in-replaced ps q x) (subst (Free q) (as-rebuilt h ps) e)
+    pub free-replaced : (t : Type_tree) (q : Name) → Free q (replaced m t) → Stays (λ r. Free r t) q
+    free-replaced (node h ps) q e = free-given h ps q (λ y. free-rebuilt h ps q (λ x. free_in-replaced ps q x) y) e
 
     free_in-replaced : (ps : Parts Name Name) (q : Name) → FreeIn q (replaced_in m ps) → Stays (λ r. FreeIn r ps) q
     free_in-replaced none q e = absurd e
-    free_in-replaced (part k t ps) q (inl e) = stays-first t ps q (free-replaced t q e)
-    free_in-replaced (part k t ps) q (inr e) = stays-rest t ps q (free_in-replaced ps q e)
+    free_in-replaced (part k t ps) q (inl e) = stays-more (λ r. Free r t) (λ r. Free r t ⊎ FreeIn r ps) q (λ x. inl x) (free-replaced t q e)
+    free_in-replaced (part k t ps) q (inr e) = stays-more (λ r. FreeIn r ps) (λ r. Free r t ⊎ FreeIn r ps) q (λ x. inr x) (free_in-replaced ps q e)
 
 -- ## An instance
 
@@ -104,7 +100,7 @@ module _ (p : Place) (i : Name) (own : List Name) (ps : Parts Name Name) where
 
   -- what is free in it was free in the type, or is new
   pub free-opened : (q : Name) → Free q opened → Free q t ⊎ Has brought q
-  free-opened q e = go (free-replaced m (λ i. refl) (node (instance i []) ps) q e)
+  free-opened q e = go (free-replaced m (node (instance i []) ps) q e)
     where
       m : Replacement
       m = owned_anew names_by_place p own
@@ -118,9 +114,10 @@ module _ (p : Place) (i : Name) (own : List Name) (ps : Parts Name Name) where
       new r true f s = subst (Has brought) (some-inj s) (new-brought (λ x. path_or_none (first_path x (exports_in ps))) own r f)
       new r false f s = cc
 
-      go : Stays m (λ i. refl) (λ r. Free r (node (instance i []) ps)) q → Free q t ⊎ Has brought q
+      go : Stays m (λ r. Free r (node (instance i []) ps)) q → Free q t ⊎ Has brought q
       go (inl x) = inl (old (member q own) refl x.1 x.0)
-      go (inr x) = inr (new x.0 (member x.0 own) refl x.1)
+      go (inr (inl x)) = inr (new x.0 (member x.0 own) refl x.1)
+      go (inr (inr x)) = cc (x.2)
 
   -- ## The new names
 

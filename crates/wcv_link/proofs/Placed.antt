@@ -1,7 +1,8 @@
 -- Names of resources by the places at which they are given.
 use Rattle.std.proofs.Common.{◌≡◌, ℕ, suc, ◌<◌, sym, ◌∙◌, subst, arith, ◌⊎◌, inl, inr}
+use Rattle.std.proofs.lemmas.Bool.{false≢true}
 use Rattle.wcv_core.specs.Names.{Name, Place, base, at, deeper}
-use Rattle.wcv_core.proofs.Places.{under-refl, under-deeper, one-item}
+use Rattle.wcv_core.proofs.Places.{under-refl, under-deeper, one-item, not-inside}
 use Rattle.wcv_lower.specs.Names.{Under}
 
 -- the name is given at that place
@@ -56,3 +57,9 @@ not_yet w k r h g =
     let j : g.0 ≡ k = one-item w g.0 k h.0 (subst (Under (deeper w g.0)) (sym e) g.2.1) h.1 in
     let l = g.1 in
     omega (arith, j, l)
+
+-- what is given at the list's own place, no item of the list gives
+pub not_in_list : (w : Place) (k : ℕ) (r : Name) → PlacedAt w r → PlacedBefore w k r → ⊥
+not_in_list w k r h g =
+    let e : w ≡ g.2.0 = one_place w g.2.0 r h g.2.2 in
+    false≢true (sym (not-inside w g.0) ∙ subst (Under (deeper w g.0)) (sym e) g.2.1)

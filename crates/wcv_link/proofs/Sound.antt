@@ -1,25 +1,29 @@
--- Instance types that own each resource once and lead to it, and entries of such types.
+-- Instance types that own each resource once and lead to it, component types that do so, and entries of such types.
 use Rattle.std.proofs.Common.{◌≡◌, List, [], ◌∷◌, Bool, true, false, ◌||◌, sym, ◌∙◌}
 use Rattle.std.specs.Prelude.{All}
 use Rattle.std.proofs.lemmas.Bool.{false≢true}
 use Rattle.std.proofs.lemmas.List.Elements.{All-nil}
 use Rattle.wcv_core.specs.Names.{Name, Place, member}
 use Rattle.wcv_types.specs.Led.{HasPath}
+use Rattle.wcv_types.specs.Paths.{PathLeadsTo}
 use Rattle.wcv_types.specs.Replacing.{Replacement, moves, changed_in, new_head, replaced_in}
-use Rattle.wcv_types.specs.Tree.{instance, type_entity, node, exports_in, first_part, rest_parts, Sort, is_type, is_instance, sort}
+use Rattle.wcv_types.specs.Tree.{instance, component, type_entity, node, exports_in, imports_in, first_part, rest_parts, Sort, is_type, is_instance, sort}
 use Rattle.wcv_lower.specs.Checks.{same_sort}
 use Rattle.wcv_lower.specs.Names.{Names}
 use Rattle.wcv_lower.specs.NewTypes.{renewed, owned_anew, instance_tree}
 use Rattle.wcv_lower.specs.Trees.{Type_tree, created, referenced}
+use Rattle.wcv_link.proofs.Having.{Once}
 
 -- no name stands twice
 abbrev pub Differ : List Name → Type 0
 Differ [] = Unit {0}
 Differ (x ∷ xs) = (member x xs ≡ false) × Differ xs
 
--- what an instance type owns it owns once, and a path leads to it in the exports
+-- what an instance type owns it owns once, and a path leads to it in the exports; a component type defines each resource once, and the
+-- paths of those that it imports lead to them
 abbrev pub IsSoundType : Type_tree → Type 0
 IsSoundType (node (instance i own) ps) = Differ own × All (HasPath (exports_in ps)) own
+IsSoundType (node (component i ins outs) ps) = Once outs × All (λ x. PathLeadsTo x.1 x.0 (imports_in ps)) ins
 IsSoundType _ = Unit {0}
 
 -- an entry, and where it is that of a type both types
@@ -37,6 +41,7 @@ referenced-sound (node h ps) w = w
 
 pub renewed-sound : (names : Names) (p : Place) (t : Type_tree) → IsSoundType t → IsSoundType (renewed names p t)
 renewed-sound names p (node (instance i own) ps) w = w
+renewed-sound names p (node (component i ins outs) ps) w = w
 renewed-sound names p (node h ps) w = tt
 
 -- what is no entry of a type

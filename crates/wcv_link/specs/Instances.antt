@@ -1,4 +1,4 @@
--- Instances that list items, over the ids of a state.
+-- Instances of components, and those that list items, over the ids of a state.
 use Rattle.std.specs.Prelude.{ℕ, List, [], ◌∷◌, ◌++◌, ◌<◌, ◌≤◌, All, Some, is_some, map, true, ◌≡◌}
 use Rattle.std.specs.List.{IsDistinct}
 use Rattle.wcv_core.specs.Limits.{max_depth, max_size}
@@ -8,6 +8,7 @@ use Rattle.wcv_core.specs.declared.error.ErrorKind.TheVariants as kind
 use Rattle.wcv_core.specs.declared.features.WasmFeatures.{WasmFeatures}
 use Rattle.wcv_syntax.specs.Built.{is_built_instance}
 use Rattle.wcv_syntax.specs.Model.{Instance_form, instance_item}
+use Rattle.wcv_syntax.specs.declared.instance.ComponentInstantiationArg.{ComponentInstantiationArg}
 use Rattle.wcv_syntax.specs.declared.name.ComponentExport.{ComponentExport}
 use Rattle.wcv_syntax.specs.declared.name.ComponentExternName.{ComponentExternName}
 use Rattle.wcv_types.specs.Arena.{Arena}
@@ -23,16 +24,23 @@ use Rattle.wcv_names.specs.Externs.{entry_of}
 use Rattle.wcv_lower.specs.Checks.{Checks, IsFree, too_many}
 use Rattle.wcv_lower.specs.Given.{GivenNames, names_of, GivesAt}
 use Rattle.wcv_lower.specs.Growth.{call_checks}
-use Rattle.wcv_lower.specs.Instances.{instance_checks, instance_made, names_checks}
+use Rattle.wcv_lower.specs.Instances.{arguments, component_at, instance_checks, instance_made, names_checks}
 use Rattle.wcv_lower.specs.Names.{Under}
 use Rattle.wcv_lower.specs.Trees.{Entries, Tree_context, tree_maker, tree_reader}
-use Rattle.wcv_state.specs.Contents.{Contents, SpaceLists, stack_of}
-use Rattle.wcv_state.specs.Instantiations.{brought_of}
+use Rattle.wcv_state.specs.Contents.{Contents, SpaceLists, context_of, stack_of}
+use Rattle.wcv_state.specs.Instantiations.{MayInstantiate, brought_of}
 use Rattle.wcv_state.specs.Looking.{item_id, item_id_checks}
 use Rattle.wcv_state.specs.Promises.{MemoryOrCausedBy, numbers_of}
 use Rattle.wcv_state.specs.declared.instances.NewInstance.{NewInstance}
 
 -- ## What is looked up
+
+-- the item of an argument, by the argument's name
+abbrev pub IsArg : SpaceLists → ComponentInstantiationArg → Text × ComponentEntityType → Type 0
+IsArg s a x = (x.0 ≡ a.name) × (item_id s a.kind a.index ≡ Some x.1)
+
+abbrev pub arg_checks : SpaceLists → ComponentInstantiationArg → Checks
+arg_checks s a = item_id_checks s a.kind a.index
 
 -- an item that is listed, by its whole name
 abbrev pub IsListed : SpaceLists → ComponentExport → ComponentExternName × ComponentEntityType → Type 0
@@ -50,6 +58,11 @@ abbrev pub size_checks : Type_tree → Checks
 size_checks t = too_many max_size (size t) ++ too_many max_depth (depth t)
 
 -- ## What is made
+
+-- an instance may be made of each component that stands in the state, by whatever arguments of the state
+abbrev pub AllMayInstantiate : Arena → Contents → Type 0
+AllMayInstantiate a s =
+    (k : ℕ) (c : Type_tree) (args : List ComponentInstantiationArg) → component_at (context_of a s) k ≡ Some c → MayInstantiate (arguments (context_of a s) args) c
 
 -- the instance is what the item makes at each place, by names that the arena gave, in whatever contexts further out, and the item has no cause
 pub record MadeInstance (a b : Arena) (s : Contents) (i : Instance_form) (m : NewInstance) : Type 0 where

@@ -17,7 +17,9 @@ use Rattle.wcv_lower.specs.Trees.{Tree_context, Tree_stack, tree_maker}
 use Rattle.wcv_state.specs.Contents.{Contents, stack_of}
 use Rattle.wcv_state.specs.Instances.{MayOpen}
 use Rattle.wcv_state.specs.Promises.{numbers_of, MemoryOrCausedBy, Keeps}
+use Rattle.wcv_decls.specs.Declaring.{innermost}
 use Rattle.wcv_decls.specs.Stack.{IsOpen, AreCalm, ChangesLast, stay, contexts_around}
+use Rattle.wcv_link.specs.Instances.{AllMayInstantiate}
 use Rattle.wcv_link.specs.Valid.{start, Refused}
 
 -- the states that are open may be used, the innermost last, their ids stand in the arena, and what stands in them owns apart
@@ -51,6 +53,10 @@ pub record RefusedAt {M : Type 0} (a b : Arena) (outer : List Tree_context) (s :
 -- an instance may be made of each instance type that stands in the state
 abbrev pub AllMayOpen : Arena → Contents → Type 0
 AllMayOpen a s = (r : ComponentTypeRef) → MayOpen a s.spaces.types r
+
+-- so of each component that stands in the innermost state
+abbrev pub LastMayInstantiate : Arena → List Contents → Type 0
+LastMayInstantiate a ss = AllMayInstantiate a (innermost ss)
 
 -- a state took the item, at whatever place and in whatever contexts
 pub record TakesItem (a b : Arena) (s s' : Contents) (f : Form) : Type 0 where

@@ -4,6 +4,7 @@ ghost use Rattle.wcv_syntax.specs.Model.{core_type_item, core_module_item, core_
 ghost use Rattle.wcv_syntax.specs.View.{core_type_view, code_decl_view, core_instance_view, instance_view};
 ghost use Rattle.wcv_state.specs.Promises.{Keeps};
 ghost use Rattle.wcv_decls.specs.Stack.{IsOpen};
+ghost use Rattle.wcv_link.specs.Instances.{AllMayInstantiate};
 ghost use Rattle.wcv_link.specs.Progress.{IsReady, TakesItem, LeavesItem, AcceptsItem, RefusesItem};
 
 use crate::instantiate::Instantiate;
@@ -74,6 +75,7 @@ pub fn read_instance(
     offset: u64,
 ) -> Result<(), Error>
     requires open { IsOpen types.old state.old }
+    requires opens { AllMayInstantiate types.old state.old }
     ensures ok { OnOk result (TakesItem types.old types.new state.old state.new (instance_item (instance_view instance))) }
     ensures err { IfErr result (LeavesItem types.old types.new state.old (instance_item (instance_view instance)) offset) }
     ensures keeps { Keeps types.old types.new state.old state.new }

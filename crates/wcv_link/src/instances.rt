@@ -1,30 +1,132 @@
-// Instances that list items.
-ghost use Rattle.std.specs.Prelude.{◌≡◌, ◌∷◌, [], List, All, true, OnOk, IfOk, IfErr};
+// Instances: of components, and those that list items.
+ghost use Rattle.std.specs.Prelude.{◌≡◌, ◌∷◌, ◌++◌, [], List, All, true, OnOk, IfOk, IfErr};
 ghost use Rattle.std.specs.List.{AllZip, list_all};
 ghost use Rattle.wcv_core.specs.Checks.{all_checks};
+ghost use Rattle.wcv_core.specs.Limits.{max_depth, max_size};
 ghost use Rattle.wcv_core.specs.Names.{Place};
-ghost use Rattle.wcv_syntax.specs.Built.{is_built_item};
-ghost use Rattle.wcv_syntax.specs.Model.{bag, instance_item};
+ghost use Rattle.wcv_syntax.specs.Built.{is_built_arg, is_built_item};
+ghost use Rattle.wcv_syntax.specs.Model.{instantiate, bag, instance_item};
 ghost use Rattle.wcv_syntax.specs.View.{instance_view};
 ghost use Rattle.wcv_types.specs.Entities.{entry_trees, EntityStands};
 ghost use Rattle.wcv_types.specs.ByName.{NamesDiffer};
-ghost use Rattle.wcv_types.specs.Standing.{Extends};
-ghost use Rattle.wcv_types.specs.Unfold.{trees};
-ghost use Rattle.wcv_lower.specs.Checks.{IsFree};
+ghost use Rattle.wcv_types.specs.Standing.{Extends, Stands};
+ghost use Rattle.wcv_types.specs.Unfold.{tree_at, trees};
+ghost use Rattle.wcv_types.specs.declared.ids.Part.TheVariants as part;
+ghost use Rattle.wcv_lower.specs.Checks.{IsFree, too_many};
 ghost use Rattle.wcv_lower.specs.Trees.{Tree_context};
 ghost use Rattle.wcv_state.specs.Contents.{StateStands};
 ghost use Rattle.wcv_state.specs.Looking.{item_id};
 ghost use Rattle.wcv_state.specs.Promises.{MemoryOrCausedBy, Grew, Keeps, Refuses};
 ghost use Rattle.wcv_state.specs.Stack.{IsOpen};
-ghost use Rattle.wcv_link.specs.Instances.{as_entries, item_checks, list_checks, CausedInstance, IsListed, MadeInstance};
+ghost use Rattle.wcv_link.specs.Instances.{arg_checks, as_entries, item_checks, list_checks, size_checks, AllMayInstantiate, CausedInstance, IsArg, IsListed, MadeInstance};
 
-use crate::core_instances::check_room;
+use crate::core_instances::{check_differ, check_room};
 use std::alloc::Global;
-use wcv_core::{Error, ErrorKind, ExternKind, Refusal, WasmFeatures, Why};
+use wcv_core::limits::{MAX_DEPTH, MAX_SIZE};
+use wcv_core::{Error, ErrorKind, ExternKind, OutOfMemory, Refusal, Text, WasmFeatures, Why};
 use wcv_names::{ComponentNameContext, NameSet};
-use wcv_state::{ComponentState, NewInstance, push_instance, unbuilt};
-use wcv_syntax::{ComponentExport, ComponentExternName, ComponentInstance, is_built_instance};
-use wcv_types::{ComponentEntityType, ItemMap, Paths, TypeAlloc, TypeInfo};
+use wcv_state::{ComponentState, NewInstance, instance_of_component, push_instance, unbuilt};
+use wcv_subtype::EntityMap;
+use wcv_syntax::{
+    ComponentExport, ComponentExternName, ComponentInstance, ComponentInstantiationArg,
+    is_built_instance,
+};
+use wcv_types::{
+    ComponentEntityType, ComponentInstanceTypeId, ItemMap, Paths, TypeAlloc, TypeInfo, TypeSort,
+};
+
+/// The items of the arguments, each by the argument's name.
+fn find_args(
+    alloc: Global,
+    args: Vec<ComponentInstantiationArg>,
+    state: &ComponentState,
+    offset: u64,
+) -> Result<Vec<(Text, ComponentEntityType)>, Error>
+    requires { list_all is_built_arg args.items ≡ true }
+    ensures ok { IfOk result (λ found. AllZip (IsArg state.now.spaces) args.items found.items) }
+    ensures free { OnOk result (IsFree (all_checks (arg_checks state.now.spaces) args.items)) }
+    ensures err { IfErr result (MemoryOrCausedBy (all_checks (arg_checks state.now.spaces) args.items) offset) }
+{
+    let mut found = Vec::with_capacity(alloc, args.len())?;
+    for arg in args {
+        let item = state.item_at(arg.kind, arg.index, offset)?;
+        found.push((arg.name, item))?;
+    }
+    Ok(found)
+}
+
+/// The same items, as what opens a component takes them.
+fn as_map(alloc: Global, found: Vec<(Text, ComponentEntityType)>) -> Result<EntityMap, OutOfMemory>
+    ensures { IfOk result (λ map. map ≡ found.items) }
+{
+    let mut map = EntityMap::new(alloc);
+    for entry in found {
+        map.push(entry.0, entry.1)?;
+    }
+    Ok(map)
+}
+
+/// Whether a type of that size and depth is within the limits.
+fn check_info(info: TypeInfo, offset: u64) -> Result<(), Refusal<'static>>
+    ensures ok { OnOk result (IsFree (too_many max_size info.size ++ too_many max_depth info.depth)) }
+    ensures err { IfErr result (MemoryOrCausedBy (too_many max_size info.size ++ too_many max_depth info.depth) offset) }
+{
+    let size = info.size as u64;
+    if size > MAX_SIZE {
+        let why = Why::new("the instance would have the size %1, at most %2 is allowed");
+        let why = why.numbers([size, MAX_SIZE, 0]);
+        return Err(Error::new(ErrorKind::Limit, offset, why));
+    }
+    let depth = info.depth as u64;
+    if depth > MAX_DEPTH {
+        let why = Why::new("the instance would have the depth %1, at most %2 is allowed");
+        let why = why.numbers([depth, MAX_DEPTH, 0]);
+        return Err(Error::new(ErrorKind::Limit, offset, why));
+    }
+    Ok(())
+}
+
+/// Whether the type of an instance is within the limits.
+fn check_size(
+    types: &TypeAlloc,
+    id: ComponentInstanceTypeId,
+    offset: u64,
+) -> Result<(), Refusal<'static>>
+    requires { Stands types.now (part.Instance id) }
+    ensures ok { OnOk result (IsFree (size_checks (tree_at types.now (part.Instance id)))) }
+    ensures err { IfErr result (MemoryOrCausedBy (size_checks (tree_at types.now (part.Instance id))) offset) }
+{
+    check_info(id.info(types), offset)
+}
+
+/// An instance of the component at that index.
+fn of_component(
+    component_index: u32,
+    args: Vec<ComponentInstantiationArg>,
+    state: &ComponentState,
+    types: &mut TypeAlloc,
+    offset: u64,
+) -> Result<NewInstance, Error>
+    requires built { list_all is_built_arg args.items ≡ true }
+    requires stands { StateStands types.old state.now }
+    requires opens { AllMayInstantiate types.old state.now }
+    ensures ok { IfOk result (MadeInstance types.old types.new state.now (instantiate component_index args.items)) }
+    ensures err { IfErr result (CausedInstance types.old types.new state.now (instantiate component_index args.items) offset) }
+    ensures grown { Extends types.old types.new }
+{
+    let alloc = types.allocator();
+    types.nodes_fit();
+    let _count = types.core_types().len();
+    let id = state.component_at(component_index, offset)?;
+    let found = find_args(alloc, args, state, offset)?;
+    let list = found.as_slice();
+    check_differ(alloc, list, "arguments of the instance", offset)?;
+    check_room(state, types, offset)?;
+    let map = as_map(alloc, found)?;
+    let made = instance_of_component(types, id, &map, offset)?;
+    check_size(types, made.ty, offset)?;
+    Ok(made)
+}
 
 /// The item that an export lists, beside which no type is written.
 fn find_item(
@@ -131,6 +233,7 @@ fn instance_made(
     offset: u64,
 ) -> Result<NewInstance, Error>
     requires stands { StateStands types.old state.now }
+    requires opens { AllMayInstantiate types.old state.now }
     ensures ok { IfOk result (MadeInstance types.old types.new state.now (instance_view instance)) }
     ensures err { IfErr result (CausedInstance types.old types.new state.now (instance_view instance) offset) }
     ensures grown { Extends types.old types.new }
@@ -139,7 +242,10 @@ fn instance_made(
         return Err(Error::from(unbuilt(offset)));
     }
     match instance {
-        ComponentInstance::Instantiate { args: _args, .. } => unreachable!(),
+        ComponentInstance::Instantiate {
+            component_index,
+            args,
+        } => of_component(component_index, args, state, types, offset),
         ComponentInstance::FromExports(exports) => of_exports(exports, state, types, offset),
     }
 }
@@ -152,6 +258,7 @@ pub fn add_instance(
     offset: u64,
 ) -> Result<(), Error>
     requires open { IsOpen types.old state.old }
+    requires opens { AllMayInstantiate types.old state.old }
     ensures ok { OnOk result ((outer : List Tree_context) (p : Place) → Grew types.old types.new outer p state.old state.new (instance_item (instance_view instance))) }
     ensures err { IfErr result (λ e. (outer : List Tree_context) (p : Place) → Refuses types.old types.new outer p state.old state.new (instance_item (instance_view instance)) offset e) }
     ensures keeps { Keeps types.old types.new state.old state.new }

@@ -6,6 +6,7 @@ ghost use Rattle.wcv_syntax.specs.View.{core_instance_view, instance_view};
 ghost use Rattle.wcv_lower.specs.Trees.{Tree_context};
 ghost use Rattle.wcv_state.specs.Promises.{Keeps, Grew, Refuses};
 ghost use Rattle.wcv_state.specs.Stack.{IsOpen};
+ghost use Rattle.wcv_link.specs.Instances.{AllMayInstantiate};
 
 use crate::core_instances::add_core_instance;
 use crate::instances::add_instance;
@@ -38,11 +39,13 @@ pub trait Instantiate: Sized {
         ensures err { IfErr result (λ e. (outer : List Tree_context) (p : Place) → Refuses types.old types.new outer p (contents self.old) (contents self.new) (core_instance_item (core_instance_view instance)) offset e) }
         ensures keeps { Keeps types.old types.new (contents self.old) (contents self.new) };
 
-    /// One more instance, which lists items. Refuses an instance of a component, and a listed value, as `Unbuilt`, an index
-    /// that is not below the length of its space as `OutOfBounds`, a type that is written beside a listed item as `Shape`,
-    /// the names of listed items as `add_export` does where no resource has a name, and more instances, or a larger or
-    /// deeper one, than there may be as `Limit`. The lengths of lists and of texts are left to the caller. After an error
-    /// the state is spent.
+    /// One more instance: of a component, whose imports the arguments open, or one that lists items. Refuses what mentions a
+    /// value as `Unbuilt`, an index that is not below the length of its space as `OutOfBounds`, arguments that do not open
+    /// the imports as `Mismatch`, a name of arguments that stands twice as `Conflict`, a type that is written beside a listed
+    /// item as `Shape`, the names of listed items as `add_export` does where no resource has a name, and more instances,
+    /// or a larger or deeper one, than there may be as `Limit`. Arguments that the component does not ask for are looked up,
+    /// and passed over. What the component defines is new in the instance, and is defined here, without a representation.
+    /// The lengths of lists and of texts are left to the caller. After an error the state is spent.
     fn add_instance(
         &mut self,
         instance: ComponentInstance,
@@ -50,6 +53,7 @@ pub trait Instantiate: Sized {
         offset: u64,
     ) -> Result<(), Error>
         requires open { IsOpen types.old (contents self.old) }
+        requires opens { AllMayInstantiate types.old (contents self.old) }
         ensures ok { OnOk result ((outer : List Tree_context) (p : Place) → Grew types.old types.new outer p (contents self.old) (contents self.new) (instance_item (instance_view instance))) }
         ensures err { IfErr result (λ e. (outer : List Tree_context) (p : Place) → Refuses types.old types.new outer p (contents self.old) (contents self.new) (instance_item (instance_view instance)) offset e) }
         ensures keeps { Keeps types.old types.new (contents self.old) (contents self.new) };

@@ -6,6 +6,7 @@ use Rattle.wcv_syntax.specs.Model.{Items, no_items}
 use Rattle.wcv_syntax.specs.View.{item_view, items_view}
 use Rattle.wcv_syntax.specs.declared.item.Item.{Item}
 use Rattle.wcv_link.specs.Progress.{ValidSoFar}
+use Rattle.wcv_link.proofs.Making.{next_may_instantiate}
 use Rattle.wcv_link.proofs.Alone.{begins, goes_on, stops, alone_open, first_alone, stops_at_end, ends_alone, ok_and}
 use Rattle.wcv_link.proofs.driver.read_root.Goals as goal
 
@@ -19,8 +20,11 @@ loop-item-init c =
       left = search;
     }
 
-pub read_item-requires : goal.read_item-requires
-read_item-requires c = c.loop-item.invariant.read.ready
+pub read_item-requires-clause-ready : goal.read_item-requires-clause-ready
+read_item-requires-clause-ready c = c.loop-item.invariant.read.ready
+
+pub read_item-requires-clause-makes : goal.read_item-requires-clause-makes
+read_item-requires-clause-makes c = next_may_instantiate c.loop-item.types c.loop-item.components.items (length c.loop-item.yielded) c.args.features (items_view c.args.items.items) _ c.loop-item.invariant.read
 
 pub returns-in_err-read_item-clause-err : goal.returns-in_err-read_item-clause-err
 returns-in_err-read_item-clause-err c =

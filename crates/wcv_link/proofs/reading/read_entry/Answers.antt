@@ -6,16 +6,9 @@ use Rattle.wcv_state.proofs.Keeping.{keeps_grown}
 use Rattle.wcv_link.proofs.Steps.{other, unbuilt_refused}
 use Rattle.wcv_link.proofs.reading.read_entry.Goals as goal
 
-pub returns-in-Unbuilt-clause-err : goal.returns-in-Unbuilt-clause-err
-returns-in-Unbuilt-clause-err c =
+pub returns-in_default-clause-err : goal.returns-in_default-clause-err
+returns-in_default-clause-err c =
     unbuilt_refused c.args.types.now c.args.state.now (section_view c.args.section) c.args.offset c.told.result (other (section_view c.args.section) c.requires.kind) (search (rules, the_lemmas)) (search (rules, the_lemmas))
 
-pub returns-in-Unbuilt-clause-keeps : goal.returns-in-Unbuilt-clause-keeps
-returns-in-Unbuilt-clause-keeps c = keeps_grown c.args.types.now c.args.types.now c.args.state.now (extends_refl c.args.types.now) c.requires.open.stands
-
-pub returns-clause-err : goal.returns-clause-err
-returns-clause-err c =
-    unbuilt_refused c.args.types.now c.args.state.now (section_view c.args.section) c.args.offset c.from.result (other (section_view c.args.section) c.requires.kind) (search (rules, the_lemmas)) (search (rules, the_lemmas))
-
-pub returns-clause-keeps : goal.returns-clause-keeps
-returns-clause-keeps c = keeps_grown c.args.types.now c.args.types.now c.args.state.now (extends_refl c.args.types.now) c.requires.open.stands
+pub returns-in_default-clause-keeps : goal.returns-in_default-clause-keeps
+returns-in_default-clause-keeps c = keeps_grown c.args.types.now c.args.types.now c.args.state.now (extends_refl c.args.types.now) c.requires.open.stands

@@ -3,7 +3,7 @@ use Rattle.std.proofs.lemmas.Result.{on_ok_weaker, IfErr-weaker}
 use Rattle.wcv_syntax.specs.Model.{Form}
 use Rattle.wcv_syntax.specs.View.{section_view}
 use Rattle.wcv_state.specs.Contents.{Contents}
-use Rattle.wcv_link.proofs.Open.{last_open, last_may_open, accepts_last, refuses_last}
+use Rattle.wcv_link.proofs.Open.{last_open, last_may_open, last_may_instantiate, accepts_last, refuses_last}
 use Rattle.wcv_link.proofs.Steps.{other, one_step}
 use Rattle.wcv_link.proofs.reading.read_in_last.Goals as goal
 
@@ -20,6 +20,13 @@ read_entry-requires-clause-opens c =
     let k : ℕ = c.len-last.result - 1 in
     let last : k ≡ length ss - 1 = ap (λ (n : ℕ). n - 1) (c.len-last.ensures ∙ c.args.components.now.ok.0) in
     last_may_open c.args.types.now ss k c.index_mut.result.now last c.index_mut.ensures.value c.requires.ready
+
+pub read_entry-requires-clause-makes : goal.read_entry-requires-clause-makes
+read_entry-requires-clause-makes c =
+    let ss : List Contents = c.args.components.now.items in
+    let k : ℕ = c.len-last.result - 1 in
+    let last : k ≡ length ss - 1 = ap (λ (n : ℕ). n - 1) (c.len-last.ensures ∙ c.args.components.now.ok.0) in
+    last_may_instantiate c.args.types.now ss k c.index_mut.result.now last c.index_mut.ensures.value c.requires.ready c.requires.makes
 
 pub returns-clause-ok : goal.returns-clause-ok
 returns-clause-ok c =

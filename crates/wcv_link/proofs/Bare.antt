@@ -1,0 +1,60 @@
+-- Types of entries in which instances own nothing: what is free inside such an instance is free in it.
+use Rattle.std.specs.Prelude.{[], ◌≡◌, All}
+use Rattle.std.proofs.lemmas.List.Elements.{All-nil, All-cons}
+use Rattle.wcv_core.specs.Names.{Name}
+use Rattle.wcv_types.specs.Tree.{Text, Head, here, label, import, export, core_import, core_export, node, Parts, none, part, owned}
+use Rattle.wcv_types.specs.Unfold.{Type_tree}
+use Rattle.wcv_matching.specs.Matching.{named_exports, named_imports, named_exports_in, named_imports_in}
+use Rattle.wcv_matching.specs.Orderly.{EachNode, EachNodeIn}
+use Rattle.wcv_lower.specs.Owned.{AllEntries}
+use Rattle.wcv_lower.specs.Trees.{Tree_context}
+
+-- it is no instance, or owns nothing
+abbrev pub OwnsNothing : Type_tree → Type 0
+OwnsNothing t = owned t ≡ []
+
+-- so each import and each export among the parts
+abbrev pub EntriesOwnNothing : Parts Name Name → Type 0
+EntriesOwnNothing none = Unit {0}
+EntriesOwnNothing (part (import n) t ps) = OwnsNothing t × EntriesOwnNothing ps
+EntriesOwnNothing (part (export n) t ps) = OwnsNothing t × EntriesOwnNothing ps
+EntriesOwnNothing (part k t ps) = EntriesOwnNothing ps
+
+-- the entry and each entry inside it, at any depth
+abbrev pub IsBare : Type_tree → Type 0
+IsBare t = OwnsNothing t × EachNode (λ h ps. EntriesOwnNothing ps) t
+
+-- so each entry of the context
+abbrev pub AreBare : Tree_context → Type 0
+AreBare c = AllEntries IsBare c
+
+-- ## Exports and imports
+
+-- what holds at each node of a tree holds so of each export and of each import
+module _ (P : Head Name Name → Parts Name Name → Type 0) where
+  abbrev Each : Text × Type_tree → Type 0
+  Each e = EachNode P e.1
+
+  exports-each_in : (ps : Parts Name Name) → EachNodeIn P ps → All Each (named_exports_in ps)
+  exports-each_in none w = All-nil Each
+  exports-each_in (part (export n) t ps) w = All-cons Each (n.name, t) (named_exports_in ps) w.0 (exports-each_in ps w.1)
+  exports-each_in (part (import n) t ps) w = exports-each_in ps w.1
+  exports-each_in (part here t ps) w = exports-each_in ps w.1
+  exports-each_in (part (label l) t ps) w = exports-each_in ps w.1
+  exports-each_in (part (core_import m n) t ps) w = exports-each_in ps w.1
+  exports-each_in (part (core_export n) t ps) w = exports-each_in ps w.1
+
+  pub exports-each : (t : Type_tree) → EachNode P t → All Each (named_exports t)
+  exports-each (node h ps) w = exports-each_in ps w.1
+
+  imports-each_in : (ps : Parts Name Name) → EachNodeIn P ps → All Each (named_imports_in ps)
+  imports-each_in none w = All-nil Each
+  imports-each_in (part (import n) t ps) w = All-cons Each (n.name, t) (named_imports_in ps) w.0 (imports-each_in ps w.1)
+  imports-each_in (part (export n) t ps) w = imports-each_in ps w.1
+  imports-each_in (part here t ps) w = imports-each_in ps w.1
+  imports-each_in (part (label l) t ps) w = imports-each_in ps w.1
+  imports-each_in (part (core_import m n) t ps) w = imports-each_in ps w.1
+  imports-each_in (part (core_export n) t ps) w = imports-each_in ps w.1
+
+  pub imports-each : (t : Type_tree) → EachNode P t → All Each (named_imports t)
+  imports-each (node h ps) w = imports-each_in ps w.1

@@ -1,0 +1,154 @@
+-- What is tidy under other names is tidy under those before, and what is free in its entries is listed there.
+use Rattle.std.proofs.Common.{◌≡◌, ℕ, List, [], ◌∷◌, ◌||◌, map, refl, sym, ◌∙◌, ap, Some}
+use Rattle.std.specs.Option.{option_map}
+use Rattle.wcv_core.specs.Names.{Name, member}
+use Rattle.wcv_types.specs.Identity.{rename_identity}
+use Rattle.wcv_types.specs.Rename.{rename_head, rename, rename_parts, rename_paths}
+use Rattle.wcv_types.specs.Resources.{Free}
+use Rattle.wcv_types.specs.Tree.{Extern_name, Head, here, label, import, export, core_import, core_export, nothing, resource, instance, component, type_entity, node, Parts, none, part, owned_at, owned, firsts}
+use Rattle.wcv_types.specs.Unfold.{Type_tree}
+use Rattle.wcv_types.proofs.All.{all-mapped_back}
+use Rattle.wcv_types.proofs.FreeRenamed.{free-renamed}
+use Rattle.wcv_types.proofs.Identity.{same_under, identity-same}
+use Rattle.wcv_types.proofs.Renaming.{each-always}
+use Rattle.wcv_types.proofs.UpToRenaming.{back_again}
+use Rattle.wcv_matching.specs.Orderly.{EachNodeIn}
+use Rattle.wcv_lower.specs.Mapped.{map_context}
+use Rattle.wcv_lower.specs.Owned.{AllEntries}
+use Rattle.wcv_lower.specs.Renamed.{Renaming, renaming}
+use Rattle.wcv_lower.specs.Trees.{Tree_context}
+use Rattle.wcv_lower.proofs.Renamed.{member-renamed}
+use Rattle.wcv_lower.proofs.TreeLaws.{sort-renamed}
+use Rattle.wcv_link.proofs.Alike.{SameKind, IsAlike}
+use Rattle.wcv_link.proofs.Bare.{OwnsNothing, EntriesOwnNothing}
+use Rattle.wcv_link.proofs.Known.{Within, Fine, In, IsFine, in-renamed_back}
+use Rattle.wcv_link.proofs.Tidy.{Known, HeadApart, IsPlain, IsTidy, TidyType, TidyEntry}
+
+module _ (w : Renaming) where
+  abbrev f : Name → Name
+  f = w.resources.to
+
+  abbrev g : Name → Name
+  g = w.identities.to
+
+  abbrev to : Type_tree → Type_tree
+  to t = rename f g t
+
+  abbrev back : Type_tree → Type_tree
+  back t = rename w.resources.back w.identities.back t
+
+  -- what was known by the other name
+  abbrev pub known_back : Known → Known
+  known_back k i = option_map back (k (g i))
+
+  is_back : (t : Type_tree) → back (to t) ≡ t
+  is_back t = back_again t (to t) (record {
+    resource_to = f;
+    resource_back = w.resources.back;
+    identity_to = g;
+    identity_back = w.identities.back;
+    renamed = refl;
+    one_to_one = each-always (λ (r : Name). w.resources.back (f r) ≡ r) (λ (i : Name). w.identities.back (g i) ≡ i) w.resources.is_back w.identities.is_back t;
+  })
+
+  -- ## Nodes
+
+  owned_at-renamed : (h : Head Name Name) → owned_at (rename_head f g h) ≡ map f (owned_at h)
+  owned_at-renamed (instance i own) = refl
+  owned_at-renamed _ = refl
+
+  owned-renamed : (t : Type_tree) → owned (to t) ≡ map f (owned t)
+  owned-renamed (node h ps) = owned_at-renamed h
+
+  member_owned : (t : Type_tree) (r : Name) → member (f r) (owned (to t)) ≡ member r (owned t)
+  member_owned t r = ap (member (f r)) (owned-renamed t) ∙ member-renamed w r (owned t)
+
+  kind-renamed_back : (t u : Type_tree) → SameKind (to t) (to u) → SameKind t u
+  kind-renamed_back t u h = (sym (sort-renamed f g t) ∙ h.0 ∙ sort-renamed f g u, λ r. sym (member_owned t r) ∙ h.1 (f r) ∙ member_owned u r)
+
+  alike-renamed_back : (h : Head Name Name) (ps : Parts Name Name) → IsAlike (rename_head f g h) (rename_parts f g ps) → IsAlike h ps
+  alike-renamed_back type_entity none a = (refl, λ r. refl)
+  alike-renamed_back type_entity (part k t none) a = kind-renamed_back t (node nothing none) a
+  alike-renamed_back type_entity (part k t (part l u ps)) a = kind-renamed_back t u a
+  alike-renamed_back _ ps a = tt
+
+  none_mapped : (rs : List Name) → map f rs ≡ [] → rs ≡ []
+  none_mapped [] e = refl
+  none_mapped (r ∷ rs) e = cc
+
+  nothing-renamed_back : (t : Type_tree) → OwnsNothing (to t) → OwnsNothing t
+  nothing-renamed_back t e = none_mapped (owned t) (sym (owned-renamed t) ∙ e)
+
+  bare-renamed_back : (ps : Parts Name Name) → EntriesOwnNothing (rename_parts f g ps) → EntriesOwnNothing ps
+  bare-renamed_back none b = tt
+  bare-renamed_back (part (import n) t ps) b = (nothing-renamed_back t b.0, bare-renamed_back ps b.1)
+  bare-renamed_back (part (export n) t ps) b = (nothing-renamed_back t b.0, bare-renamed_back ps b.1)
+  bare-renamed_back (part here t ps) b = bare-renamed_back ps b
+  bare-renamed_back (part (label l) t ps) b = bare-renamed_back ps b
+  bare-renamed_back (part (core_import m n) t ps) b = bare-renamed_back ps b
+  bare-renamed_back (part (core_export n) t ps) b = bare-renamed_back ps b
+
+  member_firsts : (rs : List (Name × List ℕ)) (r : Name) → member (f r) (firsts (rename_paths f rs)) ≡ member r (firsts rs)
+  member_firsts [] r = refl
+  member_firsts (x ∷ rs) r = λ j. same_under f w.resources.back r x.0 (w.resources.is_back r) (w.resources.is_back x.0) j || member_firsts rs r j
+
+  apart-renamed_back : (h : Head Name Name) → HeadApart (rename_head f g h) → HeadApart h
+  apart-renamed_back (component i ins outs) a = λ r e. sym (member_firsts ins r) ∙ a (f r) (member_firsts outs r ∙ e)
+  apart-renamed_back _ a = tt
+
+  no_parts : (ps : Parts Name Name) → rename_parts f g ps ≡ none → ps ≡ none
+  no_parts none e = refl
+  no_parts (part k t ps) e = cc
+
+  plain-renamed_back : (h : Head Name Name) (ps : Parts Name Name) → IsPlain (rename_head f g h) (rename_parts f g ps) → IsPlain h ps
+  plain-renamed_back (resource r s) ps e = no_parts ps e
+  plain-renamed_back _ ps e = tt
+
+  -- ## Types
+
+  module _ (k : Known) where
+    known-renamed_back : (i : Name) (t : Type_tree) → k (g i) ≡ Some (to t) → known_back k i ≡ Some t
+    known-renamed_back i t e = ap (option_map back) e ∙ ap (λ (u : Type_tree). Some u) (is_back t)
+
+    node-renamed_back : (h : Head Name Name) (ps : Parts Name Name) → IsTidy k (rename_head f g h) (rename_parts f g ps) → IsTidy (known_back k) h ps
+    node-renamed_back h ps a = record {
+      alike = alike-renamed_back h ps a.alike;
+      bare = bare-renamed_back ps a.bare;
+      apart = apart-renamed_back h a.apart;
+      plain = plain-renamed_back h ps a.plain;
+      one = λ i e. known-renamed_back i (node h ps) (a.one (g i) (identity-same f g h ∙ ap (option_map (rename_identity f g)) e));
+    }
+
+    mutual
+      pub tidy-renamed_back : (t : Type_tree) → TidyType k (to t) → TidyType (known_back k) t
+      tidy-renamed_back (node h ps) a = (node-renamed_back h ps a.0, tidy_in-renamed_back ps a.1)
+
+      tidy_in-renamed_back : (ps : Parts Name Name) → EachNodeIn (IsTidy k) (rename_parts f g ps) → EachNodeIn (IsTidy (known_back k)) ps
+      tidy_in-renamed_back none a = tt
+      tidy_in-renamed_back (part l t ps) a = (tidy-renamed_back t a.0, tidy_in-renamed_back ps a.1)
+
+    pub entry-renamed_back : (t : Type_tree) → TidyEntry k (to t) → TidyEntry (known_back k) t
+    entry-renamed_back t a = (nothing-renamed_back t a.0, tidy-renamed_back t a.1)
+
+  -- ## Contexts
+
+  module _ (c : Tree_context) where
+    abbrev d : Tree_context
+    d = map_context (renaming w) c
+
+    entries-renamed_back : (P Q : Type_tree → Type 0) → ((t : Type_tree) → P (to t) → Q t) → AllEntries P d → AllEntries Q c
+    entries-renamed_back P Q q h = record {
+      core = λ j. all-mapped_back Q P to q (c.core j) (h.core j);
+      space = λ j. all-mapped_back Q P to q (c.space j) (h.space j);
+      side = λ j. all-mapped_back (λ (e : Extern_name × Type_tree). Q e.1) (λ (e : Extern_name × Type_tree). P e.1) (λ e. (e.0, to e.1)) (λ e. q e.1) (c.side j) (h.side j);
+    }
+
+    pub context_tidy-renamed_back : (k : Known) → AllEntries (TidyEntry k) d → AllEntries (TidyEntry (known_back k)) c
+    context_tidy-renamed_back k = entries-renamed_back (TidyEntry k) (TidyEntry (known_back k)) (entry-renamed_back k)
+
+    free-renamed_in : (r : Name) (t : Type_tree) → Free r t → Free (f r) (to t)
+    free-renamed_in r t = free-renamed f w.resources.back g (λ i. Unit {0}) r t (each-always (λ (q : Name). w.resources.back (f q) ≡ q) (λ (i : Name). Unit {0}) w.resources.is_back (λ i. tt) t)
+
+    -- what is free in an entry is listed
+    pub within-renamed_back : IsFine d → AllEntries (Within (In c)) c
+    within-renamed_back = entries-renamed_back (Fine (In d)) (Within (In c)) (λ t h r x. in-renamed_back w c r (h.0 (f r) (free-renamed_in r t x)))
