@@ -5,7 +5,7 @@
 
 The listings that are changed are those in examples/, one for each example of a form in the schema, one for
 each canonical function, and the .json files below each FOLDER; each second change is one of a listing whose
-forms are all built. In seven of examples/ (functions, defined, resources, modules, linked, component-type and listed)
+forms are all built. In seven of examples/ (functions, defined, resources, modules, linked, component-type and mismatch)
 each place is also changed in each way. The same seed makes the same listings. What disagrees is printed, and the last line has
 counts. Needs Python 3.10 and its package `jsonschema`, 4.0, or later versions of both.
 
@@ -42,7 +42,7 @@ FORMS = [key for key in PARTS["item"]["properties"] if key != "at"]
 WHOLE = Draft202012Validator(SCHEMA)
 LONGEST = 8_000  # bytes of a listing of a folder that is changed
 DEEPEST = 127  # levels of nesting that are JSON
-WHOLLY_CHANGED = ("functions.json", "defined.json", "resources.json", "modules.json", "linked.json", "component-type.json", "listed.json")
+WHOLLY_CHANGED = ("functions.json", "defined.json", "resources.json", "modules.json", "linked.json", "component-type.json", "mismatch.json")
 
 
 class NotJson(Exception):
@@ -177,6 +177,8 @@ def is_built(item):
             return is_built_export(export)
         case {"instance": {"exports": exports}}:
             return all(map(is_built_export, exports))
+        case {"instance": {"args": args}}:
+            return all(sort != "value" for _, sort, _ in args)
     return False
 
 
