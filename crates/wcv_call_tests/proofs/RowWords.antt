@@ -1,5 +1,5 @@
 -- Words of rows that name no type.
-use Rattle.std.proofs.Common.{ℕ, Bool, List, [], ◌∷◌, Some, None}
+use Rattle.std.proofs.Common.{ℕ, Bool, [], ◌∷◌}
 use Rattle.std.specs.List.{All}
 use Rattle.std.proofs.lemmas.List.Elements.{All-nil, All-cons}
 use Rattle.wcv_core.specs.CoreGroups.{IsValWithin}

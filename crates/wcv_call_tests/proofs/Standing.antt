@@ -36,7 +36,7 @@ refs_stand a (core e) h = All-nil (Stands a)
 refs_stand a (at q) h = All-cons (Stands a) q [] h (All-nil (Stands a))
 refs_stand a (both c r) h = All-cons (Stands a) c (r ∷ []) h.0 (All-cons (Stands a) r [] h.1 (All-nil (Stands a)))
 
-pub entries_fit : (a : Arena) (role : Extern_name → Role) (es : List Entry) → All (EntryStands a) es → All (Stands a) (parts_in (entry_slots role es))
+entries_fit : (a : Arena) (role : Extern_name → Role) (es : List Entry) → All (EntryStands a) es → All (Stands a) (parts_in (entry_slots role es))
 entries_fit a role [] h = All-nil (Stands a)
 entries_fit a role (e ∷ es) h =
     All-append (Stands a) (slot_refs (entity_slot e.1.ty)) (parts_in (entry_slots role es)) (refs_stand a (entity_slot e.1.ty) (All-head (EntryStands a) e es h))

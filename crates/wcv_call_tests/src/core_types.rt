@@ -1,12 +1,10 @@
-// Core types in closed form that join an arena, and which types match.
+// Core types in closed form that join an arena.
 ghost use Rattle.std.specs.Prelude.{◌≡◌, [], ℕ, IfOk};
 ghost use Rattle.wcv_core.specs.CoreForm.{func_form, group_form};
 ghost use Rattle.wcv_core.specs.CoreGroups.{IsClosed};
 
 use std::alloc::Global;
-use wcv_core::{
-    CompositeInnerType, CoreTypeId, CoreTypes, FuncType, OutOfMemory, RecGroup, SubType, ValType,
-};
+use wcv_core::{CompositeInnerType, FuncType, OutOfMemory, RecGroup, SubType};
 use wcv_types::TypeAlloc;
 
 /// A function type that takes and gives nothing.
@@ -45,22 +43,11 @@ fn is_first(alloc: Global, types: &mut TypeAlloc) -> bool {
     }
 }
 
-/// Whether the first type is a declared subtype of itself, and a number matches itself and no other one.
-fn are_related(core: &CoreTypes) -> bool {
-    if core.len() == 0 {
-        return false;
-    }
-    let first = CoreTypeId { index: 0 };
-    core.is_declared_subtype(first, first)
-        && core.val_type_matches(&ValType::I32, &ValType::I32)
-        && !core.val_type_matches(&ValType::I32, &ValType::I64)
-}
-
 /// Equal closed forms have one id.
 #[tactic(auto, using(crate::proofs::Closing::func_closed))]
 pub fn equal_closed_forms_are_one(alloc: Global, types: &mut TypeAlloc) -> bool {
     match types.intern_func_type(func(alloc), 0) {
-        Ok(id) => id.index == 0 && is_first(alloc, types) && are_related(types.core_types()),
+        Ok(id) => id.index == 0 && is_first(alloc, types),
         Err(_) => false,
     }
 }

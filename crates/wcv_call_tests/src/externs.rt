@@ -1,10 +1,8 @@
 // Which names a value, an instance and a component may have.
 ghost use Rattle.std.specs.Prelude.{◌≡◌};
-ghost use Rattle.wcv_call_tests.specs.Sorts.{AreOf};
 ghost use Rattle.wcv_types.specs.Entities.{EntityStands};
 
-use crate::ids::Sorts;
-use crate::sorts::{U32, one_entry};
+use crate::sorts::{U32, add_component, add_instance, one_entry};
 use bitflags::Flags;
 use wcv_core::{ErrorKind, WasmFeatures};
 use wcv_types::{ComponentEntityType, TypeAlloc};
@@ -108,19 +106,40 @@ fn hold(
     true
 }
 
-/// Values, instances and components have the names that they may have.
-pub fn names_are_for_their_sorts(types: &mut TypeAlloc, ids: Sorts) -> bool
-    requires { AreOf types.old ids }
-{
+/// Values have the names that they may have.
+fn values_are_named(types: &mut TypeAlloc) -> bool {
     let all = WasmFeatures::all();
-    let value = ComponentEntityType::Value(U32);
-    let instance = ComponentEntityType::Instance(ids.instance);
-    let component = ComponentEntityType::Component(ids.component);
-    hold(EACH, value, &all, types)
-        && hold(EACH, instance, &all, types)
-        && hold(EACH, component, &all, types)
-        && hold(INSTANCE, instance, &all, types)
-        && hold(OTHER, value, &all, types)
-        && hold(OTHER, component, &all, types)
-        && hold(PLAIN, instance, &WasmFeatures::default(), types)
+    let ty = ComponentEntityType::Value(U32);
+    hold(EACH, ty, &all, types) && hold(OTHER, ty, &all, types)
+}
+
+/// So have instances.
+fn instances_are_named(types: &mut TypeAlloc) -> bool {
+    let all = WasmFeatures::all();
+    match add_instance(types) {
+        Ok(id) => {
+            let ty = ComponentEntityType::Instance(id);
+            hold(EACH, ty, &all, types)
+                && hold(INSTANCE, ty, &all, types)
+                && hold(PLAIN, ty, &WasmFeatures::default(), types)
+        }
+        Err(_) => false,
+    }
+}
+
+/// So have components.
+fn components_are_named(types: &mut TypeAlloc) -> bool {
+    let all = WasmFeatures::all();
+    match add_component(types) {
+        Ok(id) => {
+            let ty = ComponentEntityType::Component(id);
+            hold(EACH, ty, &all, types) && hold(OTHER, ty, &all, types)
+        }
+        Err(_) => false,
+    }
+}
+
+/// Values, instances and components have the names that they may have.
+pub fn names_are_for_their_sorts(types: &mut TypeAlloc) -> bool {
+    values_are_named(types) && instances_are_named(types) && components_are_named(types)
 }

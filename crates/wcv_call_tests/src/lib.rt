@@ -14,7 +14,6 @@ mod externs;
 mod flat;
 #[cfg(test)]
 mod flat_rows;
-mod ids;
 #[cfg(test)]
 mod items;
 #[cfg(test)]
@@ -23,6 +22,8 @@ mod joining;
 mod layouts;
 #[cfg(test)]
 mod lists;
+#[cfg(test)]
+mod matching;
 #[cfg(test)]
 mod modules;
 #[cfg(test)]

@@ -1,4 +1,4 @@
-// A module that is made call by call, joins a state, and is exported.
+// A module that is made call by call, joins a state, matches itself, and is exported.
 ghost use Rattle.std.specs.Prelude.{◌≡◌, IfOk, OnOk};
 ghost use Rattle.wcv_decls.specs.Stack.{IsOpen};
 ghost use Rattle.wcv_module.specs.Kept.{IsCounted};
@@ -9,6 +9,7 @@ use bitflags::Flags;
 use std::alloc::Global;
 use wcv_core::{Error, OutOfMemory, Text, WasmFeatures};
 use wcv_decls::Declare;
+use wcv_matching::module_type;
 use wcv_module::{Module, NoOuter};
 use wcv_state::ComponentState;
 use wcv_syntax::{ComponentExport, ComponentExternName, ComponentExternalKind, Import, TypeRef};
@@ -48,13 +49,8 @@ fn imports(made: &Module) -> usize {
 // Whether it has one import, and nothing is open around it.
 fn has_one_import(made: &Module) -> bool {
     let is_open = made.outer_type_at(&NoOuter, 1, 0, 9).is_ok();
-    let counts = [
-        made.types().len(),
-        made.imports().len(),
-        made.exports().len(),
-        imports(made),
-    ];
-    counts == [0, 1, 0, 1] && made.size() == 2 && !is_open
+    let counts = [made.imports().len(), made.exports().len(), imports(made)];
+    counts == [1, 0, 1] && made.size() == 2 && !is_open
 }
 
 /// A module joins a state.
@@ -99,43 +95,13 @@ fn exported(
     }
 }
 
-/// The export joins.
-fn add_entry(
-    export: ComponentExport,
-    state: &mut ComponentState,
-    types: &mut TypeAlloc,
-) -> Result<(), Error>
-    requires { IsOpen types.old state.old }
-    ensures { OnOk result (IsOpen types.new state.new) }
-{
-    match state.add_export_item(export, types, 0) {
-        Ok(()) => Ok(()),
-        Err(error) => Err(error),
-    }
-}
-
-/// The type of what was read has the export, and so has the state, which is spent.
+/// The state is spent where the type of what was read is given.
 fn is_finished(state: &mut ComponentState, types: &TypeAlloc) -> bool
     requires { IsOpen types.now state.old }
 {
     match state.finish(types, 7) {
-        Ok(ty) => [ty.exports.len(), state.exports().len()] == [1, 1] && state.is_spent(),
+        Ok(ty) => ty.exports.len() == 0 && state.is_spent(),
         Err(_) => false,
-    }
-}
-
-/// So by an export: its entity, and then the entry.
-fn add_export(
-    export: ComponentExport,
-    state: &mut ComponentState,
-    types: &mut TypeAlloc,
-) -> Result<(), Error>
-    requires { IsOpen types.old state.old }
-    ensures { OnOk result (IsOpen types.new state.new) }
-{
-    match exported(&export, state, types) {
-        Ok(_) => add_entry(export, state, types),
-        Err(error) => Err(error),
     }
 }
 
@@ -144,15 +110,28 @@ fn is_exported(alloc: Global, state: &mut ComponentState, types: &mut TypeAlloc)
     requires { IsOpen types.old state.old }
 {
     match first(alloc) {
-        Ok(export) => match add_export(export, state, types) {
-            Ok(()) => is_finished(state, types),
+        Ok(export) => match exported(&export, state, types) {
+            Ok(_) => is_finished(state, types),
             Err(_) => false,
         },
         Err(_) => false,
     }
 }
 
-/// A module that imports a memory joins a state, and is exported there.
+/// Whether the first module matches itself.
+fn matches_itself(state: &ComponentState, types: &TypeAlloc) -> bool
+    requires { IsOpen types.now state.now }
+{
+    match state.module_at(0, 7) {
+        Ok(id) => match module_type(types, id, id, 7) {
+            Ok(()) => true,
+            Err(_) => false,
+        },
+        Err(_) => false,
+    }
+}
+
+/// A module that imports a memory joins a state, matches itself, and is exported there.
 pub fn a_module_is_exported(
     alloc: Global,
     state: &mut ComponentState,
@@ -164,7 +143,9 @@ pub fn a_module_is_exported(
         Ok(made) => {
             let counts = has_one_import(&made);
             match join(made, state, types) {
-                Ok(()) => counts && is_exported(alloc, state, types),
+                Ok(()) => {
+                    counts && matches_itself(state, types) && is_exported(alloc, state, types)
+                }
                 Err(_) => false,
             }
         }

@@ -1,7 +1,8 @@
-// Names of imports and exports by themselves.
+// Names of imports and exports by themselves, and their keys.
 use bitflags::Flags;
 use std::alloc::Global;
 use wcv_core::{OutOfMemory, WasmFeatures};
+use wcv_names::NameSet;
 use wcv_syntax::{ComponentName, ComponentNameKind, NameKey};
 
 const SETTER: &str = "[method][set]R.F";
@@ -43,6 +44,20 @@ fn is_known(alloc: Global, name: &ComponentName) -> bool {
 pub fn a_setter_has_a_getter(alloc: Global) -> bool {
     match ComponentName::new_with_features(alloc, SETTER, 5, WasmFeatures::CM_ACCESSORS) {
         Ok(name) => is_known(alloc, &name),
+        Err(_) => false,
+    }
+}
+
+// A set has the key that joins it.
+fn has_joined(alloc: Global, key: String) -> bool {
+    let mut keys = NameSet::new(alloc);
+    let _ = keys.push(key);
+    keys.contains("k")
+}
+
+pub fn keys_join_a_set(alloc: Global) -> bool {
+    match String::from_str(alloc, "k") {
+        Ok(key) => has_joined(alloc, key),
         Err(_) => false,
     }
 }

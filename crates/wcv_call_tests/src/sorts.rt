@@ -1,22 +1,19 @@
-// Types of the sorts that no item makes yet: an instance, a component and a core instance.
-ghost use Rattle.std.specs.Prelude.{◌≡◌, All, IfOk, OnOk};
-ghost use Rattle.wcv_call_tests.specs.Sorts.{AreOf};
+// Lists with one entry, and types over them: an instance and a component.
+ghost use Rattle.std.specs.Prelude.{◌≡◌, All, IfOk};
 ghost use Rattle.wcv_types.specs.ByName.{NamesDiffer};
 ghost use Rattle.wcv_types.specs.Entities.{EntityStands, EntryStands};
-ghost use Rattle.wcv_types.specs.Standing.{KeepsTrees, Stands};
+ghost use Rattle.wcv_types.specs.Standing.{Stands};
 ghost use Rattle.wcv_types.specs.declared.ids.Part.TheVariants as part;
 
-use crate::ids::Sorts;
 use bitflags::Flags;
 use std::alloc::Global;
 use wcv_core::{Error, ExternKind, OutOfMemory, PrimitiveValType, Text, WasmFeatures};
 use wcv_names::{ComponentNameContext, NameSet};
+use wcv_state::push_instance;
 use wcv_syntax::ComponentExternName;
 use wcv_types::{
-    AliasableResourceId, ComponentAnyTypeId, ComponentCoreInstanceTypeId, ComponentEntityType,
-    ComponentInstanceType, ComponentInstanceTypeId, ComponentType, ComponentTypeId,
-    ComponentValType, CoreInstanceTypeKind, ExportMap, InstanceType, ItemMap, Paths, ResourceSet,
-    TypeAlloc, TypeInfo,
+    ComponentEntityType, ComponentInstanceTypeId, ComponentType, ComponentTypeId, ComponentValType,
+    ItemMap, Paths, TypeAlloc, TypeInfo,
 };
 
 pub const U32: ComponentValType = ComponentValType::Primitive(PrimitiveValType::U32);
@@ -96,24 +93,17 @@ pub fn one_entry(
     }
 }
 
-/// The type of an instance that exports the type of the resource, and owns none.
-fn add_instance(
-    types: &mut TypeAlloc,
-    id: AliasableResourceId,
-) -> Result<ComponentInstanceTypeId, Error>
-    requires { Stands types.old (part.Resource id) }
-    ensures stands { IfOk result (λ id. Stands types.new (part.Instance id)) }
-    ensures stay { OnOk result (KeepsTrees types.old types.new) }
+/// The type of an instance that exports a value.
+pub fn add_instance(types: &mut TypeAlloc) -> Result<ComponentInstanceTypeId, Error>
+    ensures { IfOk result (λ id. Stands types.new (part.Instance id)) }
 {
-    let created = ComponentAnyTypeId::Resource(id);
-    let ty = ComponentEntityType::Ty {
-        created,
-        referenced: created,
-    };
-    let exports = one_entry("r", ty, &WasmFeatures::all(), types)?;
-    let owned = ResourceSet::new(types.allocator());
-    let shape = ComponentInstanceType::over(types, owned, exports);
-    Ok(types.push_ty(shape)?)
+    let exports = one_entry(
+        "v",
+        ComponentEntityType::Value(U32),
+        &WasmFeatures::all(),
+        types,
+    )?;
+    Ok(push_instance(types, exports)?)
 }
 
 /// The type of a component that imports these, exports those, and has no resource.
@@ -121,8 +111,7 @@ fn over(imports: ItemMap, exports: ItemMap, types: &mut TypeAlloc) -> Result<Com
     requires imports { All (EntryStands types.old) imports }
     requires exports { All (EntryStands types.old) exports }
     requires apart { NamesDiffer imports × NamesDiffer exports }
-    ensures stands { IfOk result (λ id. Stands types.new (part.Component id)) }
-    ensures stay { OnOk result (KeepsTrees types.old types.new) }
+    ensures { IfOk result (λ id. Stands types.new (part.Component id)) }
 {
     let imported = Paths::new(types.allocator());
     let defined = Paths::new(types.allocator());
@@ -130,47 +119,13 @@ fn over(imports: ItemMap, exports: ItemMap, types: &mut TypeAlloc) -> Result<Com
     Ok(types.push_ty(shape)?)
 }
 
-/// The type of a component that imports a value and exports the instance.
-fn add_component(
-    types: &mut TypeAlloc,
-    id: ComponentInstanceTypeId,
-) -> Result<ComponentTypeId, Error>
-    requires { Stands types.old (part.Instance id) }
-    ensures stands { IfOk result (λ id. Stands types.new (part.Component id)) }
-    ensures stay { OnOk result (KeepsTrees types.old types.new) }
+/// The type of a component that imports a value and exports an instance.
+pub fn add_component(types: &mut TypeAlloc) -> Result<ComponentTypeId, Error>
+    ensures { IfOk result (λ id. Stands types.new (part.Component id)) }
 {
     let features = WasmFeatures::all();
+    let id = add_instance(types)?;
     let imports = one_entry("v", ComponentEntityType::Value(U32), &features, types)?;
-    let words = "i implements=a:b/c@1.2 suffix=.3 id=e";
-    let exports = one_entry(words, ComponentEntityType::Instance(id), &features, types)?;
+    let exports = one_entry("i", ComponentEntityType::Instance(id), &features, types)?;
     over(imports, exports, types)
-}
-
-/// The type of a core instance that exports nothing.
-#[tactic(auto, using(crate::proofs::Owning::bare_fits))]
-fn add_bare(types: &mut TypeAlloc) -> Result<ComponentCoreInstanceTypeId, OutOfMemory>
-    ensures stands { IfOk result (λ id. Stands types.new (part.CoreInstance id)) }
-    ensures stay { OnOk result (KeepsTrees types.old types.new) }
-{
-    let shape = InstanceType {
-        info: TypeInfo { size: 1, depth: 1 },
-        kind: CoreInstanceTypeKind::Exports(ExportMap::new(types.allocator())),
-    };
-    types.push_ty(shape)
-}
-
-/// The types over a new resource.
-#[tactic(auto, using(crate::proofs::Owning::new_resource))]
-pub fn add_all(types: &mut TypeAlloc) -> Result<Sorts, Error>
-    ensures { IfOk result (AreOf types.new) }
-{
-    let resource = types.alloc_resource_id()?;
-    let instance = add_instance(types, resource)?;
-    let component = add_component(types, instance)?;
-    let made = add_bare(types)?;
-    Ok(Sorts {
-        instance,
-        component,
-        made,
-    })
 }

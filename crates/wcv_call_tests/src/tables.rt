@@ -4,36 +4,29 @@ use crate::base::{a_label_is_kept, a_map_gives_its_pairs};
 use crate::flat_rows::{FLAT, LOWERED};
 use crate::items::an_item_is_copied;
 use crate::layouts::LAYOUTS;
-use crate::lists::{
-    a_list_has_its_parts, a_set_of_resources_is_copied, exports_are_copied, exports_are_found,
-    items_are_found, items_are_found_by_name,
-};
-use crate::names::a_setter_has_a_getter;
+use crate::lists::{a_list_has_its_parts, exports_are_copied};
+use crate::names::{a_setter_has_a_getter, keys_join_a_set};
 use crate::printed::{a_group_is_printed, items_are_printed};
 use crate::states::{Question, holds, other_answer};
 use std::alloc::Global;
 
 // Whether each case is answered as is due.
-fn cases(alloc: Global) -> [bool; 24] {
+fn cases(alloc: Global) -> [bool; 20] {
     [
         a_label_is_kept(alloc),
         a_group_is_printed(alloc),
         items_are_printed(alloc),
         a_map_gives_its_pairs(alloc),
         a_setter_has_a_getter(alloc),
+        keys_join_a_set(alloc),
         an_item_is_copied(alloc),
         a_list_has_its_parts(alloc),
-        a_set_of_resources_is_copied(alloc),
         exports_are_copied(alloc),
-        exports_are_found(alloc),
-        items_are_found(alloc),
-        items_are_found_by_name(alloc),
         holds_of_arena(alloc, Asked::CoreTypes),
-        holds_of_arena(alloc, Asked::Nodes),
+        holds_of_arena(alloc, Asked::Items),
+        holds_of_arena(alloc, Asked::Parts),
         holds_of_arena(alloc, Asked::Names),
-        holds_of_arena(alloc, Asked::Free),
         holds_of_arena(alloc, Asked::Text),
-        holds_of_arena(alloc, Asked::Identities),
         holds_of_arena(alloc, Asked::Reference),
         holds_of_arena(alloc, Asked::Equal),
         holds_of_arena(alloc, Asked::Rows),
@@ -45,7 +38,7 @@ fn cases(alloc: Global) -> [bool; 24] {
 
 #[test]
 fn all_is_answered_as_is_due(rt: HostRuntime) {
-    assert_eq!(rt; cases(rt.alloc()), [true; 24]);
+    assert_eq!(rt; cases(rt.alloc()), [true; 20]);
     assert_eq!(rt; other_answer(rt.alloc(), Question::Layout, LAYOUTS), "");
     assert_eq!(rt; other_answer(rt.alloc(), Question::Flat, FLAT), "");
     assert_eq!(rt; other_answer(rt.alloc(), Question::Lowered, LOWERED), "");
