@@ -115,6 +115,7 @@ joined_stack a outer d z s' n x m w =
       size = (w.info j).size;
       depth = (w.info j).depth;
       aliased = 0;
+      context_type = None;
     }) in
     let whole : apply (joins tree_reader (sort t) t) (on a outer (name_types d (creates t) (enlist d (extern_name n) t (introduce d (brought_new a x).resources before)))) ≡ apply (joins tree_reader (sort t) t) (on a outer c) =
     λ j. apply (joins tree_reader (sort t) t) (on a outer (name_types d (creates t) (enlist d (extern_name n) t (introduce_is d (brought_new a x).resources before j)))) in

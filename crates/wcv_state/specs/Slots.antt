@@ -1,5 +1,5 @@
 -- What a state holds, by its ids.
-use Rattle.std.specs.Prelude.{List, map}
+use Rattle.std.specs.Prelude.{List, map, None}
 use Rattle.wcv_types.specs.Arena.{Arena}
 use Rattle.wcv_types.specs.ComponentTrees.{resource_path}
 use Rattle.wcv_types.specs.Entities.{entity_slot, entry_name}
@@ -26,6 +26,7 @@ slots_of a s = record {
   size = s.info.size;
   depth = s.info.depth;
   aliased = 0;
+  context_type = None;
 }
 
 -- the states that are open, the innermost first, over the arena's table of core types
