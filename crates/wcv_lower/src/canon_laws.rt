@@ -1,6 +1,6 @@
 // Laws of canonical functions, over the definitions alone.
 ghost use Rattle.std.specs.Option.{option_or};
-ghost use Rattle.std.specs.Prelude.{◌≡◌, ◌⊎◌, ℕ, List, [], ◌∷◌, ◌++◌, All, Bool, Some};
+ghost use Rattle.std.specs.Prelude.{◌≡◌, ◌⊎◌, ℕ, List, [], ◌∷◌, ◌++◌, All, Bool, true, false, Some};
 ghost use Rattle.wcv_core.specs.CoreForm.{SubForm, Group, func_form};
 ghost use Rattle.wcv_core.specs.CoreGroups.{IsValWithin};
 ghost use Rattle.wcv_core.specs.CoreJoining.{first_id, grown};
@@ -32,7 +32,7 @@ ghost use Rattle.wcv_lower.specs.Context.{core_funcs};
 ghost use Rattle.wcv_lower.specs.Step.{Step, apply};
 ghost use Rattle.wcv_lower.specs.Trees.{tree_reader, Tree_stack};
 ghost use Rattle.wcv_lower.specs.Values.{type_of_sort};
-ghost use Rattle.wcv_lower.specs.WorkedCanons.{kinds, appends_type, default_with, with_resource, with_local_resource, times, with_func, with_memory, with_code, with_stream, bare_root, with_slots};
+ghost use Rattle.wcv_lower.specs.WorkedCanons.{kinds, appends_type, default_with, with_resource, with_local_resource, times, with_func, with_memory, with_code, with_core_type, with_stream, bare_root, with_slots};
 
 /// Where a canonical function appends a core function, the groups that were read are those before it with its own, and the core function
 /// is of that group's type, by its id. One that lifts appends a function of the type that is named. The first that reads or writes a
@@ -63,8 +63,12 @@ pub fn worked_canonical_functions()
     ensures encodings { kinds (canon_checks default_features (with_func 0) (form.lower 0 (option.UTF8 ∷ option.UTF16 ∷ []))) ≡ error.Options ∷ [] }
     ensures sixteen { canon_step (with_func 16) (form.lower 0 []) ≡ appends_type bare_root (times 16 val.I32) [] }
     ensures seventeen { kinds (canon_checks default_features (with_func 17) (form.lower 0 [])) ≡ error.Options ∷ [] }
-    ensures memory { canon_step (with_memory 17) (form.lower 0 (option.Memory 0 ∷ [])) ≡ appends_type bare_root (val.I32 ∷ []) [] }
-    ensures free { kinds (canon_checks default_features (with_memory 17) (form.lower 0 (option.Memory 0 ∷ []))) ≡ [] }
+    ensures memory { canon_step (with_memory false 17) (form.lower 0 (option.Memory 0 ∷ [])) ≡ appends_type bare_root (val.I32 ∷ []) [] }
+    ensures free { kinds (canon_checks default_features (with_memory false 17) (form.lower 0 (option.Memory 0 ∷ []))) ≡ [] }
+    ensures wide { kinds (canon_checks default_features (with_memory true 17) (form.lower 0 (option.Memory 0 ∷ []))) ≡ error.Feature ∷ [] }
+    ensures barred { kinds (canon_checks default_features (with_func 0) (form.lower 0 (option.PostReturn 0 ∷ []))) ≡ error.OutOfBounds ∷ error.Options ∷ [] }
+    ensures spawned { kinds (canon_checks (default_with 447) (with_core_type true) (form.builtin (canon.ThreadSpawnRef 0))) ≡ [] }
+    ensures unshared { kinds (canon_checks (default_with 447) (with_core_type false) (form.builtin (canon.ThreadSpawnRef 0))) ≡ error.Signature ∷ [] }
     ensures lifted { kinds (canon_checks default_features (with_code val.I32) (form.lift 0 0 [])) ≡ [] }
     ensures signature { kinds (canon_checks default_features (with_code val.I64) (form.lift 0 0 [])) ≡ error.Signature ∷ [] }
     ensures returned { canon_step bare_root (form.task_return (Some (value.Primitive prim.U32)) []) ≡ appends_type bare_root (val.I32 ∷ []) [] }
