@@ -1,5 +1,5 @@
 -- The pass over component types by ids.
-use Rattle.std.proofs.Common.{◌≡◌, ℕ, suc, ◌≤◌, ◌<◌, List, [], ◌++◌, map, Bool, true, false, ◌&&◌, cond, Option, Some, refl, sym, ◌∙◌, ap, subst, arith}
+use Rattle.std.proofs.Common.{◌≡◌, ℕ, suc, ◌≤◌, ◌<◌, List, ◌++◌, map, Bool, true, false, ◌&&◌, cond, Option, None, Some, refl, sym, ◌∙◌, ap, subst, arith}
 use Rattle.std.specs.Prelude.{All}
 use Rattle.std.specs.List.{list_all}
 use Rattle.std.proofs.lemmas.List.Folds.{list_all-map}
@@ -27,7 +27,7 @@ use Rattle.wcv_matching.proofs.NamedLists.{map-map}
 use Rattle.wcv_subtype.specs.IdCounterparts.{counterparts_of}
 use Rattle.wcv_subtype.specs.IdPasses.{Answers, AnswersEntries, named_trees, tallest}
 use Rattle.wcv_subtype.specs.OwnResources.{going, opens_by_none_made, read_as, Opened, OpenedBy, Paired, PairedBy}
-use Rattle.wcv_subtype.specs.Readings.{atoms_of, over, read_by}
+use Rattle.wcv_subtype.specs.Readings.{atoms_of, over}
 use Rattle.wcv_subtype.specs.declared.own_resources.OwnAtoms.{OwnAtoms}
 use Rattle.wcv_subtype.specs.declared.readings.ResourceAtom.{ResourceAtom}
 use Rattle.wcv_subtype.proofs.Exporting.{component_names}
@@ -166,6 +166,9 @@ module _ (gs : List Group) (k : ℕ) (f g : Reading Atom) (x y : Type_tree) (ex 
   abbrev exports_match : ℕ → Bool
   exports_match d = each_passes (match_below (id_tests gs) d (suc k) (left_at k f g x y) (exports_at k f g x y)) (named_exports x) (named_exports y)
 
+  pub same_unpaired : own_pair_up x y ≡ false → Answers gs true k f g x y false
+  same_unpaired e = answers_made gs true is_component k f g x y ex ey (λ d l r. sym (λ j. e j && (same_imports d && same_exports d)))
+
   pub same_first_no : own_pair_up x y ≡ true → AnswersEntries gs true (suc k) in_imports (right_at k (head y) g) (named_imports x) (named_imports y) false → Answers gs true k f g x y false
   same_first_no e m = answers_made gs true is_component k f g x y ex ey (λ d l r.
       let p = imports_lower x in let q = imports_lower y in
@@ -214,6 +217,9 @@ module _ (a : Arena) (i : ℕ) (s : ComponentType) (x : Type_tree) (e : x ≡ un
 
   exports_told : (exact : Bool) (F G F' G' : Reading Atom) (c : Bool) → F ≡ F' → G ≡ G' → Exports exact F G c → AnswersEntries a.core exact (suc k) F' G' (named_exports x) (named_exports y) c
   exports_told exact F G F' G' c p q w = entries_moved a.core exact m (suc k) F G F' G' _ _ _ _ c c u p q (sym (component_names a i s x e)) (sym (component_names a j t y h)) refl w
+
+  pub same_none : (w : Option OwnAtoms) → w ≡ None → Paired k x y w → Answers a.core true k f g x y false
+  same_none w is m = same_unpaired a.core k f g x y ex ey (subst (Paired k x y) is m)
 
   pub same_first : (w : Option OwnAtoms) (o : OwnAtoms) → w ≡ Some o → Paired k x y w → (f' g' : Reading Atom) → f' ≡ f → g' ≡ g → (ls rs : List (ResourceId × ResourceAtom)) → ls ≡ o.left.items → rs ≡ o.right.items →
       (c : Bool) → c ≡ false → Imports true (over (atoms_of ls) f') (over (atoms_of rs) g') c → Answers a.core true k f g x y false

@@ -1,5 +1,5 @@
 -- What entries export, by ids.
-use Rattle.std.proofs.Common.{◌≡◌, ℕ, zero, suc, ◌+◌, ◌<◌, ◌≤◌, length, get_or, drop, arith, List, [], ◌∷◌, ◌++◌, map, Bool, true, false, Option, None, Some, option_map, is_some, cond, eqb, nat_cmp, refl, sym, ◌∙◌, ap, subst}
+use Rattle.std.proofs.Common.{◌≡◌, ℕ, zero, suc, ◌+◌, ◌<◌, length, get_or, drop, arith, List, [], ◌∷◌, ◌++◌, map, Bool, true, false, Option, None, Some, option_map, is_some, cond, eqb, nat_cmp, refl, sym, ◌∙◌, ap, subst}
 use Rattle.wcv_core.specs.declared.core_types.EntityType.{EntityType}
 use Rattle.wcv_types.specs.Arena.{Arena}
 use Rattle.wcv_types.specs.Entities.{any_part, entity_slot, entity_tree, entry_tree, EntityStands, EntryStands, SlotStands}
@@ -7,7 +7,7 @@ use Rattle.std.specs.Prelude.{All, slice_get}
 use Rattle.wcv_types.specs.Standing.{AllFit, Stands, StandsBefore}
 use Rattle.wcv_types.specs.Tree.{Text, Extern_name, Head, resource, Role, here, label, import, export, core_import, core_export, none, part, Parts, first_part, rest_parts, head, referenced, sort_at, is_value, is_resource, is_func, is_instance, is_component, is_module, is_core_instance}
 use Rattle.wcv_core.specs.Names.{Name}
-use Rattle.wcv_types.specs.Unfold.{Type_tree, Slot, leaf, at, both, core, Slots, kind_slots, tree_at, tree_in, value_parts, value_slot, core_export_slots, core_import_slots, defined_slots, entry_slots, field_slots, module_slots, option_slot, parts_in, parts_of, slot_parts, slot_refs, slot_tree, slots_of, trees, unfolded, value_slots}
+use Rattle.wcv_types.specs.Unfold.{Type_tree, Slot, leaf, at, both, core, Slots, kind_slots, tree_at, tree_in, value_parts, value_slot, core_export_slots, core_import_slots, defined_slots, entry_slots, field_slots, option_slot, parts_in, parts_of, slot_parts, slot_refs, slot_tree, slots_of, trees, unfolded, value_slots}
 use Rattle.wcv_types.specs.declared.arena.Node.{Node}
 use Rattle.wcv_types.specs.declared.arena.Node.TheVariants as n
 use Rattle.wcv_types.specs.declared.core_shapes.CoreInstanceTypeKind.{CoreInstanceTypeKind}
@@ -36,7 +36,7 @@ use Rattle.wcv_subtype.specs.IdCounterparts.{AreExports, exporter}
 use Rattle.wcv_subtype.specs.IdPasses.{as_resource, named_trees}
 use Rattle.wcv_subtype.proofs.AtomLists.{number_told}
 use Rattle.wcv_matching.proofs.ByName.{drop_none, some_one}
-use Rattle.wcv_subtype.proofs.Walking.{at_drop, drop_past}
+use Rattle.wcv_subtype.proofs.Walking.{at_drop}
 use Rattle.wcv_matching.specs.Matching.{named, named_exports, named_exports_in}
 use Rattle.wcv_matching.specs.NamedPaths.{and_then, entry, follow, resource_at}
 use Rattle.wcv_subtype.specs.Readings.{resource_name}
@@ -301,9 +301,6 @@ module _ (path : List ℕ) (i k : ℕ) (at_k : slice_get path i ≡ Some k) (es 
   pub lands_as : (e x : Type_tree) → named_exports e ≡ es → named_exports x ≡ xs → lands e x (drop i path) ≡ follow (drop i path) es xs
   lands_as e x h n =
       ap (lands e x) (at_drop path i k at_k) ∙ (λ j. follow (k ∷ drop (i + 1) path) (h j) (n j)) ∙ sym (ap (λ (q : List ℕ). follow q es xs) (at_drop path i k at_k))
-
-pub lands_end : (path : List ℕ) (i : ℕ) (e x : Type_tree) → length path ≤ i → lands e x (drop i path) ≡ resource_at (head (referenced x))
-lands_end path i e x h = ap (lands e x) (drop_past path i h)
 
 pub follow_whole : (path : List ℕ) (es xs : List (Text × Type_tree)) → follow path es xs ≡ follow (drop 0 path) es xs
 follow_whole path es xs = ap (λ (q : List ℕ). follow q es xs) (sym (drop_none path))

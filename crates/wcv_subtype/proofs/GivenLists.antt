@@ -1,7 +1,6 @@
 -- What arguments give in the place of the types that imports create, one after another.
-use Rattle.std.proofs.Common.{◌≡◌, ℕ, ◌+◌, ◌<◌, ◌≤◌, List, [], ◌∷◌, ◌++◌, map, length, take, zero, suc, Bool, true, false, cond, eqb, Option, None, Some, bytes_eq, option_map, refl, sym, ◌∙◌, ap, subst, arith, append_assoc, append-nil, ⊎_elim}
+use Rattle.std.proofs.Common.{◌≡◌, ℕ, ◌+◌, ◌<◌, ◌≤◌, List, [], ◌∷◌, ◌++◌, map, length, take, zero, suc, Bool, true, false, cond, Option, None, Some, option_map, refl, sym, ◌∙◌, ap, subst, arith, append_assoc, append-nil, ⊎_elim}
 use Rattle.std.specs.Prelude.{slice_get, Contains, option_to_list}
-use Rattle.std.specs.List.{list_all}
 use Rattle.std.specs.Map.{lookup}
 use Rattle.std.specs.Option.{option_map_or}
 use Rattle.std.proofs.lemmas.List.{length-map, take_all}
@@ -35,7 +34,7 @@ use Rattle.wcv_matching.specs.Orderly.{height}
 use Rattle.wcv_matching.proofs.Entries.{among}
 use Rattle.wcv_matching.proofs.PassSame.{and_left, and_right, passes, sorts-decide}
 use Rattle.wcv_subtype.specs.IdPasses.{named_trees}
-use Rattle.wcv_subtype.specs.Map.{Map, Sent, entry as entry_of, is_type as may_be_sent, same_part}
+use Rattle.wcv_subtype.specs.Map.{Map, Sent, entry as entry_of, is_type as may_be_sent}
 use Rattle.wcv_subtype.specs.Openings.{given_under, may_create, Gives, IsGiven, Passes}
 use Rattle.wcv_subtype.specs.Remap.{NotGiven}
 use Rattle.wcv_subtype.proofs.Given.{identity_true, identity_refl}
@@ -266,9 +265,6 @@ nothing_under a x es m s e = go (entry m es)
     go : (o : Option Type_tree) → option_map_or (λ t. given_by t (entity_tree (trees a.nodes) x)) o [] ≡ []
     go None = refl
     go (Some t) = nothing_given a x t s e
-
-pub none_under : (es : Named_list) (m : Text) (t : Type_tree) → entry m es ≡ None → given_under es m t ≡ []
-none_under es m t e = ap (λ (o : Option Type_tree). option_map_or (λ a. given_by a t) o []) e
 
 pub one_under : (es : Named_list) (m : Text) (t x : Type_tree) → entry m es ≡ Some x → given_under es m t ≡ given_by x t
 one_under es m t x e = ap (λ (o : Option Type_tree). option_map_or (λ a. given_by a t) o []) e

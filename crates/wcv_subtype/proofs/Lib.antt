@@ -18,6 +18,8 @@ pub mod AtomLists
 pub mod OwnAtoms
 pub mod OneToOne
 pub mod PassSteps
+pub mod Extents
+pub mod ExtentSizes
 pub mod PassIds
 pub mod ComponentIds
 pub mod Exporting

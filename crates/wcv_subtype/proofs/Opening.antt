@@ -1,5 +1,5 @@
 -- A map that opens the imports of a component, from what the calls leave.
-use Rattle.std.proofs.Common.{◌≡◌, ℕ, suc, ◌+◌, ◌<◌, ◌≤◌, List, [], ◌∷◌, ◌++◌, map, length, take, drop, bytes_eq, Bool, true, false, cond, Option, None, Some, refl, sym, ◌∙◌, ap, subst, arith, ◌⊎◌, inl, inr, ⊎_elim}
+use Rattle.std.proofs.Common.{◌≡◌, ℕ, suc, ◌+◌, ◌*◌, ◌<◌, ◌≤◌, List, [], ◌∷◌, ◌++◌, map, length, take, drop, bytes_eq, Bool, true, false, cond, None, Some, refl, sym, ◌∙◌, ap, subst, arith, inl, inr}
 use Rattle.std.specs.Prelude.{All, Contains, slice_get}
 use Rattle.std.specs.Bool.{Decides}
 use Rattle.std.specs.List.{IsDistinct, list_all}
@@ -33,8 +33,8 @@ use Rattle.wcv_types.specs.declared.shapes.ComponentEntityType.{ComponentEntityT
 use Rattle.wcv_types.specs.declared.shapes.ComponentEntityType.TheVariants as entity
 use Rattle.wcv_matching.specs.AtomTests.{id_tests, same_seen}
 use Rattle.wcv_matching.specs.GivenTypes.{given_by, given_for}
-use Rattle.wcv_matching.specs.Matching.{Reading, named, named_imports, opened_by}
-use Rattle.wcv_matching.specs.OnePass.{Atom, given, argument_for, counterpart, each_passes, enough, found_in, imported_paths, match_pass, opens_pass}
+use Rattle.wcv_matching.specs.Matching.{Reading, named, named_imports}
+use Rattle.wcv_matching.specs.OnePass.{Atom, given, counterpart, each_passes, enough, found_in, imported_paths, match_pass, opens_pass}
 use Rattle.wcv_matching.specs.Orderly.{EachNode, EachOrderly, Orderly}
 use Rattle.wcv_matching.specs.Refusals.{MemoryOrMismatch}
 use Rattle.wcv_matching.specs.TableMatching.{CoreWithin, EachCoreWithin, Opens}
@@ -44,11 +44,13 @@ use Rattle.wcv_matching.proofs.Entries.{among}
 use Rattle.wcv_matching.proofs.PassSame.{passes}
 use Rattle.wcv_matching.proofs.NamedLists.{map-map}
 use Rattle.wcv_matching.proofs.PassByIds.{opening-by_ids}
+use Rattle.wcv_subtype.specs.Extent.{entries_extent, matched_extent, opening_extent, walks}
 use Rattle.wcv_subtype.specs.IdCounterparts.{counterparts_of, lands_on}
 use Rattle.wcv_subtype.specs.IdPasses.{named_trees, Answers}
 use Rattle.wcv_subtype.specs.Map.{Map, same_part}
 use Rattle.wcv_subtype.specs.Openings.{ArgumentStands, EntitiesAlike, Fits, Gives, IsOpening, Opening, Passes, named_args}
 use Rattle.wcv_subtype.specs.Readings.{resource_name}
+use Rattle.wcv_subtype.proofs.Extents.{imported_walks}
 use Rattle.wcv_subtype.proofs.EntityLaws.{entity_each, entity_orderly, entity_within}
 use Rattle.wcv_subtype.proofs.GivenSorts.{SortByIdentity, all_sorted, leaves_sorted, opening_sorted}
 use Rattle.wcv_subtype.proofs.Landing.{all_found, entries_named, followed, resources_found}
@@ -80,6 +82,13 @@ each_tree a P f es h = all-mapped (EntryStands a) (λ (e : Text × Type_tree). P
 pub imports_are : (a : Arena) (i : ℕ) (s : ComponentType) (t : Type_tree) → t ≡ unfolded a i (n.Component s) → named_imports t ≡ named_trees (trees a.nodes) s.imports
 imports_are a i s t e =
     ap (λ (w : Type_tree). named_imports w) e ∙ ap (λ (es : _). named es) (component_imports (trees a.nodes) s.imports s.exports) ∙ map-map (λ (w : _). (w.0.name, w.1)) (entry_tree (trees a.nodes)) s.imports
+
+-- what it takes to open them
+pub opening_counts : (a : Arena) (i : ℕ) (s : ComponentType) (t : Type_tree) (es : Items) (xs : List (Text × ComponentEntityType)) → t ≡ unfolded a i (n.Component s) → as_args es ≡ xs → opening_extent (named_args a xs) t ≡
+    suc (walks (map resource_path s.imported_resources) + (matched_extent (named_trees (trees a.nodes) es) (named_trees (trees a.nodes) s.imports) + 3 * entries_extent (named_trees (trees a.nodes) s.imports)))
+opening_counts a i s t es xs e h =
+    ap (λ (ws : List (Text × ComponentEntityType)). opening_extent (named_args a ws) t) (sym h) ∙
+    (λ j. suc (imported_walks a i s t e j + (matched_extent (args_are a es j) (imports_are a i s t e j) + 3 * entries_extent (imports_are a i s t e j))))
 
 pub imports_stand : (a : Arena) (i : ℕ) (s : ComponentType) → All (StandsBefore a (suc i)) (parts_of (n.Component s)) → All (EntryStands a) s.imports
 imports_stand a i s h =

@@ -8,3 +8,4 @@ pub mod IdPasses
 pub mod IdCounterparts
 pub mod Openings
 pub mod OwnResources
+pub mod Extent

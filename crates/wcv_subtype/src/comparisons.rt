@@ -1,21 +1,26 @@
 // Whether what is imported, exported or given may stand where another type is expected.
-ghost use Rattle.std.specs.Prelude.{◌≡◌, All, IfErr, IfOk, OnOk};
+ghost use Rattle.std.specs.Prelude.{◌≡◌, ◌+◌, ◌*◌, ◌≤◌, All, IfErr, IfOk, OnOk};
 ghost use Rattle.std.specs.Bool.{Decides};
 ghost use Rattle.wcv_core.specs.Refusal.{error_kind, error_offset};
+ghost use Rattle.wcv_types.specs.ByName.{NamesDiffer};
 ghost use Rattle.wcv_types.specs.Entities.{entity_tree, EntityStands, EntryStands, SlotStands};
 ghost use Rattle.wcv_types.specs.Standing.{Stands};
 ghost use Rattle.wcv_types.specs.declared.ids.Part.TheVariants as p;
-ghost use Rattle.wcv_types.specs.Unfold.{slot_tree, trees, value_slot};
+ghost use Rattle.wcv_types.specs.Unfold.{slot_tree, tree_at, trees, value_slot};
 ghost use Rattle.wcv_matching.specs.Refusals.{IsRefusal, MemoryOrMismatch};
 ghost use Rattle.wcv_matching.specs.TableMatching.{TypeMatches};
+ghost use Rattle.wcv_subtype.specs.Extent.{entries_extent, extent};
+ghost use Rattle.wcv_subtype.specs.IdPasses.{named_trees};
 
 use crate::own_resources::{opened_atoms, owned_atoms};
 use crate::passes::entity_passes;
 use crate::readings::Readings;
+use crate::visits::visited;
+use std::sync::ledger::Ledger;
 use wcv_core::{Error, ErrorKind, Excerpt, OutOfMemory, Text};
 use wcv_types::{
     ComponentEntityType, ComponentInstanceTypeId, ComponentTypeId, ComponentValType, ItemMap,
-    TypeAlloc,
+    Steps, TypeAlloc,
 };
 
 /// What the entity is, as messages name it.
@@ -85,7 +90,7 @@ fn unfit_entry(
 
 /// The refusal by the first of the right entries that the left ones have not, or have with a type that does not
 /// match; none where there is no such entry.
-fn first_unfit(
+fn first_unfit<L: Ledger>(
     types: &TypeAlloc,
     role: &str,
     left: &mut Readings,
@@ -93,17 +98,20 @@ fn first_unfit(
     a: &ItemMap,
     b: &ItemMap,
     offset: u64,
+    steps: &mut Steps<L>,
 ) -> Result<(), Error>
     requires a { All (EntryStands types.now) a.now }
     requires b { All (EntryStands types.now) b.now }
-    ensures { IfErr result (IsRefusal offset) }
+    requires apart { NamesDiffer b.now }
+    ensures unfit { IfErr result (IsRefusal offset) }
+    ensures counted { steps.new ≤ steps.old + (entries_extent (named_trees (trees types.now.nodes) a.now) + entries_extent (named_trees (trees types.now.nodes) b.now)) }
 {
     let by_name = a.by_name(types.allocator())?;
     for k in 0..b.len() {
         if let Some(entry) = b.get_index(k) {
             match by_name.get(&entry.0) {
                 Some(item) => {
-                    if !entity_passes(types, false, left, right, 1, item.ty, entry.1.ty)? {
+                    if !entity_passes(types, false, left, right, 1, item.ty, entry.1.ty, steps)? {
                         return Err(unfit_entry(role, &entry.0, Some(item.ty), &entry.1.ty, offset));
                     }
                 }
@@ -115,79 +123,85 @@ fn first_unfit(
 }
 
 /// The refusal by the first export of the right instance type that does not match.
-fn unfit_instance(
+fn unfit_instance<L: Ledger>(
     types: &TypeAlloc,
     a: ComponentInstanceTypeId,
     b: ComponentInstanceTypeId,
     offset: u64,
+    steps: &mut Steps<L>,
 ) -> Result<(), Error>
     requires a { Stands types.now (p.Instance a) }
     requires b { Stands types.now (p.Instance b) }
-    ensures { IfErr result (IsRefusal offset) }
+    ensures unfit { IfErr result (IsRefusal offset) }
+    ensures counted { steps.new ≤ steps.old + (extent (tree_at types.now (p.Instance a)) + extent (tree_at types.now (p.Instance b))) }
 {
-    let x = types.get(a);
-    let y = types.get(b);
+    let x = visited(types, a, steps);
+    let y = visited(types, b, steps);
     let alloc = types.allocator();
     let mut left = Readings::new(alloc);
     let mut right = Readings::new(alloc);
     left.enter(&owned_atoms(alloc, 0, &x.defined_resources)?)?;
     right.enter(&owned_atoms(alloc, 0, &y.defined_resources)?)?;
     first_unfit(
-        types, "export", &mut left, &mut right, &x.exports, &y.exports, offset,
+        types, "export", &mut left, &mut right, &x.exports, &y.exports, offset, steps,
     )
 }
 
 /// The refusal by the first import of the left component type, or else the first export of the right one, that does
 /// not match.
-fn unfit_component(
+fn unfit_component<L: Ledger>(
     types: &TypeAlloc,
     a: ComponentTypeId,
     b: ComponentTypeId,
     offset: u64,
+    steps: &mut Steps<L>,
 ) -> Result<(), Error>
     requires a { Stands types.now (p.Component a) }
     requires b { Stands types.now (p.Component b) }
-    ensures { IfErr result (IsRefusal offset) }
+    ensures unfit { IfErr result (IsRefusal offset) }
+    ensures counted { steps.new ≤ steps.old + (extent (tree_at types.now (p.Component a)) + extent (tree_at types.now (p.Component b))) }
 {
-    let x = types.get(a);
-    let y = types.get(b);
+    let x = visited(types, a, steps);
+    let y = visited(types, b, steps);
     let alloc = types.allocator();
     let mut left = Readings::new(alloc);
     let mut right = Readings::new(alloc);
-    let own = match opened_atoms(types, &mut left, &mut right, 0, a, b)? {
+    let own = match opened_atoms(types, &mut left, &mut right, 0, a, b, steps)? {
         Some(own) => own,
         None => return Ok(()),
     };
     left.enter(&own.left)?;
     right.enter(&own.right)?;
     first_unfit(
-        types, "import", &mut right, &mut left, &y.imports, &x.imports, offset,
+        types, "import", &mut right, &mut left, &y.imports, &x.imports, offset, steps,
     )?;
     right.enter(&own.exports)?;
     first_unfit(
-        types, "export", &mut left, &mut right, &x.exports, &y.exports, offset,
+        types, "export", &mut left, &mut right, &x.exports, &y.exports, offset, steps,
     )
 }
 
 /// The refusal of an entity that does not match: of instances it names the export, and of components the import or
 /// the export.
-fn refusal(
+fn refusal<L: Ledger>(
     types: &TypeAlloc,
     a: &ComponentEntityType,
     b: &ComponentEntityType,
     offset: u64,
+    steps: &mut Steps<L>,
 ) -> Error
     requires a { EntityStands types.now a.now }
     requires b { EntityStands types.now b.now }
-    ensures { IsRefusal offset result }
+    ensures refused { IsRefusal offset result }
+    ensures counted { steps.new ≤ steps.old + (extent (entity_tree (trees types.now.nodes) a.now) + extent (entity_tree (trees types.now.nodes) b.now)) }
 {
     let part = match a {
         ComponentEntityType::Instance(x) => match b {
-            ComponentEntityType::Instance(y) => unfit_instance(types, *x, *y, offset),
+            ComponentEntityType::Instance(y) => unfit_instance(types, *x, *y, offset, steps),
             _ => Ok(()),
         },
         ComponentEntityType::Component(x) => match b {
-            ComponentEntityType::Component(y) => unfit_component(types, *x, *y, offset),
+            ComponentEntityType::Component(y) => unfit_component(types, *x, *y, offset, steps),
             _ => Ok(()),
         },
         _ => Ok(()),
@@ -199,57 +213,68 @@ fn refusal(
 }
 
 /// Whether the one entity matches the other, with all resources as they are given.
-fn entity_matches(
+fn entity_matches<L: Ledger>(
     types: &TypeAlloc,
     a: &ComponentEntityType,
     b: &ComponentEntityType,
+    steps: &mut Steps<L>,
 ) -> Result<bool, OutOfMemory>
     requires a { EntityStands types.now a.now }
     requires b { EntityStands types.now b.now }
-    ensures { IfOk result (λ matches. Decides matches (TypeMatches types.now.core (entity_tree (trees types.now.nodes) a.now) (entity_tree (trees types.now.nodes) b.now))) }
+    ensures matches { IfOk result (λ matches. Decides matches (TypeMatches types.now.core (entity_tree (trees types.now.nodes) a.now) (entity_tree (trees types.now.nodes) b.now))) }
+    ensures counted { steps.new ≤ steps.old + (extent (entity_tree (trees types.now.nodes) a.now) + extent (entity_tree (trees types.now.nodes) b.now)) }
 {
     types.nodes_fit();
     let _count = types.core_types().len();
     let mut left = Readings::new(types.allocator());
     let mut right = Readings::new(types.allocator());
-    entity_passes(types, false, &mut left, &mut right, 0, *a, *b)
+    entity_passes(types, false, &mut left, &mut right, 0, *a, *b, steps)
 }
 
-/// Whether the one may stand where the other is expected.
-pub fn component_entity_type(
+/// Whether the one may stand where the other is expected. It takes at most as many steps as both types are large, one for
+/// each node of either that it goes into or that the path of an own resource passes. A refusal takes at most twice as
+/// many, since it looks for the import or the export that it names.
+pub fn component_entity_type<L: Ledger>(
     types: &TypeAlloc,
     a: &ComponentEntityType,
     b: &ComponentEntityType,
     offset: u64,
+    steps: &mut Steps<L>,
 ) -> Result<(), Error>
     requires a { EntityStands types.now a.now }
     requires b { EntityStands types.now b.now }
     ensures ok { OnOk result (TypeMatches types.now.core (entity_tree (trees types.now.nodes) a.now) (entity_tree (trees types.now.nodes) b.now)) }
     ensures err { IfErr result (MemoryOrMismatch offset (TypeMatches types.now.core (entity_tree (trees types.now.nodes) a.now) (entity_tree (trees types.now.nodes) b.now))) }
+    ensures steps { OnOk result (steps.new ≤ steps.old + (extent (entity_tree (trees types.now.nodes) a.now) + extent (entity_tree (trees types.now.nodes) b.now))) }
+    ensures twice { steps.new ≤ steps.old + 2 * (extent (entity_tree (trees types.now.nodes) a.now) + extent (entity_tree (trees types.now.nodes) b.now)) }
 {
-    if entity_matches(types, a, b)? {
+    if entity_matches(types, a, b, steps)? {
         Ok(())
     } else {
-        Err(refusal(types, a, b, offset))
+        Err(refusal(types, a, b, offset, steps))
     }
 }
 
 /// Whether the one value type may stand where the other is expected: whether they are equal, identities aside.
-pub fn component_val_type(
+pub fn component_val_type<L: Ledger>(
     types: &TypeAlloc,
     a: &ComponentValType,
     b: &ComponentValType,
     offset: u64,
+    steps: &mut Steps<L>,
 ) -> Result<(), Error>
     requires a { SlotStands types.now (value_slot a.now) }
     requires b { SlotStands types.now (value_slot b.now) }
     ensures ok { OnOk result (TypeMatches types.now.core (slot_tree (trees types.now.nodes) (value_slot a.now)) (slot_tree (trees types.now.nodes) (value_slot b.now))) }
     ensures err { IfErr result (MemoryOrMismatch offset (TypeMatches types.now.core (slot_tree (trees types.now.nodes) (value_slot a.now)) (slot_tree (trees types.now.nodes) (value_slot b.now)))) }
+    ensures steps { OnOk result (steps.new ≤ steps.old + (extent (slot_tree (trees types.now.nodes) (value_slot a.now)) + extent (slot_tree (trees types.now.nodes) (value_slot b.now)))) }
+    ensures twice { steps.new ≤ steps.old + 2 * (extent (slot_tree (trees types.now.nodes) (value_slot a.now)) + extent (slot_tree (trees types.now.nodes) (value_slot b.now))) }
 {
     component_entity_type(
         types,
         &ComponentEntityType::Value(*a),
         &ComponentEntityType::Value(*b),
         offset,
+        steps,
     )
 }

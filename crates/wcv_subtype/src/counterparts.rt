@@ -1,10 +1,11 @@
 // What stands on the other side for the own resources of a component type, by the paths that are recorded for them.
-ghost use Rattle.std.specs.Prelude.{◌≡◌, ℕ, true, None, map, is_some, option_map, option_copied, Some, All, IfOk, IfSome, OnOk};
+ghost use Rattle.std.specs.Prelude.{◌≡◌, ◌+◌, ◌≤◌, ℕ, true, None, map, is_some, option_map, option_copied, Some, All, IfOk, IfSome, OnOk};
 ghost use Rattle.std.specs.BTreeMap.{get_by};
 ghost use Rattle.std.specs.Ordering.{nat_cmp};
 ghost use Rattle.wcv_types.specs.Entities.{entity_tree, EntityStands, EntryStands};
 ghost use Rattle.wcv_types.specs.Tree.{head, referenced};
 ghost use Rattle.wcv_types.specs.Unfold.{resource_path, trees};
+ghost use Rattle.wcv_subtype.specs.Extent.{walk, walks};
 ghost use Rattle.wcv_subtype.specs.IdCounterparts.{counterparts_of, exporter, exports_by_ids, lands_on, AreExports};
 ghost use Rattle.wcv_subtype.specs.IdPasses.{named_trees};
 ghost use Rattle.wcv_matching.specs.Matching.{named_exports};
@@ -12,24 +13,31 @@ ghost use Rattle.wcv_matching.specs.NamedPaths.{entry, follow as follows, resour
 ghost use Rattle.wcv_subtype.specs.Readings.{resource_name};
 
 use crate::passes::as_resource;
+use crate::visits::visited;
 use std::alloc::Global;
 use std::collections::BTreeMap;
+use std::sync::ledger::Ledger;
 use wcv_core::{OutOfMemory, Text};
 use wcv_types::{
-    ByName, ComponentEntityType, ComponentItem, ItemMap, Paths, ResourceId, TypeAlloc,
+    ByName, ComponentEntityType, ComponentItem, ItemMap, Paths, ResourceId, Steps, TypeAlloc,
 };
 
 /// What an entry exports, where it may export something.
-fn exports_of(types: &TypeAlloc, ty: ComponentEntityType) -> Option<&ItemMap>
+fn exports_of<'a, L: Ledger>(
+    types: &'a TypeAlloc,
+    ty: ComponentEntityType,
+    steps: &mut Steps<L>,
+) -> Option<&'a ItemMap>
     requires { EntityStands types.now ty }
     ensures exports { named_exports (entity_tree (trees types.now.nodes) ty) ≡ exports_by_ids types.now (option_copied result) }
     ensures some { is_some (option_copied result) ≡ is_some (exporter ty) }
     ensures stand { IfSome (option_copied result) (All (EntryStands types.now)) }
+    ensures counted { steps.new ≤ steps.old + 1 }
 {
     types.nodes_fit();
     match ty {
-        ComponentEntityType::Instance(id) => Some(&types.get(id).exports),
-        ComponentEntityType::Component(id) => Some(&types.get(id).exports),
+        ComponentEntityType::Instance(id) => Some(&visited(types, id, steps).exports),
+        ComponentEntityType::Component(id) => Some(&visited(types, id, steps).exports),
         _ => None,
     }
 }
@@ -74,22 +82,24 @@ impl<'a> Exports<'a> {
     }
 
     /// The map of what the node at the place exports is made, where there is none yet.
-    fn keep(
+    fn keep<L: Ledger>(
         &mut self,
         types: &'a TypeAlloc,
         ty: ComponentEntityType,
         place: u64,
+        steps: &mut Steps<L>,
     ) -> Result<(), OutOfMemory>
         requires stands { EntityStands types.now ty }
         requires place { exporter ty ≡ Some place }
         requires maps { AreExports types.now self.old.maps }
         ensures maps { OnOk result (AreExports types.now self.new.maps) }
         ensures there { OnOk result (is_some (get_by (λ k. nat_cmp place k) self.new.maps) ≡ true) }
+        ensures counted { steps.new ≤ steps.old + 1 }
     {
         if self.maps.get(&place).is_some() {
             return Ok(());
         }
-        match exports_of(types, ty) {
+        match exports_of(types, ty, steps) {
             Some(exports) => {
                 let map = exports.by_name(types.allocator())?;
                 self.maps.insert(place, map)?;
@@ -100,26 +110,28 @@ impl<'a> Exports<'a> {
     }
 
     /// What the entry exports under the name.
-    pub(crate) fn find(
+    pub(crate) fn find<L: Ledger>(
         &mut self,
         types: &'a TypeAlloc,
         ty: ComponentEntityType,
         name: &Text,
+        steps: &mut Steps<L>,
     ) -> Result<Option<ComponentEntityType>, OutOfMemory>
         requires stands { EntityStands types.now ty }
         requires maps { AreExports types.now self.old.maps }
         ensures maps { OnOk result (AreExports types.now self.new.maps) }
         ensures stands { IfOk result (λ found. IfSome found (EntityStands types.now)) }
         ensures found { IfOk result (λ found. option_map (entity_tree (trees types.now.nodes)) found ≡ entry name.now (named_exports (entity_tree (trees types.now.nodes) ty))) }
+        ensures counted { steps.new ≤ steps.old + 1 }
     {
         let place = match place_of(ty) {
             Some(place) => place,
             None => {
-                let _ = exports_of(types, ty);
+                let _ = exports_of(types, ty, steps);
                 return Ok(None);
             }
         };
-        self.keep(types, ty, place)?;
+        self.keep(types, ty, place, steps)?;
         match self.maps.get(&place) {
             Some(map) => match map.get(name) {
                 Some(item) => Ok(Some(item.ty)),
@@ -131,18 +143,20 @@ impl<'a> Exports<'a> {
 }
 
 /// The resource to which the path leads by the names of the entries that it takes.
-fn follow<'a>(
+fn follow<'a, L: Ledger>(
     types: &'a TypeAlloc,
     seen: &mut Exports<'a>,
     path: &[u64],
     entries: &ItemMap,
     others: &ByName<'_, ComponentItem>,
+    steps: &mut Steps<L>,
 ) -> Result<Option<ResourceId>, OutOfMemory>
     requires maps { AreExports types.now seen.old.maps }
     requires entries { All (EntryStands types.now) entries.now }
     requires others { All (EntryStands types.now) others.now }
     ensures maps { OnOk result (AreExports types.now seen.new.maps) }
     ensures found { IfOk result (λ found. option_map resource_name found ≡ follows path.now (named_trees (trees types.now.nodes) entries.now) (named_trees (trees types.now.nodes) others.now)) }
+    ensures counted { steps.new ≤ steps.old + walk path.now }
 {
     let first = match path.first() {
         Some(first) => *first,
@@ -158,14 +172,14 @@ fn follow<'a>(
         None => return Ok(None),
     };
     for k in 1..path.len() {
-        let entry = match exports_of(types, here) {
+        let entry = match exports_of(types, here, steps) {
             Some(exports) => match exports.get_index(path[k] as usize) {
                 Some(entry) => entry,
                 None => return Ok(None),
             },
             None => return Ok(None),
         };
-        there = match seen.find(types, there, &entry.0)? {
+        there = match seen.find(types, there, &entry.0, steps)? {
             Some(ty) => ty,
             None => return Ok(None),
         };
@@ -175,15 +189,17 @@ fn follow<'a>(
 }
 
 /// The own resources with what stands for each on the other side: itself, where its path leads to none.
-pub(crate) fn counterparts(
+pub(crate) fn counterparts<L: Ledger>(
     types: &TypeAlloc,
     paths: &Paths,
     entries: &ItemMap,
     others: &ItemMap,
+    steps: &mut Steps<L>,
 ) -> Result<Vec<(ResourceId, ResourceId)>, OutOfMemory>
     requires entries { All (EntryStands types.now) entries.now }
     requires others { All (EntryStands types.now) others.now }
-    ensures { IfOk result (λ found. map lands_on found.items ≡ counterparts_of (map resource_path paths.now) (named_trees (trees types.now.nodes) entries.now) (named_trees (trees types.now.nodes) others.now)) }
+    ensures found { IfOk result (λ found. map lands_on found.items ≡ counterparts_of (map resource_path paths.now) (named_trees (trees types.now.nodes) entries.now) (named_trees (trees types.now.nodes) others.now)) }
+    ensures counted { steps.new ≤ steps.old + walks (map resource_path paths.now) }
 {
     let alloc = types.allocator();
     let mut found = Vec::new(alloc);
@@ -195,7 +211,7 @@ pub(crate) fn counterparts(
     for k in 0..paths.len() {
         match paths.get_index(k) {
             Some((resource, path)) => {
-                let other = follow(types, &mut seen, path.positions(), entries, &by_name)?;
+                let other = follow(types, &mut seen, path.positions(), entries, &by_name, steps)?;
                 found.push((*resource, other.unwrap_or(*resource)))?;
             }
             None => unreachable!(),

@@ -1,5 +1,5 @@
 // What arguments give in the place of the types that imports create.
-ghost use Rattle.std.specs.Prelude.{◌≡◌, [], ◌∷◌, ◌++◌, List, Some, OnOk};
+ghost use Rattle.std.specs.Prelude.{◌≡◌, ◌+◌, ◌*◌, ◌≤◌, true, [], ◌∷◌, ◌++◌, List, Some, OnOk};
 ghost use Rattle.wcv_types.specs.Arena.{Arena};
 ghost use Rattle.wcv_types.specs.Entities.{entity_tree, EntityStands, EntryStands};
 ghost use Rattle.wcv_types.specs.Identity.{Identity};
@@ -9,14 +9,18 @@ ghost use Rattle.wcv_types.specs.declared.ids.Part.TheVariants as p;
 ghost use Rattle.wcv_matching.specs.GivenTypes.{given_by};
 ghost use Rattle.wcv_matching.specs.Matching.{named_exports};
 ghost use Rattle.wcv_matching.specs.NamedPaths.{entry};
+ghost use Rattle.wcv_subtype.specs.Extent.{extent};
 ghost use Rattle.wcv_subtype.specs.IdCounterparts.{AreExports};
 ghost use Rattle.wcv_subtype.specs.Openings.{given_under, may_create, Gives, Passes};
 
 use crate::counterparts::Exports;
 use crate::map::Remapping;
+use crate::visits::visited;
+use std::sync::ledger::Ledger;
 use wcv_core::{OutOfMemory, Text};
 use wcv_types::{
-    ComponentAnyTypeId, ComponentEntityType, ComponentInstanceTypeId, ComponentItem, TypeAlloc,
+    ComponentAnyTypeId, ComponentEntityType, ComponentInstanceTypeId, ComponentItem, Steps,
+    TypeAlloc,
 };
 
 /// Whether an import of it may create a type.
@@ -47,12 +51,13 @@ fn give_type(
 /// What the argument creates comes in the place of what the import creates, itself and, of an instance, export by
 /// export.
 #[cycle(giving)]
-pub(crate) fn give<'a>(
+pub(crate) fn give<'a, L: Ledger>(
     types: &'a TypeAlloc,
     seen: &mut Exports<'a>,
     argument: ComponentEntityType,
     import: ComponentEntityType,
     map: &mut Remapping,
+    steps: &mut Steps<L>,
 ) -> Result<(), OutOfMemory>
     requires seen { AreExports types.now seen.old.maps }
     requires argument { EntityStands types.now argument }
@@ -61,25 +66,28 @@ pub(crate) fn give<'a>(
     ensures seen { OnOk result (AreExports types.now seen.new.maps) }
     ensures resources { OnOk result (map.new.resources ≡ map.old.resources) }
     ensures given { OnOk result ((given : List (Identity × Type_tree)) → Gives types.now given map.old → Gives types.now (given ++ given_by (entity_tree (trees types.now.nodes) argument) (entity_tree (trees types.now.nodes) import)) map.new) }
+    ensures counted { steps.new ≤ steps.old + 2 * extent (entity_tree (trees types.now.nodes) import) }
+    ensures fewer { may_create import ≡ true → steps.new + 1 ≤ steps.old + 2 * extent (entity_tree (trees types.now.nodes) import) }
 {
     match import {
         ComponentEntityType::Ty { created: old, .. } => match argument {
             ComponentEntityType::Ty { created: new, .. } => give_type(map, old, new),
             _ => unreachable!(),
         },
-        ComponentEntityType::Instance(id) => give_exports(types, seen, argument, id, map),
+        ComponentEntityType::Instance(id) => give_exports(types, seen, argument, id, map, steps),
         _ => Ok(()),
     }
 }
 
 /// So of what an instance type exports.
 #[cycle(giving)]
-fn give_exports<'a>(
+fn give_exports<'a, L: Ledger>(
     types: &'a TypeAlloc,
     seen: &mut Exports<'a>,
     argument: ComponentEntityType,
     import: ComponentInstanceTypeId,
     map: &mut Remapping,
+    steps: &mut Steps<L>,
 ) -> Result<(), OutOfMemory>
     requires seen { AreExports types.now seen.old.maps }
     requires argument { EntityStands types.now argument }
@@ -88,11 +96,12 @@ fn give_exports<'a>(
     ensures seen { OnOk result (AreExports types.now seen.new.maps) }
     ensures resources { OnOk result (map.new.resources ≡ map.old.resources) }
     ensures given { OnOk result ((given : List (Identity × Type_tree)) → Gives types.now given map.old → Gives types.now (given ++ given_by (entity_tree (trees types.now.nodes) argument) (tree_at types.now (p.Instance import))) map.new) }
+    ensures counted { steps.new + 1 ≤ steps.old + 2 * extent (tree_at types.now (p.Instance import)) }
 {
-    let exports = &types.get(import).exports;
+    let exports = &visited(types, import, steps).exports;
     for k in 0..exports.len() {
         match exports.get_index(k) {
-            Some(entry) => give_export(types, seen, argument, entry, map)?,
+            Some(entry) => give_export(types, seen, argument, entry, map, steps)?,
             None => unreachable!(),
         }
     }
@@ -101,12 +110,13 @@ fn give_exports<'a>(
 
 /// So of one export, where the argument has one of its name.
 #[cycle(giving)]
-fn give_export<'a>(
+fn give_export<'a, L: Ledger>(
     types: &'a TypeAlloc,
     seen: &mut Exports<'a>,
     argument: ComponentEntityType,
     export: &(Text, ComponentItem),
     map: &mut Remapping,
+    steps: &mut Steps<L>,
 ) -> Result<(), OutOfMemory>
     requires seen { AreExports types.now seen.old.maps }
     requires argument { EntityStands types.now argument }
@@ -115,12 +125,13 @@ fn give_export<'a>(
     ensures seen { OnOk result (AreExports types.now seen.new.maps) }
     ensures resources { OnOk result (map.new.resources ≡ map.old.resources) }
     ensures given { OnOk result ((given : List (Identity × Type_tree)) → Gives types.now given map.old → Gives types.now (given ++ given_under (named_exports (entity_tree (trees types.now.nodes) argument)) export.now.0 (entity_tree (trees types.now.nodes) export.now.1.ty)) map.new) }
+    ensures counted { steps.new ≤ steps.old + 2 * extent (entity_tree (trees types.now.nodes) export.now.1.ty) }
 {
     if !may_create(export.1.ty) {
         return Ok(());
     }
-    match seen.find(types, argument, &export.0)? {
-        Some(found) => give(types, seen, found, export.1.ty, map),
+    match seen.find(types, argument, &export.0, steps)? {
+        Some(found) => give(types, seen, found, export.1.ty, map, steps),
         None => Ok(()),
     }
 }

@@ -14,6 +14,7 @@ mod passes;
 mod readings;
 mod remap;
 mod values;
+mod visits;
 
 ghost use Rattle.std.specs.Prelude.{◌≡◌, ℕ, ◌+◌, ◌<◌, ◌≤◌, List, [], Contains, length, true, false, None};
 ghost use Rattle.std.specs.List.{IsDistinct};
@@ -23,12 +24,14 @@ ghost use Rattle.wcv_types.specs.Arena.{Arena};
 ghost use Rattle.wcv_types.specs.Entities.{entity_slot};
 ghost use Rattle.wcv_types.specs.Identity.{Identity};
 ghost use Rattle.wcv_types.specs.Replacing.{Replacement, SparesOwn};
+ghost use Rattle.wcv_types.specs.Measure.{size};
 ghost use Rattle.wcv_types.specs.Tree.{Tree};
 ghost use Rattle.wcv_types.specs.Unfold.{slot_refs};
 ghost use Rattle.wcv_types.specs.declared.ids.Part.{Part};
 ghost use Rattle.wcv_types.specs.declared.ids.ResourceId.{ResourceId};
 ghost use Rattle.wcv_types.specs.declared.shapes.ComponentEntityType.{ComponentEntityType};
 ghost use Rattle.wcv_subtype.specs.Entities.{EntityRemapped};
+ghost use Rattle.wcv_subtype.specs.Extent.{extent, paths_extent, EntitiesOfOneSize};
 ghost use Rattle.wcv_subtype.specs.Hygiene.{Hygienic};
 ghost use Rattle.wcv_subtype.specs.Map.{Map, Sent, same_part};
 ghost use Rattle.wcv_subtype.specs.Remap.{ReachedFrom, Sends, Serves, Sound};
@@ -66,4 +69,10 @@ pub fn what_spares_owned_resources_is_hygienic()
 pub fn a_rebuilding_reads_at_most_what_is_reached()
     ensures { (a b : Arena) (map map' : Map) (s s' : ℕ) (x y : ComponentEntityType) (reached : List Part) → EntityRemapped a b map map' s s' x y → IsDistinct same_part (keys_of map'.types) →
         ((q : Part) → ReachedFrom b (slot_refs (entity_slot x)) q → Contains reached q) → (s' ≤ s + length reached) × (length b.nodes ≤ length a.nodes + length reached) }
+{}
+
+/// A comparison takes at most as many steps on a side as the size of its type says, beside the paths of own resources of component types inside, where both types of each type entity are of one size.
+#[tactic(auto, using(crate::proofs::ExtentSizes::extent_within))]
+pub fn a_comparison_takes_at_most_the_size_and_the_paths()
+    ensures { (t : Tree Name Name) → EntitiesOfOneSize t → extent t ≤ size t + paths_extent t }
 {}

@@ -1,5 +1,5 @@
 // What opens the imports of a component.
-ghost use Rattle.std.specs.Prelude.{◌≡◌, [], ◌∷◌, ◌++◌, List, map, All, Some, true, IfErr, IfOk, OnErr, OnOk};
+ghost use Rattle.std.specs.Prelude.{◌≡◌, ◌+◌, ◌*◌, ◌≤◌, [], ◌∷◌, ◌++◌, List, map, All, Some, true, IfErr, IfOk, OnErr, OnOk};
 ghost use Rattle.std.specs.List.{IsDistinct};
 ghost use Rattle.std.specs.Map.{keys_of};
 ghost use Rattle.wcv_core.specs.Names.{Name};
@@ -15,6 +15,7 @@ ghost use Rattle.wcv_matching.specs.NamedPaths.{entry};
 ghost use Rattle.wcv_matching.specs.OnePass.{each_passes, found_in, given, match_pass};
 ghost use Rattle.wcv_matching.specs.Refusals.{MemoryOrMismatch};
 ghost use Rattle.wcv_matching.specs.TableMatching.{Opens};
+ghost use Rattle.wcv_subtype.specs.Extent.{entries_extent, extent, found_extent, matched_extent, opening_extent};
 ghost use Rattle.wcv_subtype.specs.IdPasses.{named_trees};
 ghost use Rattle.wcv_subtype.specs.Openings.{named_args, ArgumentStands, Fits, Gives, IsOpening};
 ghost use Rattle.wcv_subtype.specs.Readings.{atoms_of, reads, resource_name};
@@ -25,11 +26,14 @@ use crate::giving::give;
 use crate::map::Remapping;
 use crate::passes::entity_passes;
 use crate::readings::{Readings, ResourceAtom};
+use crate::visits::visited;
 use std::alloc::Global;
 use std::marker::Model;
+use std::sync::ledger::Ledger;
 use wcv_core::{Error, ErrorKind, Excerpt, OutOfMemory, Text};
 use wcv_types::{
-    ByName, ComponentEntityType, ComponentItem, ComponentTypeId, ItemMap, ResourceId, TypeAlloc,
+    ByName, ComponentEntityType, ComponentItem, ComponentTypeId, ItemMap, ResourceId, Steps,
+    TypeAlloc,
 };
 
 /// Types by name, in order: of a name that stands more than once the first counts. Contracts see it as the list of
@@ -138,23 +142,34 @@ fn unfit_argument(
 }
 
 /// The argument for an import, where it may stand there.
-fn argument_for(
+fn argument_for<L: Ledger>(
     types: &TypeAlloc,
     args: &ByName<'_, ComponentItem>,
     right: &mut Readings,
     import: &(Text, ComponentItem),
     offset: u64,
+    steps: &mut Steps<L>,
 ) -> Result<ComponentEntityType, Error>
     requires args { All (EntryStands types.now) args.now }
     requires import { EntryStands types.now import.now }
     ensures fits { IfOk result (Fits types.now (reads right.old) (named_trees (trees types.now.nodes) args.now) import.now) }
     ensures right { OnOk result (reads right.new ≡ reads right.old) }
     ensures err { IfErr result (MemoryOrMismatch offset (found_in (match_pass (id_tests types.now.core) 0 given (reads right.old)) (named_trees (trees types.now.nodes) args.now) (import.now.0, entity_tree (trees types.now.nodes) import.now.1.ty) ≡ true)) }
+    ensures counted { steps.new ≤ steps.old + (found_extent (named_trees (trees types.now.nodes) args.now) import.now.0 + extent (entity_tree (trees types.now.nodes) import.now.1.ty)) }
 {
     let mut left = Readings::new(types.allocator());
     match args.get(&import.0) {
         Some(item) => {
-            if entity_passes(types, false, &mut left, right, 0, item.ty, import.1.ty)? {
+            if entity_passes(
+                types,
+                false,
+                &mut left,
+                right,
+                0,
+                item.ty,
+                import.1.ty,
+                steps,
+            )? {
                 Ok(item.ty)
             } else {
                 Err(unfit_argument(&import.0, Some(item.ty), &import.1.ty, offset))
@@ -166,13 +181,14 @@ fn argument_for(
 
 /// What the arguments give for the types that the imports create joins the map, where each import has an argument that
 /// may stand there.
-fn open_imports(
+fn open_imports<L: Ledger>(
     types: &TypeAlloc,
     args: &ItemMap,
     imports: &ItemMap,
     right: &mut Readings,
     opening: &mut Remapping,
     offset: u64,
+    steps: &mut Steps<L>,
 ) -> Result<(), Error>
     requires args { All (EntryStands types.now) args.now }
     requires imports { All (EntryStands types.now) imports.now }
@@ -181,14 +197,15 @@ fn open_imports(
     ensures given { OnOk result (Gives types.now (given_for (named_trees (trees types.now.nodes) args.now) (named_trees (trees types.now.nodes) imports.now)) opening.new) }
     ensures resources { OnOk result (opening.new.resources ≡ opening.old.resources) }
     ensures err { IfErr result (MemoryOrMismatch offset (each_passes (match_pass (id_tests types.now.core) 0 given (reads right.old)) (named_trees (trees types.now.nodes) args.now) (named_trees (trees types.now.nodes) imports.now) ≡ true)) }
+    ensures counted { steps.new ≤ steps.old + (matched_extent (named_trees (trees types.now.nodes) args.now) (named_trees (trees types.now.nodes) imports.now) + 3 * entries_extent (named_trees (trees types.now.nodes) imports.now)) }
 {
     let by_name = args.by_name(types.allocator())?;
     let mut seen = Exports::new(types.allocator());
     for k in 0..imports.len() {
         match imports.get_index(k) {
             Some(import) => {
-                let argument = argument_for(types, &by_name, right, import, offset)?;
-                give(types, &mut seen, argument, import.1.ty, opening)?;
+                let argument = argument_for(types, &by_name, right, import, offset, steps)?;
+                give(types, &mut seen, argument, import.1.ty, opening, steps)?;
             }
             None => unreachable!(),
         }
@@ -198,30 +215,34 @@ fn open_imports(
 
 /// What opens the imports of the component by the arguments: each imported resource is replaced by that of its
 /// argument, and each type that an import creates, itself or inside an instance, by the one that the argument creates
-/// there.
-pub fn open_instance_type(
+/// there. The steps are at most those of following the paths of the imported resources, of comparing each import with its
+/// argument, and of going through the imports once more.
+pub fn open_instance_type<L: Ledger>(
     types: &TypeAlloc,
     args: &EntityMap,
     component: ComponentTypeId,
     offset: u64,
+    steps: &mut Steps<L>,
 ) -> Result<Remapping, Error>
     requires args { All (ArgumentStands types.now) args.now }
     requires component { Stands types.now (p.Component component) }
     ensures ok { OnOk result ((s : Name → Name) × Opens types.now.core s (named_args types.now args.now) (tree_at types.now (p.Component component))) }
     ensures map { IfOk result (IsOpening types.now args.now component) }
     ensures err { IfErr result (MemoryOrMismatch offset ((s : Name → Name) × Opens types.now.core s (named_args types.now args.now) (tree_at types.now (p.Component component)))) }
+    ensures counted { steps.new ≤ steps.old + opening_extent (named_args types.now args.now) (tree_at types.now (p.Component component)) }
 {
     types.nodes_fit();
     types.names_given();
     let _count = types.core_types().len();
     let alloc = types.allocator();
-    let shape = types.get(component);
+    let shape = visited(types, component, steps);
     let _unique = shape.imported_resources.len();
     let found = counterparts(
         types,
         &shape.imported_resources,
         &shape.imports,
         &args.items,
+        steps,
     )?;
     let mut opening = replacing(alloc, &found)?;
     let mut right = Readings::new(alloc);
@@ -233,6 +254,7 @@ pub fn open_instance_type(
         &mut right,
         &mut opening,
         offset,
+        steps,
     )?;
     opening.entries_differ();
     Ok(opening)

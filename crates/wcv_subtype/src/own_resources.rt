@@ -1,13 +1,14 @@
 // How both sides of a comparison of component types read their own resources.
-ghost use Rattle.std.specs.Prelude.{◌≡◌, ◌++◌, List, map, cond, true, false, IfOk, OnOk};
+ghost use Rattle.std.specs.Prelude.{◌≡◌, ◌+◌, ◌≤◌, ◌++◌, List, map, cond, true, false, IfOk, OnOk};
 ghost use Rattle.std.specs.List.{list_all};
 ghost use Rattle.wcv_core.specs.Names.{Name, member};
 ghost use Rattle.wcv_types.specs.Sets.{resource_names};
 ghost use Rattle.wcv_types.specs.Standing.{Stands};
-ghost use Rattle.wcv_types.specs.Tree.{firsts};
+ghost use Rattle.wcv_types.specs.Tree.{firsts, head};
 ghost use Rattle.wcv_types.specs.Unfold.{resource_path, tree_at};
 ghost use Rattle.wcv_types.specs.declared.ids.Part.TheVariants as p;
-ghost use Rattle.wcv_matching.specs.OnePass.{is_made_in, made_in, one_to_one as are_one_to_one, owned_in};
+ghost use Rattle.wcv_matching.specs.OnePass.{imported_paths, is_made_in, made_in, made_paths, one_to_one as are_one_to_one, owned_in};
+ghost use Rattle.wcv_subtype.specs.Extent.{walks};
 ghost use Rattle.wcv_subtype.specs.IdCounterparts.{lands_on};
 ghost use Rattle.wcv_subtype.specs.OwnResources.{going, read_as, Opened, Paired};
 ghost use Rattle.wcv_subtype.specs.Readings.{atoms_of, over, read_by, reads};
@@ -16,8 +17,9 @@ use crate::counterparts::counterparts;
 use crate::readings::{Readings, ResourceAtom};
 use std::alloc::Global;
 use std::collections::BTreeMap;
+use std::sync::ledger::Ledger;
 use wcv_core::OutOfMemory;
-use wcv_types::{ComponentTypeId, Paths, ResourceId, ResourceSet, TypeAlloc};
+use wcv_types::{ComponentTypeId, Paths, ResourceId, ResourceSet, Steps, TypeAlloc};
 
 /// What the own resources of two component types are read as: on the left and on the right in the imports, and what
 /// is read otherwise in the exports. That is the left side where both are to be the same, and else the right one.
@@ -163,24 +165,26 @@ fn one_to_one(
 }
 
 /// How two component types that are to be the same read their own resources, if these pair up.
-pub(crate) fn paired_atoms(
+pub(crate) fn paired_atoms<L: Ledger>(
     types: &TypeAlloc,
     level: u64,
     a: ComponentTypeId,
     b: ComponentTypeId,
+    steps: &mut Steps<L>,
 ) -> Result<Option<OwnAtoms>, OutOfMemory>
     requires a { Stands types.now (p.Component a) }
     requires b { Stands types.now (p.Component b) }
-    ensures { IfOk result (Paired level (tree_at types.now (p.Component a)) (tree_at types.now (p.Component b))) }
+    ensures paired { IfOk result (Paired level (tree_at types.now (p.Component a)) (tree_at types.now (p.Component b))) }
+    ensures counted { steps.new ≤ steps.old + (walks (imported_paths (head (tree_at types.now (p.Component a)))) + walks (made_paths (head (tree_at types.now (p.Component a))))) }
 {
     let x = types.get(a);
     let y = types.get(b);
     let alloc = types.allocator();
-    let imported = counterparts(types, &x.imported_resources, &x.imports, &y.imports)?;
+    let imported = counterparts(types, &x.imported_resources, &x.imports, &y.imports, steps)?;
     if !one_to_one(alloc, &Paths::new(alloc), &imported)? {
         return Ok(None);
     }
-    let defined = counterparts(types, &x.defined_resources, &x.exports, &y.exports)?;
+    let defined = counterparts(types, &x.defined_resources, &x.exports, &y.exports, steps)?;
     if !one_to_one(alloc, &x.imported_resources, &defined)? {
         return Ok(None);
     }
@@ -199,19 +203,21 @@ pub(crate) fn paired_atoms(
 
 /// How a component type and one that it is to match read their own resources, if none that is imported is opened by
 /// one that the other defines.
-pub(crate) fn opened_atoms(
+pub(crate) fn opened_atoms<L: Ledger>(
     types: &TypeAlloc,
     left: &mut Readings,
     right: &mut Readings,
     level: u64,
     a: ComponentTypeId,
     b: ComponentTypeId,
+    steps: &mut Steps<L>,
 ) -> Result<Option<OwnAtoms>, OutOfMemory>
     requires a { Stands types.now (p.Component a) }
     requires b { Stands types.now (p.Component b) }
     ensures opened { IfOk result (Opened level (reads left.old) (reads right.old) (tree_at types.now (p.Component a)) (tree_at types.now (p.Component b))) }
     ensures left { OnOk result (reads left.new ≡ reads left.old) }
     ensures right { OnOk result (reads right.new ≡ reads right.old) }
+    ensures counted { steps.new ≤ steps.old + (walks (imported_paths (head (tree_at types.now (p.Component a)))) + walks (made_paths (head (tree_at types.now (p.Component b))))) }
 {
     let x = types.get(a);
     let y = types.get(b);
@@ -219,7 +225,7 @@ pub(crate) fn opened_atoms(
     let owned = themselves(alloc, &y.imported_resources)?;
     let made = themselves(alloc, &y.defined_resources)?;
     let right_atoms = own_atoms(alloc, level, &owned, &made)?;
-    let imported = counterparts(types, &x.imported_resources, &x.imports, &y.imports)?;
+    let imported = counterparts(types, &x.imported_resources, &x.imports, &y.imports, steps)?;
     let mut left_atoms = Vec::new(alloc);
     push_read_under(alloc, right, &right_atoms, &mut left_atoms, &imported)?;
     if !none_made(level, &left_atoms) {
@@ -227,7 +233,7 @@ pub(crate) fn opened_atoms(
     }
     let made = themselves(alloc, &x.defined_resources)?;
     push_own(&mut left_atoms, true, level, &made)?;
-    let defined = counterparts(types, &y.defined_resources, &y.exports, &x.exports)?;
+    let defined = counterparts(types, &y.defined_resources, &y.exports, &x.exports, steps)?;
     let mut exports = Vec::new(alloc);
     push_own(&mut exports, false, level, &owned)?;
     push_read_under(alloc, left, &left_atoms, &mut exports, &defined)?;

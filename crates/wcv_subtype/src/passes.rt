@@ -1,7 +1,8 @@
 // Whether one type is the same as another, or may stand where it is expected, by one pass over both.
-ghost use Rattle.std.specs.Prelude.{◌≡◌, true, false, bytes_eq, cond, is_some, All, IfOk, option_copied};
+ghost use Rattle.std.specs.Prelude.{◌≡◌, ◌+◌, ◌*◌, ◌≤◌, true, false, bytes_eq, cond, is_some, All, IfOk, option_copied};
 ghost use Rattle.std.specs.List.{list_all};
 ghost use Rattle.std.specs.Map.{lookup};
+ghost use Rattle.wcv_types.specs.ByName.{NamesDiffer};
 ghost use Rattle.wcv_types.specs.Entities.{any_part, entity_tree, EntityStands, EntryStands};
 ghost use Rattle.wcv_types.specs.Standing.{Stands};
 ghost use Rattle.wcv_types.specs.Tree.{owned};
@@ -9,6 +10,7 @@ ghost use Rattle.wcv_types.specs.Unfold.{tree_at, trees};
 ghost use Rattle.wcv_types.specs.Sets.{has_resource, resource_names};
 ghost use Rattle.wcv_types.specs.declared.ids.Part.TheVariants as p;
 ghost use Rattle.wcv_matching.specs.AtomTests.{id_tests};
+ghost use Rattle.wcv_subtype.specs.Extent.{entries_extent, extent};
 ghost use Rattle.wcv_subtype.specs.IdPasses.{Answers, AnswersEntries, AnswersTypes, StaysIf, same_resource, as_entity, as_resource, modules_pass, named_trees, OwnsBy};
 ghost use Rattle.wcv_matching.specs.OnePass.{owned_in, same_members};
 ghost use Rattle.wcv_subtype.specs.Readings.{atoms_of, over, read_by, reads};
@@ -16,12 +18,14 @@ ghost use Rattle.wcv_subtype.specs.Readings.{atoms_of, over, read_by, reads};
 use crate::own_resources::{opened_atoms, owned_atoms, paired_atoms};
 use crate::readings::{Readings, ResourceAtom};
 use crate::values::{same_func, same_value};
+use crate::visits::visited;
 use std::alloc::Global;
+use std::sync::ledger::Ledger;
 use wcv_core::{ErrorKind, OutOfMemory};
 use wcv_matching::shapes_match;
 use wcv_types::{
     ComponentAnyTypeId, ComponentCoreModuleTypeId, ComponentEntityType, ComponentInstanceTypeId,
-    ComponentTypeId, ComponentValType, ItemMap, ResourceId, ResourceSet, TypeAlloc,
+    ComponentTypeId, ComponentValType, ItemMap, ResourceId, ResourceSet, Steps, TypeAlloc,
 };
 
 /// Whether the one core module matches the other.
@@ -114,17 +118,23 @@ fn names_fit(alloc: Global, exact: bool, a: &ItemMap, b: &ItemMap) -> Result<boo
     }
 }
 
-/// Whether the one core module matches the other, and where they are to be the same also the other way round.
-fn modules_pass(
+/// Whether the one core module matches the other, and where they are to be the same also the other way round. It takes a
+/// step for each of them, for all that they import and export.
+fn modules_pass<L: Ledger>(
     types: &TypeAlloc,
     exact: bool,
     a: ComponentCoreModuleTypeId,
     b: ComponentCoreModuleTypeId,
+    steps: &mut Steps<L>,
 ) -> Result<bool, OutOfMemory>
     requires a { Stands types.now (p.Module a) }
     requires b { Stands types.now (p.Module b) }
-    ensures { IfOk result (λ passes. passes ≡ modules_pass (id_tests types.now.core) exact (tree_at types.now (p.Module a)) (tree_at types.now (p.Module b))) }
+    ensures passes { IfOk result (λ passes. passes ≡ modules_pass (id_tests types.now.core) exact (tree_at types.now (p.Module a)) (tree_at types.now (p.Module b))) }
+    ensures counted { steps.new ≤ steps.old + (extent (tree_at types.now (p.Module a)) + extent (tree_at types.now (p.Module b))) }
 {
+    types.nodes_fit();
+    let _ = visited(types, a, steps);
+    let _ = visited(types, b, steps);
     if exact {
         Ok(module_matches(types, a, b)? && module_matches(types, b, a)?)
     } else {
@@ -178,7 +188,7 @@ fn same_resource(
 /// Whether the entries of the one list pass with those of the other: each of the right one has one of its name on
 /// the left that passes with it, and where they are to be the same, the names of the left one stand on the right.
 #[cycle(passing)]
-fn entries_pass(
+fn entries_pass<L: Ledger>(
     types: &TypeAlloc,
     exact: bool,
     left: &mut Readings,
@@ -186,12 +196,15 @@ fn entries_pass(
     level: u64,
     a: &ItemMap,
     b: &ItemMap,
+    steps: &mut Steps<L>,
 ) -> Result<bool, OutOfMemory>
     requires a { All (EntryStands types.now) a.now }
     requires b { All (EntryStands types.now) b.now }
+    requires apart { NamesDiffer b.now }
     ensures answers { IfOk result (AnswersEntries types.now.core exact level (reads left.old) (reads right.old) (named_trees (trees types.now.nodes) a.now) (named_trees (trees types.now.nodes) b.now)) }
     ensures left { IfOk result (λ passes. StaysIf passes (reads left.old) (reads left.new)) }
     ensures right { IfOk result (λ passes. StaysIf passes (reads right.old) (reads right.new)) }
+    ensures counted { steps.new ≤ steps.old + (entries_extent (named_trees (trees types.now.nodes) a.now) + entries_extent (named_trees (trees types.now.nodes) b.now)) }
 {
     if !names_fit(types.allocator(), exact, a, b)? {
         return Ok(false);
@@ -201,7 +214,9 @@ fn entries_pass(
         if let Some(entry) = b.get_index(k) {
             match by_name.get(&entry.0) {
                 Some(item) => {
-                    if !entity_passes(types, exact, left, right, level, item.ty, entry.1.ty)? {
+                    if !entity_passes(
+                        types, exact, left, right, level, item.ty, entry.1.ty, steps,
+                    )? {
                         return Ok(false);
                     }
                 }
@@ -215,7 +230,7 @@ fn entries_pass(
 /// Whether the one entity passes with the other: whether they are the same where that is asked, or else whether the
 /// one may stand where the other is expected.
 #[cycle(passing)]
-pub(crate) fn entity_passes(
+pub(crate) fn entity_passes<L: Ledger>(
     types: &TypeAlloc,
     exact: bool,
     left: &mut Readings,
@@ -223,41 +238,45 @@ pub(crate) fn entity_passes(
     level: u64,
     a: ComponentEntityType,
     b: ComponentEntityType,
+    steps: &mut Steps<L>,
 ) -> Result<bool, OutOfMemory>
     requires a { EntityStands types.now a }
     requires b { EntityStands types.now b }
     ensures answers { IfOk result (Answers types.now.core exact level (reads left.old) (reads right.old) (entity_tree (trees types.now.nodes) a) (entity_tree (trees types.now.nodes) b)) }
     ensures left { IfOk result (λ passes. StaysIf passes (reads left.old) (reads left.new)) }
     ensures right { IfOk result (λ passes. StaysIf passes (reads right.old) (reads right.new)) }
+    ensures counted { steps.new ≤ steps.old + (extent (entity_tree (trees types.now.nodes) a) + extent (entity_tree (trees types.now.nodes) b)) }
 {
     match a {
         ComponentEntityType::Module(x) => match b {
-            ComponentEntityType::Module(y) => modules_pass(types, exact, x, y),
+            ComponentEntityType::Module(y) => modules_pass(types, exact, x, y, steps),
             _ => Ok(false),
         },
         ComponentEntityType::Func(x) => match b {
-            ComponentEntityType::Func(y) => Ok(same_func(types, left, right, x, y)),
+            ComponentEntityType::Func(y) => Ok(same_func(types, left, right, x, y, steps)),
             _ => Ok(false),
         },
         ComponentEntityType::Value(x) => match b {
-            ComponentEntityType::Value(y) => Ok(same_value(types, left, right, Some(x), Some(y))),
+            ComponentEntityType::Value(y) => {
+                Ok(same_value(types, left, right, Some(x), Some(y), steps))
+            }
             _ => Ok(false),
         },
         ComponentEntityType::Ty { referenced: x, .. } => match b {
             ComponentEntityType::Ty { referenced: y, .. } => {
-                types_pass(types, left, right, level, x, y)
+                types_pass(types, left, right, level, x, y, steps)
             }
             _ => Ok(false),
         },
         ComponentEntityType::Instance(x) => match b {
             ComponentEntityType::Instance(y) => {
-                instances_pass(types, exact, left, right, level, x, y)
+                instances_pass(types, exact, left, right, level, x, y, steps)
             }
             _ => Ok(false),
         },
         ComponentEntityType::Component(x) => match b {
             ComponentEntityType::Component(y) => {
-                components_pass(types, exact, left, right, level, x, y)
+                components_pass(types, exact, left, right, level, x, y, steps)
             }
             _ => Ok(false),
         },
@@ -266,24 +285,26 @@ pub(crate) fn entity_passes(
 
 /// Whether two types that entries refer to are the same, and own the same resources.
 #[cycle(passing)]
-fn types_pass(
+fn types_pass<L: Ledger>(
     types: &TypeAlloc,
     left: &mut Readings,
     right: &mut Readings,
     level: u64,
     a: ComponentAnyTypeId,
     b: ComponentAnyTypeId,
+    steps: &mut Steps<L>,
 ) -> Result<bool, OutOfMemory>
     requires a { Stands types.now (any_part a) }
     requires b { Stands types.now (any_part b) }
     ensures answers { IfOk result (AnswersTypes types.now.core level (reads left.old) (reads right.old) (tree_at types.now (any_part a)) (tree_at types.now (any_part b))) }
     ensures left { IfOk result (λ passes. StaysIf passes (reads left.old) (reads left.new)) }
     ensures right { IfOk result (λ passes. StaysIf passes (reads right.old) (reads right.new)) }
+    ensures counted { steps.new ≤ steps.old + (extent (tree_at types.now (any_part a)) + extent (tree_at types.now (any_part b))) }
 {
     match as_entity(a) {
         Some(x) => match as_entity(b) {
             Some(y) => {
-                let same = entity_passes(types, true, left, right, level, x, y)?;
+                let same = entity_passes(types, true, left, right, level, x, y, steps)?;
                 Ok(same && same_owned(types, a, b))
             }
             None => Ok(false),
@@ -294,7 +315,7 @@ fn types_pass(
 
 /// Whether two instance types pass with each other. Each reads its own resources as atoms of the level.
 #[cycle(passing)]
-fn instances_pass(
+fn instances_pass<L: Ledger>(
     types: &TypeAlloc,
     exact: bool,
     left: &mut Readings,
@@ -302,30 +323,32 @@ fn instances_pass(
     level: u64,
     a: ComponentInstanceTypeId,
     b: ComponentInstanceTypeId,
+    steps: &mut Steps<L>,
 ) -> Result<bool, OutOfMemory>
     requires a { Stands types.now (p.Instance a) }
     requires b { Stands types.now (p.Instance b) }
     ensures answers { IfOk result (Answers types.now.core exact level (reads left.old) (reads right.old) (tree_at types.now (p.Instance a)) (tree_at types.now (p.Instance b))) }
     ensures left { IfOk result (λ passes. StaysIf passes (reads left.old) (reads left.new)) }
     ensures right { IfOk result (λ passes. StaysIf passes (reads right.old) (reads right.new)) }
+    ensures counted { steps.new ≤ steps.old + (extent (tree_at types.now (p.Instance a)) + extent (tree_at types.now (p.Instance b))) }
 {
     let deeper = match level.checked_add(1) {
         Some(deeper) => deeper,
         None => return Err(OutOfMemory),
     };
-    let x = types.get(a);
-    let y = types.get(b);
+    let x = visited(types, a, steps);
+    let y = visited(types, b, steps);
     let alloc = types.allocator();
     let own_left = owned_atoms(alloc, level, &x.defined_resources)?;
     let own_right = owned_atoms(alloc, level, &y.defined_resources)?;
     entries_pass_under(
-        types, exact, left, right, deeper, &own_left, &own_right, &x.exports, &y.exports,
+        types, exact, left, right, deeper, &own_left, &own_right, &x.exports, &y.exports, steps,
     )
 }
 
 /// Whether the entries pass, where each side reads its own resources as these atoms.
 #[cycle(passing)]
-fn entries_pass_under(
+fn entries_pass_under<L: Ledger>(
     types: &TypeAlloc,
     exact: bool,
     left: &mut Readings,
@@ -335,17 +358,20 @@ fn entries_pass_under(
     own_right: &[(ResourceId, ResourceAtom)],
     a: &ItemMap,
     b: &ItemMap,
+    steps: &mut Steps<L>,
 ) -> Result<bool, OutOfMemory>
     requires a { All (EntryStands types.now) a.now }
     requires b { All (EntryStands types.now) b.now }
+    requires apart { NamesDiffer b.now }
     ensures answers { IfOk result (AnswersEntries types.now.core exact level (over (atoms_of own_left.now) (reads left.old)) (over (atoms_of own_right.now) (reads right.old)) (named_trees (trees types.now.nodes) a.now) (named_trees (trees types.now.nodes) b.now)) }
     ensures left { IfOk result (λ passes. StaysIf passes (reads left.old) (reads left.new)) }
     ensures right { IfOk result (λ passes. StaysIf passes (reads right.old) (reads right.new)) }
+    ensures counted { steps.new ≤ steps.old + (entries_extent (named_trees (trees types.now.nodes) a.now) + entries_extent (named_trees (trees types.now.nodes) b.now)) }
 {
     let alloc = types.allocator();
     let kept_left = left.enter_keeping(alloc, own_left)?;
     let kept_right = right.enter_keeping(alloc, own_right)?;
-    if !entries_pass(types, exact, left, right, level, a, b)? {
+    if !entries_pass(types, exact, left, right, level, a, b, steps)? {
         return Ok(false);
     }
     left.enter(&kept_left)?;
@@ -356,32 +382,34 @@ fn entries_pass_under(
 /// Whether two component types are the same: their own resources pair up, and with these paired so do their imports
 /// and their exports.
 #[cycle(passing)]
-fn same_components(
+fn same_components<L: Ledger>(
     types: &TypeAlloc,
     left: &mut Readings,
     right: &mut Readings,
     level: u64,
     a: ComponentTypeId,
     b: ComponentTypeId,
+    steps: &mut Steps<L>,
 ) -> Result<bool, OutOfMemory>
     requires a { Stands types.now (p.Component a) }
     requires b { Stands types.now (p.Component b) }
     ensures answers { IfOk result (Answers types.now.core true level (reads left.old) (reads right.old) (tree_at types.now (p.Component a)) (tree_at types.now (p.Component b))) }
     ensures left { IfOk result (λ passes. StaysIf passes (reads left.old) (reads left.new)) }
     ensures right { IfOk result (λ passes. StaysIf passes (reads right.old) (reads right.new)) }
+    ensures counted { steps.new ≤ steps.old + (extent (tree_at types.now (p.Component a)) + extent (tree_at types.now (p.Component b))) }
 {
     let deeper = match level.checked_add(1) {
         Some(deeper) => deeper,
         None => return Err(OutOfMemory),
     };
-    let x = types.get(a);
-    let y = types.get(b);
-    let own = match paired_atoms(types, level, a, b)? {
+    let x = visited(types, a, steps);
+    let y = visited(types, b, steps);
+    let own = match paired_atoms(types, level, a, b, steps)? {
         Some(own) => own,
         None => return Ok(false),
     };
     if !entries_pass_under(
-        types, true, left, right, deeper, &own.left, &own.right, &x.imports, &y.imports,
+        types, true, left, right, deeper, &own.left, &own.right, &x.imports, &y.imports, steps,
     )? {
         return Ok(false);
     }
@@ -395,38 +423,41 @@ fn same_components(
         &own.right,
         &x.exports,
         &y.exports,
+        steps,
     )
 }
 
 /// Whether the one component type matches the other: its imports may be given what the other imports, and it exports
 /// what the other does.
 #[cycle(passing)]
-fn component_matches(
+fn component_matches<L: Ledger>(
     types: &TypeAlloc,
     left: &mut Readings,
     right: &mut Readings,
     level: u64,
     a: ComponentTypeId,
     b: ComponentTypeId,
+    steps: &mut Steps<L>,
 ) -> Result<bool, OutOfMemory>
     requires a { Stands types.now (p.Component a) }
     requires b { Stands types.now (p.Component b) }
     ensures answers { IfOk result (Answers types.now.core false level (reads left.old) (reads right.old) (tree_at types.now (p.Component a)) (tree_at types.now (p.Component b))) }
     ensures left { IfOk result (λ passes. StaysIf passes (reads left.old) (reads left.new)) }
     ensures right { IfOk result (λ passes. StaysIf passes (reads right.old) (reads right.new)) }
+    ensures counted { steps.new ≤ steps.old + (extent (tree_at types.now (p.Component a)) + extent (tree_at types.now (p.Component b))) }
 {
     let deeper = match level.checked_add(1) {
         Some(deeper) => deeper,
         None => return Err(OutOfMemory),
     };
-    let x = types.get(a);
-    let y = types.get(b);
-    let own = match opened_atoms(types, left, right, level, a, b)? {
+    let x = visited(types, a, steps);
+    let y = visited(types, b, steps);
+    let own = match opened_atoms(types, left, right, level, a, b, steps)? {
         Some(own) => own,
         None => return Ok(false),
     };
     if !entries_pass_under(
-        types, false, right, left, deeper, &own.right, &own.left, &y.imports, &x.imports,
+        types, false, right, left, deeper, &own.right, &own.left, &y.imports, &x.imports, steps,
     )? {
         return Ok(false);
     }
@@ -440,12 +471,13 @@ fn component_matches(
         &own.exports,
         &x.exports,
         &y.exports,
+        steps,
     )
 }
 
 /// Whether two component types pass with each other.
 #[cycle(passing)]
-fn components_pass(
+fn components_pass<L: Ledger>(
     types: &TypeAlloc,
     exact: bool,
     left: &mut Readings,
@@ -453,16 +485,18 @@ fn components_pass(
     level: u64,
     a: ComponentTypeId,
     b: ComponentTypeId,
+    steps: &mut Steps<L>,
 ) -> Result<bool, OutOfMemory>
     requires a { Stands types.now (p.Component a) }
     requires b { Stands types.now (p.Component b) }
     ensures answers { IfOk result (Answers types.now.core exact level (reads left.old) (reads right.old) (tree_at types.now (p.Component a)) (tree_at types.now (p.Component b))) }
     ensures left { IfOk result (λ passes. StaysIf passes (reads left.old) (reads left.new)) }
     ensures right { IfOk result (λ passes. StaysIf passes (reads right.old) (reads right.new)) }
+    ensures counted { steps.new ≤ steps.old + (extent (tree_at types.now (p.Component a)) + extent (tree_at types.now (p.Component b))) }
 {
     if exact {
-        same_components(types, left, right, level, a, b)
+        same_components(types, left, right, level, a, b, steps)
     } else {
-        component_matches(types, left, right, level, a, b)
+        component_matches(types, left, right, level, a, b, steps)
     }
 }

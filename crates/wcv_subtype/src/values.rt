@@ -1,5 +1,5 @@
 // Whether value types and functions are the same, as each side reads its resources.
-ghost use Rattle.std.specs.Prelude.{◌≡◌, ◌&&◌, true, All, option_copied, bytes_eq};
+ghost use Rattle.std.specs.Prelude.{◌≡◌, ◌&&◌, ◌+◌, ◌≤◌, true, All, option_copied, bytes_eq};
 ghost use Rattle.std.specs.Cmp.Lexicographic.{pointwise};
 ghost use Rattle.std.specs.Option.{option_eq};
 ghost use Rattle.wcv_types.specs.Alike.{role_of};
@@ -7,17 +7,20 @@ ghost use Rattle.wcv_types.specs.Entities.{SlotStands};
 ghost use Rattle.wcv_types.specs.SameSeen.{primitive_number, same_former, same_primitive, same_role};
 ghost use Rattle.wcv_types.specs.Seen.{seen};
 ghost use Rattle.wcv_types.specs.Standing.{Stands};
-ghost use Rattle.wcv_types.specs.Unfold.{defined_slots, former_of, option_slot, parts_of, value_slot, value_slots, tree_at, trees};
+ghost use Rattle.wcv_types.specs.Unfold.{defined_slots, former_of, option_slot, parts_of, value_parts, value_slot, value_slots, tree_at, trees};
 ghost use Rattle.wcv_types.specs.declared.arena.Node.TheVariants as n;
 ghost use Rattle.wcv_types.specs.declared.ids.Part.TheVariants as p;
 ghost use Rattle.wcv_matching.specs.AtomTests.{same_seen};
 ghost use Rattle.wcv_matching.specs.Matching.{outside};
+ghost use Rattle.wcv_subtype.specs.Extent.{extent, inner_extent, value_extent, values_extent};
 ghost use Rattle.wcv_subtype.specs.Readings.{reads};
 ghost use Rattle.wcv_subtype.specs.SeenValues.{labelled, same_slots, seen_value, seen_view, ViewStands};
 
 use crate::readings::Readings;
+use crate::visits::visited;
+use std::sync::ledger::Ledger;
 use wcv_core::{PrimitiveValType, Text};
-use wcv_types::{ComponentDefinedType, ComponentFuncTypeId, ComponentValType, TypeAlloc};
+use wcv_types::{ComponentDefinedType, ComponentFuncTypeId, ComponentValType, Steps, TypeAlloc};
 
 /// A value type as it is seen: a primitive under a name is the primitive.
 #[derive(Clone, Copy)]
@@ -100,16 +103,21 @@ fn same_label(a: Option<&Text>, b: Option<&Text>) -> bool
     }
 }
 
-/// What a value type is seen as.
-fn view_of(types: &TypeAlloc, ty: Option<ComponentValType>) -> SeenValue<'_>
+/// What a value type is seen as. It takes a step where this is a node.
+fn view_of<'a, L: Ledger>(
+    types: &'a TypeAlloc,
+    ty: Option<ComponentValType>,
+    steps: &mut Steps<L>,
+) -> SeenValue<'a>
     requires { SlotStands types.now (option_slot ty) }
     ensures view { (f : _) → seen_value (trees types.now.nodes) f ty ≡ seen_view (trees types.now.nodes) f result }
     ensures stands { ViewStands types.now ty result }
+    ensures counted { steps.new + inner_extent (trees types.now.nodes) result ≤ steps.old + value_extent (trees types.now.nodes) ty }
 {
     match ty {
         Some(ComponentValType::Primitive(primitive)) => SeenValue::Primitive(primitive),
         Some(ComponentValType::Ty(id)) => {
-            let shape = types.get(id);
+            let shape = visited(types, id, steps);
             match shape.primitive() {
                 Some(primitive) => SeenValue::Primitive(primitive),
                 None => SeenValue::Node(shape),
@@ -121,28 +129,32 @@ fn view_of(types: &TypeAlloc, ty: Option<ComponentValType>) -> SeenValue<'_>
 
 /// Whether two value types are the same, or both are left out.
 #[cycle(same_values)]
-pub(crate) fn same_value(
+pub(crate) fn same_value<L: Ledger>(
     types: &TypeAlloc,
     left: &Readings,
     right: &Readings,
     a: Option<ComponentValType>,
     b: Option<ComponentValType>,
+    steps: &mut Steps<L>,
 ) -> bool
     requires a { SlotStands types.now (option_slot a) }
     requires b { SlotStands types.now (option_slot b) }
-    ensures { result ≡ same_seen (seen_value (trees types.now.nodes) (reads left.now) a) (seen_value (trees types.now.nodes) (reads right.now) b) }
+    ensures same { result ≡ same_seen (seen_value (trees types.now.nodes) (reads left.now) a) (seen_value (trees types.now.nodes) (reads right.now) b) }
+    ensures counted { steps.new ≤ steps.old + (value_extent (trees types.now.nodes) a + value_extent (trees types.now.nodes) b) }
 {
-    match view_of(types, a) {
-        SeenValue::LeftOut => match view_of(types, b) {
+    match view_of(types, a, steps) {
+        SeenValue::LeftOut => match view_of(types, b, steps) {
             SeenValue::LeftOut => true,
             _ => false,
         },
-        SeenValue::Primitive(p) => match view_of(types, b) {
+        SeenValue::Primitive(p) => match view_of(types, b, steps) {
             SeenValue::Primitive(q) => same_primitive(Some(p), Some(q)),
             _ => false,
         },
-        SeenValue::Node(s) => match view_of(types, b) {
-            SeenValue::Node(t) => same_form(s, t) && same_contents(types, left, right, s, t),
+        SeenValue::Node(s) => match view_of(types, b, steps) {
+            SeenValue::Node(t) => {
+                same_form(s, t) && same_contents(types, left, right, s, t, steps)
+            },
             _ => false,
         },
     }
@@ -150,34 +162,38 @@ pub(crate) fn same_value(
 
 /// Whether two parts have one label, or none, and are the same.
 #[cycle(same_values)]
-fn same_part(
+fn same_part<L: Ledger>(
     types: &TypeAlloc,
     left: &Readings,
     right: &Readings,
     labels: (Option<&Text>, Option<&Text>),
     a: Option<ComponentValType>,
     b: Option<ComponentValType>,
+    steps: &mut Steps<L>,
 ) -> bool
     requires a { SlotStands types.now (option_slot a) }
     requires b { SlotStands types.now (option_slot b) }
-    ensures { result ≡ (same_role (role_of (option_copied labels.entry.0)) (role_of (option_copied labels.entry.1)) && same_seen (seen_value (trees types.now.nodes) (reads left.now) a) (seen_value (trees types.now.nodes) (reads right.now) b)) }
+    ensures same { result ≡ (same_role (role_of (option_copied labels.entry.0)) (role_of (option_copied labels.entry.1)) && same_seen (seen_value (trees types.now.nodes) (reads left.now) a) (seen_value (trees types.now.nodes) (reads right.now) b)) }
+    ensures counted { steps.new ≤ steps.old + (value_extent (trees types.now.nodes) a + value_extent (trees types.now.nodes) b) }
 {
-    same_label(labels.0, labels.1) && same_value(types, left, right, a, b)
+    same_label(labels.0, labels.1) && same_value(types, left, right, a, b, steps)
 }
 
 /// Whether two types that are formed in one way are made of the same.
 #[cycle(same_values)]
-fn same_contents(
+fn same_contents<L: Ledger>(
     types: &TypeAlloc,
     left: &Readings,
     right: &Readings,
     a: &ComponentDefinedType,
     b: &ComponentDefinedType,
+    steps: &mut Steps<L>,
 ) -> bool
     requires form { same_former (former_of a.now) (former_of b.now) ≡ true }
     requires a { All (Stands types.now) (parts_of (n.Defined a.now)) }
     requires b { All (Stands types.now) (parts_of (n.Defined b.now)) }
-    ensures { result ≡ same_slots (trees types.now.nodes) (reads left.now) (reads right.now) (defined_slots a.now) (defined_slots b.now) }
+    ensures same { result ≡ same_slots (trees types.now.nodes) (reads left.now) (reads right.now) (defined_slots a.now) (defined_slots b.now) }
+    ensures counted { steps.new ≤ steps.old + (values_extent (trees types.now.nodes) (value_parts a.now) + values_extent (trees types.now.nodes) (value_parts b.now)) }
 {
     if let Some(x) = a.handle() {
         match b.handle() {
@@ -195,7 +211,7 @@ fn same_contents(
         let labels = (a.label_at(k), b.label_at(k));
         let x = a.value_at(k);
         let y = b.value_at(k);
-        if !same_part(types, left, right, labels, x, y) {
+        if !same_part(types, left, right, labels, x, y, steps) {
             return false;
         }
     }
@@ -203,16 +219,18 @@ fn same_contents(
 }
 
 /// Whether the parameters are the same, name by name.
-fn same_params(
+fn same_params<L: Ledger>(
     types: &TypeAlloc,
     left: &Readings,
     right: &Readings,
     a: &[(Text, ComponentValType)],
     b: &[(Text, ComponentValType)],
+    steps: &mut Steps<L>,
 ) -> bool
     requires a { All (λ p. SlotStands types.now (value_slot p.1)) a.now }
     requires b { All (λ p. SlotStands types.now (value_slot p.1)) b.now }
-    ensures { result ≡ same_slots (trees types.now.nodes) (reads left.now) (reads right.now) (value_slots (labelled a.now)) (value_slots (labelled b.now)) }
+    ensures same { result ≡ same_slots (trees types.now.nodes) (reads left.now) (reads right.now) (value_slots (labelled a.now)) (value_slots (labelled b.now)) }
+    ensures counted { steps.new ≤ steps.old + (values_extent (trees types.now.nodes) (labelled a.now) + values_extent (trees types.now.nodes) (labelled b.now)) }
 {
     if a.len() != b.len() {
         return false;
@@ -221,7 +239,7 @@ fn same_params(
         let x = &a[k];
         let y = &b[k];
         let labels = (Some(&x.0), Some(&y.0));
-        if !same_part(types, left, right, labels, Some(x.1), Some(y.1)) {
+        if !same_part(types, left, right, labels, Some(x.1), Some(y.1), steps) {
             return false;
         }
     }
@@ -229,20 +247,22 @@ fn same_params(
 }
 
 /// Whether two functions are the same.
-pub(crate) fn same_func(
+pub(crate) fn same_func<L: Ledger>(
     types: &TypeAlloc,
     left: &Readings,
     right: &Readings,
     a: ComponentFuncTypeId,
     b: ComponentFuncTypeId,
+    steps: &mut Steps<L>,
 ) -> bool
     requires a { Stands types.now (p.Func a) }
     requires b { Stands types.now (p.Func b) }
-    ensures { result ≡ same_seen (seen (outside (reads left.now)) (tree_at types.now (p.Func a))) (seen (outside (reads right.now)) (tree_at types.now (p.Func b))) }
+    ensures same { result ≡ same_seen (seen (outside (reads left.now)) (tree_at types.now (p.Func a))) (seen (outside (reads right.now)) (tree_at types.now (p.Func b))) }
+    ensures counted { steps.new ≤ steps.old + (extent (tree_at types.now (p.Func a)) + extent (tree_at types.now (p.Func b))) }
 {
-    let x = types.get(a);
-    let y = types.get(b);
+    let x = visited(types, a, steps);
+    let y = visited(types, b, steps);
     x.async_ == y.async_
-        && (same_params(types, left, right, &x.params, &y.params)
-            && same_value(types, left, right, x.result, y.result))
+        && (same_params(types, left, right, &x.params, &y.params, steps)
+            && same_value(types, left, right, x.result, y.result, steps))
 }

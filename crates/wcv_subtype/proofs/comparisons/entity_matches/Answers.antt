@@ -9,8 +9,8 @@ use Rattle.wcv_subtype.proofs.PassIds.{if_ok}
 use Rattle.wcv_subtype.proofs.PassSteps.{answers_at}
 use Rattle.wcv_subtype.proofs.comparisons.entity_matches.Goals as goal
 
-pub returns : goal.returns
-returns c =
+pub returns-clause-matches : goal.returns-clause-matches
+returns-clause-matches g c =
     let table = subst IsTable c.core_types.ensures (record { closed = c.len-count.ensures.closed; distinct = c.len-count.ensures.distinct }) in
     let x = entity_tree (trees c.args.types.now.nodes) c.args.a.now in
     let y = entity_tree (trees c.args.types.now.nodes) c.args.b.now in

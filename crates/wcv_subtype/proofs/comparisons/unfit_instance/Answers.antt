@@ -1,8 +1,16 @@
+use Rattle.std.proofs.Common.{arith}
+use Rattle.wcv_subtype.proofs.Extents.{instance_extent}
 use Rattle.wcv_subtype.proofs.PassIds.{instance_stands}
 use Rattle.wcv_subtype.proofs.comparisons.unfit_instance.Goals as goal
 
 pub first_unfit-requires-clause-a : goal.first_unfit-requires-clause-a
-first_unfit-requires-clause-a c = instance_stands c.args.types.now c.args.a.index c.get-x.result.now c.get-x.ensures.before
+first_unfit-requires-clause-a g c = instance_stands c.args.types.now c.args.a.index c.visited-x.result.now c.visited-x.ensures.before
 
 pub first_unfit-requires-clause-b : goal.first_unfit-requires-clause-b
-first_unfit-requires-clause-b c = instance_stands c.args.types.now c.args.b.index c.get-y.result.now c.get-y.ensures.before
+first_unfit-requires-clause-b g c = instance_stands c.args.types.now c.args.b.index c.visited-y.result.now c.visited-y.ensures.before
+
+pub returns-clause-counted : goal.returns-clause-counted
+returns-clause-counted g c =
+    let x = instance_extent c.args.types.now c.args.a.index c.visited-x.result.now _ c.visited-x.ensures.unfolds in
+    let y = instance_extent c.args.types.now c.args.b.index c.visited-y.result.now _ c.visited-y.ensures.unfolds in
+    omega (arith, x, y, c.visited-x.ensures.counted, c.visited-y.ensures.counted, c.first_unfit.ensures.counted)

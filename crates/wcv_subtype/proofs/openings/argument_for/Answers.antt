@@ -1,16 +1,17 @@
-use Rattle.std.proofs.Common.{◌≡◌, true, false, sym, inr}
+use Rattle.std.proofs.Common.{arith, true, false, sym, inr}
 use Rattle.wcv_types.specs.Entities.{entity_tree}
 use Rattle.wcv_types.specs.Unfold.{trees}
 use Rattle.wcv_subtype.specs.Readings.{reads}
+use Rattle.wcv_subtype.proofs.Extents.{found_is}
 use Rattle.wcv_subtype.proofs.Opening.{absent, fits, told, unfit}
 use Rattle.wcv_subtype.proofs.PassIds.{answers_are, found_stands}
 use Rattle.wcv_subtype.proofs.openings.argument_for.Goals as goal
 
 pub entity_passes-requires-clause-a : goal.entity_passes-requires-clause-a
-entity_passes-requires-clause-a c = found_stands c.args.types.now c.args.args.now c.args.import.now.0 c.in-Some.item.now c.requires.args (sym c.in-Some.ensures)
+entity_passes-requires-clause-a g c = found_stands c.args.types.now c.args.args.now c.args.import.now.0 c.in-Some.item.now c.requires.args (sym c.in-Some.ensures)
 
 pub returns-then-branch-clause-fits : goal.returns-then-branch-clause-fits
-returns-then-branch-clause-fits c =
+returns-then-branch-clause-fits g c =
     let a = c.args.types.now in
     let f = reads c.args.right.now in
     let x = c.in-Some.item.now in
@@ -19,10 +20,10 @@ returns-then-branch-clause-fits c =
     (sym (told a c.args.args.now f x y (reads c.new-left.result) true c.new-left.ensures (answers_are a.core false 0 (reads c.new-left.result) f (entity_tree (trees a.nodes) x.ty) (entity_tree (trees a.nodes) y.1.ty) c.in_ok-entity_passes-in-Some.ensures.answers c.if-branch.true)))
 
 pub returns-then-branch-clause-right : goal.returns-then-branch-clause-right
-returns-then-branch-clause-right c = c.in_ok-entity_passes-in-Some.ensures.right c.if-branch.true
+returns-then-branch-clause-right g c = c.in_ok-entity_passes-in-Some.ensures.right c.if-branch.true
 
 pub returns-in-Some-clause-err : goal.returns-in-Some-clause-err
-returns-in-Some-clause-err c =
+returns-in-Some-clause-err g c =
     let a = c.args.types.now in
     let f = reads c.args.right.now in
     let x = c.in-Some.item.now in
@@ -35,4 +36,19 @@ returns-in-Some-clause-err c =
     })
 
 pub returns-clause-err : goal.returns-clause-err
-returns-clause-err c = inr (record { is = c.unfit_argument-in-None.ensures.kind; at = c.unfit_argument-in-None.ensures.offset; fails = absent c.args.types.now c.args.args.now (reads c.args.right.now) c.args.import.now (sym c.in-None.ensures) })
+returns-clause-err g c = inr (record { is = c.unfit_argument-in-None.ensures.kind; at = c.unfit_argument-in-None.ensures.offset; fails = absent c.args.types.now c.args.args.now (reads c.args.right.now) c.args.import.now (sym c.in-None.ensures) })
+
+pub returns-in_err-entity_passes-in-Some-clause-counted : goal.returns-in_err-entity_passes-in-Some-clause-counted
+returns-in_err-entity_passes-in-Some-clause-counted g c =
+    let f = found_is (trees c.args.types.now.nodes) c.args.args.now c.args.import.now.0 c.in-Some.item.now (sym c.in-Some.ensures) in
+    omega (arith, f, c.in_err-entity_passes-in-Some.ensures.counted)
+
+pub returns-then-branch-clause-counted : goal.returns-then-branch-clause-counted
+returns-then-branch-clause-counted g c =
+    let f = found_is (trees c.args.types.now.nodes) c.args.args.now c.args.import.now.0 c.in-Some.item.now (sym c.in-Some.ensures) in
+    omega (arith, f, c.in_ok-entity_passes-in-Some.ensures.counted)
+
+pub returns-in-Some-clause-counted : goal.returns-in-Some-clause-counted
+returns-in-Some-clause-counted g c =
+    let f = found_is (trees c.args.types.now.nodes) c.args.args.now c.args.import.now.0 c.in-Some.item.now (sym c.in-Some.ensures) in
+    omega (arith, f, c.in_ok-entity_passes-in-Some.ensures.counted)

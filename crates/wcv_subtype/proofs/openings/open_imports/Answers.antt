@@ -1,15 +1,20 @@
-use Rattle.std.proofs.Common.{arith, sym, ◌∙◌}
+use Rattle.std.proofs.Common.{arith, sym, ◌∙◌, ap, List}
 use Rattle.std.proofs.lemmas.Result.{err_from_is_err_and}
 use Rattle.wcv_types.specs.Entities.{EntityStands}
 use Rattle.wcv_types.specs.declared.item_map.ComponentItem.{ComponentItem}
 use Rattle.wcv_matching.proofs.ByName.{is_there}
 use Rattle.wcv_matching.proofs.Entries.{entry_within}
+use Rattle.wcv_types.specs.Tree.{Text}
+use Rattle.wcv_types.specs.Unfold.{trees}
+use Rattle.wcv_subtype.specs.Extent.{found_extent}
+use Rattle.wcv_subtype.specs.IdPasses.{named_trees}
 use Rattle.wcv_subtype.specs.Readings.{reads}
+use Rattle.wcv_subtype.proofs.Extents.{entries_next, matched_next}
 use Rattle.wcv_subtype.proofs.Opening.{all_gave, fits_as, next_given, next_passes, refused_as, refuses}
 use Rattle.wcv_subtype.proofs.openings.open_imports.Goals as goal
 
 pub returns-in_err-argument-in-Some-clause-err : goal.returns-in_err-argument-in-Some-clause-err
-returns-in_err-argument-in-Some-clause-err c =
+returns-in_err-argument-in-Some-clause-err g c =
     let y = c.in-Some.import.now in
     let p = err_from_is_err_and c.from_residual-in_err-argument-in-Some.result c.from_residual-in_err-argument-in-Some.ensures.1 in
     rw (p.1, p.2)
@@ -17,25 +22,47 @@ returns-in_err-argument-in-Some-clause-err c =
     (refused_as c.args.types.now (reads c.loop-k.right) (reads c.args.right.now) c.in_ok-by_name.by_name c.args.args.now y c.args.offset c.in_err-argument-in-Some.field-0.0 c.loop-k.invariant.right c.in_ok-by_name.ensures c.in_err-argument-in-Some.ensures.err))
 
 pub give-requires-clause-import : goal.give-requires-clause-import
-give-requires-clause-import c = entry_within (λ (w : ComponentItem). EntityStands c.args.types.now w.ty) c.args.imports.now c.loop-k.k c.in-Some.import.now c.requires.imports c.in-Some.ensures
+give-requires-clause-import g c = entry_within (λ (w : ComponentItem). EntityStands c.args.types.now w.ty) c.args.imports.now c.loop-k.k c.in-Some.import.now c.requires.imports c.in-Some.ensures
 
 pub unreachable-requires : goal.unreachable-requires
-unreachable-requires c = is_there c.args.imports.now c.loop-k.k (omega arith) c.in-None.ensures
+unreachable-requires g c = is_there c.args.imports.now c.loop-k.k (omega arith) c.in-None.ensures
 
 pub loop-k-preserved : goal.loop-k-preserved
-loop-k-preserved c =
+loop-k-preserved g c =
     let a = c.args.types.now in
     let f = reads c.args.right.now in
     let y = c.in-Some.import.now in
     let x = c.in_ok-argument-in-Some.argument in
     let w = fits_as a (reads c.loop-k.right) f c.in_ok-by_name.by_name c.args.args.now y x c.loop-k.invariant.right c.in_ok-by_name.ensures c.in_ok-argument-in-Some.ensures.fits in
+    let n = entries_next (trees a.nodes) c.args.imports.now c.loop-k.k y (sym c.in-Some.ensures) in
+    let m = matched_next (trees a.nodes) (named_trees (trees a.nodes) c.args.args.now) c.args.imports.now c.loop-k.k y (sym c.in-Some.ensures) in
+    let q = ap (λ (es : List (Text × ComponentItem)). found_extent (named_trees (trees a.nodes) es) y.0) c.in_ok-by_name.ensures in
     record {
       left = next_passes a c.args.args.now f c.args.imports.now c.loop-k.k y (sym c.in-Some.ensures) x w c.loop-k.invariant.left;
       right = c.in_ok-argument-in-Some.ensures.right ∙ c.loop-k.invariant.right;
       seen = c.in_ok-give-in-Some.ensures.seen;
       resources = c.in_ok-give-in-Some.ensures.resources ∙ c.loop-k.invariant.resources;
       gives = next_given a c.args.args.now f c.args.imports.now c.loop-k.k y (sym c.in-Some.ensures) x _ w (c.in_ok-give-in-Some.ensures.given _ c.loop-k.invariant.gives);
+      counted = omega (arith, n, m, q, c.in_ok-argument-in-Some.ensures.counted, c.in_ok-give-in-Some.ensures.counted, c.loop-k.invariant.counted);
     }
 
 pub returns-clause-given : goal.returns-clause-given
-returns-clause-given c = all_gave c.args.types.now c.args.args.now (reads c.args.right.now) c.args.imports.now c.loop-k.k (omega arith) c.loop-k.opening c.loop-k.invariant.gives
+returns-clause-given g c = all_gave c.args.types.now c.args.args.now (reads c.args.right.now) c.args.imports.now c.loop-k.k (omega arith) c.loop-k.opening c.loop-k.invariant.gives
+
+pub returns-in_err-argument-in-Some-clause-counted : goal.returns-in_err-argument-in-Some-clause-counted
+returns-in_err-argument-in-Some-clause-counted g c =
+    let a = c.args.types.now in
+    let y = c.in-Some.import.now in
+    let n = entries_next (trees a.nodes) c.args.imports.now c.loop-k.k y (sym c.in-Some.ensures) in
+    let m = matched_next (trees a.nodes) (named_trees (trees a.nodes) c.args.args.now) c.args.imports.now c.loop-k.k y (sym c.in-Some.ensures) in
+    let q = ap (λ (es : List (Text × ComponentItem)). found_extent (named_trees (trees a.nodes) es) y.0) c.in_ok-by_name.ensures in
+    omega (arith, n, m, q, c.in_err-argument-in-Some.ensures.counted, c.loop-k.invariant.counted)
+
+pub returns-in_err-give-in-Some-clause-counted : goal.returns-in_err-give-in-Some-clause-counted
+returns-in_err-give-in-Some-clause-counted g c =
+    let a = c.args.types.now in
+    let y = c.in-Some.import.now in
+    let n = entries_next (trees a.nodes) c.args.imports.now c.loop-k.k y (sym c.in-Some.ensures) in
+    let m = matched_next (trees a.nodes) (named_trees (trees a.nodes) c.args.args.now) c.args.imports.now c.loop-k.k y (sym c.in-Some.ensures) in
+    let q = ap (λ (es : List (Text × ComponentItem)). found_extent (named_trees (trees a.nodes) es) y.0) c.in_ok-by_name.ensures in
+    omega (arith, n, m, q, c.in_ok-argument-in-Some.ensures.counted, c.in_err-give-in-Some.ensures.counted, c.loop-k.invariant.counted)

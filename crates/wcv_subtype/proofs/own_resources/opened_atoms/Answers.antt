@@ -11,25 +11,25 @@ use Rattle.wcv_subtype.proofs.OwnAtoms.{first_joined}
 use Rattle.wcv_subtype.proofs.own_resources.opened_atoms.Goals as goal
 
 pub counterparts-requires-clause-entries : goal.counterparts-requires-clause-entries
-counterparts-requires-clause-entries c = imports_stand c.args.types.now c.args.a.index c.get-x.result.now c.get-x.ensures.before
+counterparts-requires-clause-entries g c = imports_stand c.args.types.now c.args.a.index c.get-x.result.now c.get-x.ensures.before
 
 pub counterparts-requires-clause-others : goal.counterparts-requires-clause-others
-counterparts-requires-clause-others c = imports_stand c.args.types.now c.args.b.index c.get-y.result.now c.get-y.ensures.before
+counterparts-requires-clause-others g c = imports_stand c.args.types.now c.args.b.index c.get-y.result.now c.get-y.ensures.before
 
 pub counterparts-requires-2-clause-entries : goal.counterparts-requires-2-clause-entries
-counterparts-requires-2-clause-entries c = component_stands c.args.types.now c.args.b.index c.get-y.result.now c.get-y.ensures.before
+counterparts-requires-2-clause-entries g c = component_stands c.args.types.now c.args.b.index c.get-y.result.now c.get-y.ensures.before
 
 pub counterparts-requires-2-clause-others : goal.counterparts-requires-2-clause-others
-counterparts-requires-2-clause-others c = component_stands c.args.types.now c.args.a.index c.get-x.result.now c.get-x.ensures.before
+counterparts-requires-2-clause-others g c = component_stands c.args.types.now c.args.a.index c.get-x.result.now c.get-x.ensures.before
 
 pub returns-then-not-none_made-clause-opened : goal.returns-then-not-none_made-clause-opened
-returns-then-not-none_made-clause-opened c =
+returns-then-not-none_made-clause-opened g c =
     let a = c.args.types.now in
     let x = tree_at c.args.types.now (p.Component c.args.a) in
     let y = tree_at c.args.types.now (p.Component c.args.b) in
     let f = reads c.args.left.now in
     let g = reads c.args.right.now in
-    let ins = ap (map lands_on) c.deref-4.ensures.value ∙ c.in_ok-imported.ensures in
+    let ins = ap (map lands_on) c.deref-4.ensures.value ∙ c.in_ok-imported.ensures.found in
     let whole = right_over a c.args.b.index c.get-y.result.now y c.get-y.ensures.unfolds c.args.level g (map lands_on c.deref.result.now) (map lands_on c.deref-2.result.now) (atoms_of c.in_ok-right_atoms.right_atoms.items)
     (ap (map lands_on) c.deref.ensures.value ∙ c.in_ok-owned.ensures) (ap (map lands_on) c.deref-2.ensures.value ∙ c.in_ok-made.ensures) c.in_ok-right_atoms.ensures in
     let read = (λ l. over (ap (λ es. atoms_of es) c.deref-3.ensures.value l) g) ∙ whole in
@@ -37,13 +37,13 @@ returns-then-not-none_made-clause-opened c =
     sym (none_made_told a c.args.a.index c.get-x.result.now x c.get-x.ensures.unfolds c.args.b.index c.get-y.result.now y c.get-y.ensures.unfolds c.args.level g (over (atoms_of c.deref-3.result.now) g) (map lands_on c.deref-4.result.now) (atoms_of c.deref-5.result.now) read ins (ap (λ es. atoms_of es) c.deref-5.ensures.value ∙ first)) ∙ sym c.none_made.ensures ∙ c.if-not-none_made.true
 
 pub returns-clause-opened : goal.returns-clause-opened
-returns-clause-opened c =
+returns-clause-opened g c =
     let a = c.args.types.now in
     let x = tree_at c.args.types.now (p.Component c.args.a) in
     let y = tree_at c.args.types.now (p.Component c.args.b) in
     let f = reads c.args.left.now in
     let g = reads c.args.right.now in
-    let ins = ap (map lands_on) c.deref-4.ensures.value ∙ c.in_ok-imported.ensures in
+    let ins = ap (map lands_on) c.deref-4.ensures.value ∙ c.in_ok-imported.ensures.found in
     let whole = right_over a c.args.b.index c.get-y.result.now y c.get-y.ensures.unfolds c.args.level g (map lands_on c.deref.result.now) (map lands_on c.deref-2.result.now) (atoms_of c.in_ok-right_atoms.right_atoms.items)
     (ap (map lands_on) c.deref.ensures.value ∙ c.in_ok-owned.ensures) (ap (map lands_on) c.deref-2.ensures.value ∙ c.in_ok-made.ensures) c.in_ok-right_atoms.ensures in
     let read = (λ l. over (ap (λ es. atoms_of es) c.deref-3.ensures.value l) g) ∙ whole in
@@ -56,9 +56,9 @@ returns-clause-opened c =
       left = theirs;
       right = whole;
       exports = opened_exports a c.args.a.index c.get-x.result.now x c.get-x.ensures.unfolds c.args.b.index c.get-y.result.now y c.get-y.ensures.unfolds c.args.level f g (over (atoms_of c.deref-8.result.now) f) (map lands_on c.deref-7.result.now) (map lands_on c.deref-9.result.now) (atoms_of c.push_read_under-2.new.atoms.items)
-          ((λ l. over (ap (λ es. atoms_of es) c.deref-8.ensures.value l) f) ∙ theirs) (ap (map lands_on) c.deref-7.ensures.value ∙ c.in_ok-owned.ensures) (ap (map lands_on) c.deref-9.ensures.value ∙ c.in_ok-defined.ensures)
+          ((λ l. over (ap (λ es. atoms_of es) c.deref-8.ensures.value l) f) ∙ theirs) (ap (map lands_on) c.deref-7.ensures.value ∙ c.in_ok-owned.ensures) (ap (map lands_on) c.deref-9.ensures.value ∙ c.in_ok-defined.ensures.found)
           (c.in_ok-push_read_under-2.ensures.joined ∙ (λ l. second l ++ read_as (over (atoms_of c.deref-8.result.now) f) (map lands_on c.deref-9.result.now)));
     }
 
 pub returns-clause-right : goal.returns-clause-right
-returns-clause-right c = c.in_ok-push_read_under.ensures.stays
+returns-clause-right g c = c.in_ok-push_read_under.ensures.stays

@@ -10,8 +10,10 @@ use Rattle.wcv_types.specs.Unfold.{Type_tree}
 use Rattle.wcv_types.specs.declared.item_map.ComponentItem.{ComponentItem}
 use Rattle.wcv_matching.specs.Orderly.{height}
 use Rattle.wcv_matching.proofs.Entries.{entry_within, not_past}
-use Rattle.wcv_subtype.proofs.ComponentIds.{entries_moved, exports_below, imports_below, imports_stand, match_first, match_second, same_first, same_second}
+use Rattle.wcv_subtype.proofs.ComponentIds.{entries_moved, exports_below, imports_below, imports_stand, match_first, match_second, same_first, same_none, same_second}
 use Rattle.wcv_subtype.proofs.Exporting.{component_stands}
+use Rattle.wcv_subtype.proofs.Extents.{component_extent, entries_next, found_is, instance_extent, matched_next, matched_within}
+use Rattle.wcv_subtype.specs.IdPasses.{named_trees}
 use Rattle.wcv_subtype.proofs.PassIds.{module_case, func_case, value_case, type_case, instance_case, component_case, not_stays, no_names, one_differs, one_agrees, all_agree, told, untold, lower, found_stands, instance_lower, instance_stands, if_ok, instances_answer, types_told, answers_are}
 use Rattle.wcv_subtype.proofs.PassSteps.{entities_differ, module_apart, func_apart, value_apart, type_apart, instance_apart, component_apart, entity_of, no_resource, resources_by_ids}
 use Rattle.wcv_subtype.proofs.passes.+passing.Goals as goal
@@ -20,79 +22,85 @@ use Rattle.wcv_subtype.proofs.passes.+passing.Goals.{entries_pass-in-Some+in-Som
 -- ## An entity
 
 pub entity_passes-returns-in-Module-b-clause-answers : goal.entity_passes-returns-in-Module-b-clause-answers
-entity_passes-returns-in-Module-b-clause-answers t c = module_case c.args.types.now c.args.exact c.args.level (reads c.args.left.now) (reads c.args.right.now) c.args.a c.args.b c.in-Module.x c.in-Module-b.y c.in-Module.is c.in-Module-b.is c.requires.a c.requires.b c.modules_pass.result c.modules_pass.ensures
+entity_passes-returns-in-Module-b-clause-answers g t c = module_case c.args.types.now c.args.exact c.args.level (reads c.args.left.now) (reads c.args.right.now) c.args.a c.args.b c.in-Module.x c.in-Module-b.y c.in-Module.is c.in-Module-b.is c.requires.a c.requires.b c.modules_pass.result c.modules_pass.ensures.passes
 
 pub entity_passes-returns-in_default : goal.entity_passes-returns-in_default
-entity_passes-returns-in_default t c = record {
+entity_passes-returns-in_default g t c = record {
   answers = entities_differ c.args.types.now c.args.exact c.args.level (reads c.args.left.now) (reads c.args.right.now) c.args.a c.args.b c.requires.a c.requires.b (module_apart c.args.a c.args.b c.in-Module.x c.in-Module.is c.in_default.not-Module);
   left = not_stays _ _;
   right = not_stays _ _;
+  counted = omega arith;
 }
 
 pub entity_passes-returns-in-Func-b-clause-answers : goal.entity_passes-returns-in-Func-b-clause-answers
-entity_passes-returns-in-Func-b-clause-answers t c = func_case c.args.types.now c.args.exact c.args.level (reads c.args.left.now) (reads c.args.right.now) c.args.a c.args.b c.in-Func.x c.in-Func-b.y c.in-Func.is c.in-Func-b.is c.requires.a c.requires.b c.same_func.ensures
+entity_passes-returns-in-Func-b-clause-answers g t c = func_case c.args.types.now c.args.exact c.args.level (reads c.args.left.now) (reads c.args.right.now) c.args.a c.args.b c.in-Func.x c.in-Func-b.y c.in-Func.is c.in-Func-b.is c.requires.a c.requires.b c.same_func.ensures.same
 
 pub entity_passes-returns-in_default-b : goal.entity_passes-returns-in_default-b
-entity_passes-returns-in_default-b t c = record {
+entity_passes-returns-in_default-b g t c = record {
   answers = entities_differ c.args.types.now c.args.exact c.args.level (reads c.args.left.now) (reads c.args.right.now) c.args.a c.args.b c.requires.a c.requires.b (func_apart c.args.a c.args.b c.in-Func.x c.in-Func.is c.in_default-b.not-Func);
   left = not_stays _ _;
   right = not_stays _ _;
+  counted = omega arith;
 }
 
 pub entity_passes-returns-in-Value-b-clause-answers : goal.entity_passes-returns-in-Value-b-clause-answers
-entity_passes-returns-in-Value-b-clause-answers t c = value_case c.args.types.now c.args.exact c.args.level (reads c.args.left.now) (reads c.args.right.now) c.args.a c.args.b c.in-Value.x c.in-Value-b.y c.in-Value.is c.in-Value-b.is c.requires.a c.requires.b c.same_value.ensures
+entity_passes-returns-in-Value-b-clause-answers g t c = value_case c.args.types.now c.args.exact c.args.level (reads c.args.left.now) (reads c.args.right.now) c.args.a c.args.b c.in-Value.x c.in-Value-b.y c.in-Value.is c.in-Value-b.is c.requires.a c.requires.b c.same_value.ensures.same
 
 pub entity_passes-returns-in_default-b-2 : goal.entity_passes-returns-in_default-b-2
-entity_passes-returns-in_default-b-2 t c = record {
+entity_passes-returns-in_default-b-2 g t c = record {
   answers = entities_differ c.args.types.now c.args.exact c.args.level (reads c.args.left.now) (reads c.args.right.now) c.args.a c.args.b c.requires.a c.requires.b (value_apart c.args.a c.args.b c.in-Value.x c.in-Value.is c.in_default-b-2.not-Value);
   left = not_stays _ _;
   right = not_stays _ _;
+  counted = omega arith;
 }
 
 pub entity_passes-returns-in-Ty-b-clause-answers : goal.entity_passes-returns-in-Ty-b-clause-answers
-entity_passes-returns-in-Ty-b-clause-answers t c = type_case c.args.types.now c.args.exact c.args.level (reads c.args.left.now) (reads c.args.right.now) c.args.a c.args.b c.in-Ty.created c.in-Ty.x c.in-Ty-b.created c.in-Ty-b.y c.in-Ty.is c.in-Ty-b.is c.types_pass.result c.types_pass.ensures.answers
+entity_passes-returns-in-Ty-b-clause-answers g t c = type_case c.args.types.now c.args.exact c.args.level (reads c.args.left.now) (reads c.args.right.now) c.args.a c.args.b c.in-Ty.created c.in-Ty.x c.in-Ty-b.created c.in-Ty-b.y c.in-Ty.is c.in-Ty-b.is c.types_pass.result c.types_pass.ensures.answers
 
 pub entity_passes-returns-in_default-b-3 : goal.entity_passes-returns-in_default-b-3
-entity_passes-returns-in_default-b-3 t c = record {
+entity_passes-returns-in_default-b-3 g t c = record {
   answers = entities_differ c.args.types.now c.args.exact c.args.level (reads c.args.left.now) (reads c.args.right.now) c.args.a c.args.b c.requires.a c.requires.b (type_apart c.args.a c.args.b c.in-Ty.created c.in-Ty.x c.in-Ty.is c.in_default-b-3.not-Ty);
   left = not_stays _ _;
   right = not_stays _ _;
+  counted = omega arith;
 }
 
 pub entity_passes-returns-in-Instance-b-clause-answers : goal.entity_passes-returns-in-Instance-b-clause-answers
-entity_passes-returns-in-Instance-b-clause-answers t c = instance_case c.args.types.now c.args.exact c.args.level (reads c.args.left.now) (reads c.args.right.now) c.args.a c.args.b c.in-Instance.x c.in-Instance-b.y c.in-Instance.is c.in-Instance-b.is c.instances_pass.result c.instances_pass.ensures.answers
+entity_passes-returns-in-Instance-b-clause-answers g t c = instance_case c.args.types.now c.args.exact c.args.level (reads c.args.left.now) (reads c.args.right.now) c.args.a c.args.b c.in-Instance.x c.in-Instance-b.y c.in-Instance.is c.in-Instance-b.is c.instances_pass.result c.instances_pass.ensures.answers
 
 pub entity_passes-returns-in_default-b-4 : goal.entity_passes-returns-in_default-b-4
-entity_passes-returns-in_default-b-4 t c = record {
+entity_passes-returns-in_default-b-4 g t c = record {
   answers = entities_differ c.args.types.now c.args.exact c.args.level (reads c.args.left.now) (reads c.args.right.now) c.args.a c.args.b c.requires.a c.requires.b (instance_apart c.args.a c.args.b c.in-Instance.x c.in-Instance.is c.in_default-b-4.not-Instance);
   left = not_stays _ _;
   right = not_stays _ _;
+  counted = omega arith;
 }
 
 pub entity_passes-returns-in-Component-b-clause-answers : goal.entity_passes-returns-in-Component-b-clause-answers
-entity_passes-returns-in-Component-b-clause-answers t c = component_case c.args.types.now c.args.exact c.args.level (reads c.args.left.now) (reads c.args.right.now) c.args.a c.args.b c.in-Component.x c.in-Component-b.y c.in-Component.is c.in-Component-b.is c.components_pass.result c.components_pass.ensures.answers
+entity_passes-returns-in-Component-b-clause-answers g t c = component_case c.args.types.now c.args.exact c.args.level (reads c.args.left.now) (reads c.args.right.now) c.args.a c.args.b c.in-Component.x c.in-Component-b.y c.in-Component.is c.in-Component-b.is c.components_pass.result c.components_pass.ensures.answers
 
 pub entity_passes-returns-in_default-b-5 : goal.entity_passes-returns-in_default-b-5
-entity_passes-returns-in_default-b-5 t c = record {
+entity_passes-returns-in_default-b-5 g t c = record {
   answers = entities_differ c.args.types.now c.args.exact c.args.level (reads c.args.left.now) (reads c.args.right.now) c.args.a c.args.b c.requires.a c.requires.b (component_apart c.args.a c.args.b c.in-Component.x c.in-Component.is c.in_default-b-5.not-Component);
   left = not_stays _ _;
   right = not_stays _ _;
+  counted = omega arith;
 }
 
 -- ## Entries
 
 pub entries_pass-returns-then-not-branch-clause-answers : goal.entries_pass-returns-then-not-branch-clause-answers
-entries_pass-returns-then-not-branch-clause-answers t c = no_names c.args.types.now.core (trees c.args.types.now.nodes) c.args.exact c.args.level (reads c.args.left.now) (reads c.args.right.now) c.args.a.now c.args.b.now (sym c.in_ok-names_fit.ensures ∙ c.if-not-branch.true)
+entries_pass-returns-then-not-branch-clause-answers g t c = no_names c.args.types.now.core (trees c.args.types.now.nodes) c.args.exact c.args.level (reads c.args.left.now) (reads c.args.right.now) c.args.a.now c.args.b.now (sym c.in_ok-names_fit.ensures ∙ c.if-not-branch.true)
 
 pub entries_pass-entity_passes-requires : goal.entries_pass-entity_passes-requires
-entries_pass-entity_passes-requires t c =
+entries_pass-entity_passes-requires g t c κs inside =
     let y = c.in-Some.entry.now in
     let e : lookup (bytes_eq y.0) c.args.a.now ≡ Some c.in-Some-get.item.now = sym (c.in-Some-get.ensures ∙ ap (lookup (bytes_eq y.0)) c.in_ok-by_name.ensures) in
     let l = lower c.args.types.now.core (trees c.args.types.now.nodes) c.args.exact c.args.level (reads c.args.left.now) (reads c.args.right.now) c.args.a.now c.args.b.now c.loop-k.k y c.in-Some-get.item.now (sym c.in-Some.ensures) e in
-    (omega (arith, l.0, l.1, c.decreases), (found_stands c.args.types.now c.args.a.now y.0 c.in-Some-get.item.now c.requires.a e, entry_within (λ (w : ComponentItem). EntityStands c.args.types.now w.ty) c.args.b.now c.loop-k.k y c.requires.b c.in-Some.ensures))
+    (omega (arith, l.0, l.1, c.decreases), (inside, (found_stands c.args.types.now c.args.a.now y.0 c.in-Some-get.item.now c.requires.a e, entry_within (λ (w : ComponentItem). EntityStands c.args.types.now w.ty) c.args.b.now c.loop-k.k y c.requires.b c.in-Some.ensures)))
 
 pub entries_pass-returns-then-not-branch-2-clause-answers : goal.entries_pass-returns-then-not-branch-2-clause-answers
-entries_pass-returns-then-not-branch-2-clause-answers t c =
+entries_pass-returns-then-not-branch-2-clause-answers g t c =
     let y = c.in-Some.entry.now in
     let e : lookup (bytes_eq y.0) c.args.a.now ≡ Some c.in-Some-get.item.now = sym (c.in-Some-get.ensures ∙ ap (lookup (bytes_eq y.0)) c.in_ok-by_name.ensures) in
     one_differs c.args.types.now.core (trees c.args.types.now.nodes) c.args.exact c.args.level (reads c.args.left.now) (reads c.args.right.now) c.args.a.now c.args.b.now c.loop-k.k (sym c.in_ok-names_fit.ensures ∙ c.if-not-branch.false) y (sym c.in-Some.ensures) c.loop-k.invariant.left
@@ -100,13 +108,13 @@ entries_pass-returns-then-not-branch-2-clause-answers t c =
     (answers_are c.args.types.now.core c.args.exact c.args.level (reads c.loop-k.left) (reads c.loop-k.right) _ _ c.in_ok-entity_passes-in-Some-get.ensures.answers c.if-not-branch-2.true))
 
 pub entries_pass-returns-in-None-clause-answers : goal.entries_pass-returns-in-None-clause-answers
-entries_pass-returns-in-None-clause-answers t c =
+entries_pass-returns-in-None-clause-answers g t c =
     let y = c.in-Some.entry.now in
     let e : lookup (bytes_eq y.0) c.args.a.now ≡ None = sym (c.in-None.ensures ∙ ap (lookup (bytes_eq y.0)) c.in_ok-by_name.ensures) in
     one_differs c.args.types.now.core (trees c.args.types.now.nodes) c.args.exact c.args.level (reads c.args.left.now) (reads c.args.right.now) c.args.a.now c.args.b.now c.loop-k.k (sym c.in_ok-names_fit.ensures ∙ c.if-not-branch.false) y (sym c.in-Some.ensures) c.loop-k.invariant.left (untold c.args.types.now.core (trees c.args.types.now.nodes) c.args.exact c.args.level (reads c.args.left.now) (reads c.args.right.now) c.args.a.now c.args.b.now c.loop-k.k y e)
 
 pub entries_pass-loop-k-preserved : goal.entries_pass-loop-k-preserved
-entries_pass-loop-k-preserved t c = elim c.match-get_index.branch [
+entries_pass-loop-k-preserved g t c = elim c.match-get_index.branch [
   | entries_pass-in-Some+in-Some-get+in_ok-entity_passes-in-Some-get+else-not-branch-2 w ↦
       (let y = w.in-Some.entry.now in
       let e : lookup (bytes_eq y.0) c.args.a.now ≡ Some w.in-Some-get.item.now = sym (w.in-Some-get.ensures ∙ ap (lookup (bytes_eq y.0)) c.in_ok-by_name.ensures) in
@@ -115,137 +123,216 @@ entries_pass-loop-k-preserved t c = elim c.match-get_index.branch [
             (told c.args.types.now.core (trees c.args.types.now.nodes) c.args.exact c.args.level (reads c.args.left.now) (reads c.args.right.now) c.args.a.now c.args.b.now c.loop-k.k y w.in-Some-get.item.now (reads c.loop-k.left) (reads c.loop-k.right) (sym w.in-Some.ensures) e c.loop-k.invariant.same_left c.loop-k.invariant.same_right
             (answers_are c.args.types.now.core c.args.exact c.args.level (reads c.loop-k.left) (reads c.loop-k.right) _ _ w.in_ok-entity_passes-in-Some-get.ensures.answers w.if-not-branch-2.false));
         same_left = ap reads w.left-is ∙ w.in_ok-entity_passes-in-Some-get.ensures.left w.if-not-branch-2.false ∙ c.loop-k.invariant.same_left;
+        counted = omega (arith, entries_next (trees c.args.types.now.nodes) c.args.b.now c.loop-k.k y (sym w.in-Some.ensures), matched_next (trees c.args.types.now.nodes) (named_trees (trees c.args.types.now.nodes) c.args.a.now) c.args.b.now c.loop-k.k y (sym w.in-Some.ensures), found_is (trees c.args.types.now.nodes) c.args.a.now y.0 w.in-Some-get.item.now e, w.in_ok-entity_passes-in-Some-get.ensures.counted, c.loop-k.invariant.counted, w.steps-is);
         same_right = ap reads w.right-is ∙ w.in_ok-entity_passes-in-Some-get.ensures.right w.if-not-branch-2.false ∙ c.loop-k.invariant.same_right;
       })
   | entries_pass-in_default w ↦ not_past c.args.b.now c.loop-k.k (omega arith) w.in_default.ensures
 ]
 
 pub entries_pass-returns-clause-answers : goal.entries_pass-returns-clause-answers
-entries_pass-returns-clause-answers t c = all_agree c.args.types.now.core (trees c.args.types.now.nodes) c.args.exact c.args.level (reads c.args.left.now) (reads c.args.right.now) c.args.a.now c.args.b.now c.loop-k.k (sym c.in_ok-names_fit.ensures ∙ c.if-not-branch.false) (omega arith) c.loop-k.invariant.left
+entries_pass-returns-clause-answers g t c = all_agree c.args.types.now.core (trees c.args.types.now.nodes) c.args.exact c.args.level (reads c.args.left.now) (reads c.args.right.now) c.args.a.now c.args.b.now c.loop-k.k (sym c.in_ok-names_fit.ensures ∙ c.if-not-branch.false) (omega arith) c.loop-k.invariant.left
 
 -- ## Entries under own resources
 
 pub entries_pass_under-returns-clause-left : goal.entries_pass_under-returns-clause-left
-entries_pass_under-returns-clause-left t c h = c.in_ok-enter.ensures ∙ (λ j. over ((ap (λ es. atoms_of es) c.deref.ensures.value) j) (c.in_ok-entries_pass.ensures.left c.if-not-branch.false j)) ∙ c.in_ok-kept_left.ensures.back
+entries_pass_under-returns-clause-left g t c h = c.in_ok-enter.ensures ∙ (λ j. over ((ap (λ es. atoms_of es) c.deref.ensures.value) j) (c.in_ok-entries_pass.ensures.left c.if-not-branch.false j)) ∙ c.in_ok-kept_left.ensures.back
 
 pub entries_pass_under-returns-clause-right : goal.entries_pass_under-returns-clause-right
-entries_pass_under-returns-clause-right t c h = c.in_ok-enter-2.ensures ∙ (λ j. over ((ap (λ es. atoms_of es) c.deref-2.ensures.value) j) (c.in_ok-entries_pass.ensures.right c.if-not-branch.false j)) ∙ c.in_ok-kept_right.ensures.back
+entries_pass_under-returns-clause-right g t c h = c.in_ok-enter-2.ensures ∙ (λ j. over ((ap (λ es. atoms_of es) c.deref-2.ensures.value) j) (c.in_ok-entries_pass.ensures.right c.if-not-branch.false j)) ∙ c.in_ok-kept_right.ensures.back
 
 pub entries_pass_under-returns-then-not-branch-clause-answers : goal.entries_pass_under-returns-then-not-branch-clause-answers
-entries_pass_under-returns-then-not-branch-clause-answers t c = entries_moved c.args.types.now.core c.args.exact c.args.level c.args.level _ _ _ _ _ _ _ _ _ false refl c.in_ok-kept_left.ensures.entered c.in_ok-kept_right.ensures.entered refl refl c.if-not-branch.true c.in_ok-entries_pass.ensures.answers
+entries_pass_under-returns-then-not-branch-clause-answers g t c = entries_moved c.args.types.now.core c.args.exact c.args.level c.args.level _ _ _ _ _ _ _ _ _ false refl c.in_ok-kept_left.ensures.entered c.in_ok-kept_right.ensures.entered refl refl c.if-not-branch.true c.in_ok-entries_pass.ensures.answers
 
 pub entries_pass_under-returns-clause-answers : goal.entries_pass_under-returns-clause-answers
-entries_pass_under-returns-clause-answers t c = entries_moved c.args.types.now.core c.args.exact c.args.level c.args.level _ _ _ _ _ _ _ _ _ true refl c.in_ok-kept_left.ensures.entered c.in_ok-kept_right.ensures.entered refl refl c.if-not-branch.false c.in_ok-entries_pass.ensures.answers
+entries_pass_under-returns-clause-answers g t c = entries_moved c.args.types.now.core c.args.exact c.args.level c.args.level _ _ _ _ _ _ _ _ _ true refl c.in_ok-kept_left.ensures.entered c.in_ok-kept_right.ensures.entered refl refl c.if-not-branch.false c.in_ok-entries_pass.ensures.answers
 
 -- ## Instances
 
 pub instances_pass-entries_pass_under-requires : goal.instances_pass-entries_pass_under-requires
-instances_pass-entries_pass_under-requires t c =
-    let x = instance_lower c.args.types.now c.args.a.index c.get-x.result.now _ c.get-x.ensures.unfolds in
-    let y = instance_lower c.args.types.now c.args.b.index c.get-y.result.now _ c.get-y.ensures.unfolds in
-    (omega (arith, x, y, c.decreases), (instance_stands c.args.types.now c.args.a.index c.get-x.result.now c.get-x.ensures.before, instance_stands c.args.types.now c.args.b.index c.get-y.result.now c.get-y.ensures.before))
+instances_pass-entries_pass_under-requires g t c κs inside =
+    let x = instance_lower c.args.types.now c.args.a.index c.visited-x.result.now _ c.visited-x.ensures.unfolds in
+    let y = instance_lower c.args.types.now c.args.b.index c.visited-y.result.now _ c.visited-y.ensures.unfolds in
+    (omega (arith, x, y, c.decreases), (inside, (instance_stands c.args.types.now c.args.a.index c.visited-x.result.now c.visited-x.ensures.before, (instance_stands c.args.types.now c.args.b.index c.visited-y.result.now c.visited-y.ensures.before, c.visited-y.ensures.apart))))
 
 pub instances_pass-returns-clause-answers : goal.instances_pass-returns-clause-answers
-instances_pass-returns-clause-answers t c =
+instances_pass-returns-clause-answers g t c =
     if_ok c.entries_pass_under.result
-    (λ passes m. instances_answer c.args.types.now c.args.a.index c.get-x.result.now _ c.get-x.ensures.unfolds c.args.b.index c.get-y.result.now _ c.get-y.ensures.unfolds c.args.exact c.args.level c.in-Some.deeper (reads c.args.left.now) (reads c.args.right.now) _ _ (omega (arith, c.in-Some.ensures))
+    (λ passes m. instances_answer c.args.types.now c.args.a.index c.visited-x.result.now _ c.visited-x.ensures.unfolds c.args.b.index c.visited-y.result.now _ c.visited-y.ensures.unfolds c.args.exact c.args.level c.in-Some.deeper (reads c.args.left.now) (reads c.args.right.now) _ _ (omega (arith, c.in-Some.ensures))
     (λ j. over ((ap (λ es. atoms_of es) c.deref.ensures.value ∙ c.in_ok-own_left.ensures) j) (reads c.args.left.now)) (λ j. over ((ap (λ es. atoms_of es) c.deref-2.ensures.value ∙ c.in_ok-own_right.ensures) j) (reads c.args.right.now)) m)
     c.entries_pass_under.ensures.answers
 
 -- ## Components
 
 pub same_components-entries_pass_under-requires : goal.same_components-entries_pass_under-requires
-same_components-entries_pass_under-requires t c =
-    let x = imports_below c.args.types.now c.args.a.index c.get-x.result.now _ c.get-x.ensures.unfolds in
-    let y = imports_below c.args.types.now c.args.b.index c.get-y.result.now _ c.get-y.ensures.unfolds in
-    (omega (arith, x, y, c.decreases), (imports_stand c.args.types.now c.args.a.index c.get-x.result.now c.get-x.ensures.before, imports_stand c.args.types.now c.args.b.index c.get-y.result.now c.get-y.ensures.before))
+same_components-entries_pass_under-requires g t c κs inside =
+    let x = imports_below c.args.types.now c.args.a.index c.visited-x.result.now _ c.visited-x.ensures.unfolds in
+    let y = imports_below c.args.types.now c.args.b.index c.visited-y.result.now _ c.visited-y.ensures.unfolds in
+    (omega (arith, x, y, c.decreases), (inside, (imports_stand c.args.types.now c.args.a.index c.visited-x.result.now c.visited-x.ensures.before, (imports_stand c.args.types.now c.args.b.index c.visited-y.result.now c.visited-y.ensures.before, c.visited-y.ensures.apart.0))))
 
 pub same_components-entries_pass_under-requires-2 : goal.same_components-entries_pass_under-requires-2
-same_components-entries_pass_under-requires-2 t c =
-    let x = exports_below c.args.types.now c.args.a.index c.get-x.result.now _ c.get-x.ensures.unfolds in
-    let y = exports_below c.args.types.now c.args.b.index c.get-y.result.now _ c.get-y.ensures.unfolds in
-    (omega (arith, x, y, c.decreases), (component_stands c.args.types.now c.args.a.index c.get-x.result.now c.get-x.ensures.before, component_stands c.args.types.now c.args.b.index c.get-y.result.now c.get-y.ensures.before))
+same_components-entries_pass_under-requires-2 g t c κs inside =
+    let x = exports_below c.args.types.now c.args.a.index c.visited-x.result.now _ c.visited-x.ensures.unfolds in
+    let y = exports_below c.args.types.now c.args.b.index c.visited-y.result.now _ c.visited-y.ensures.unfolds in
+    (omega (arith, x, y, c.decreases), (inside, (component_stands c.args.types.now c.args.a.index c.visited-x.result.now c.visited-x.ensures.before, (component_stands c.args.types.now c.args.b.index c.visited-y.result.now c.visited-y.ensures.before, c.visited-y.ensures.apart.1))))
 
 pub component_matches-entries_pass_under-requires : goal.component_matches-entries_pass_under-requires
-component_matches-entries_pass_under-requires t c =
-    let x = imports_below c.args.types.now c.args.a.index c.get-x.result.now _ c.get-x.ensures.unfolds in
-    let y = imports_below c.args.types.now c.args.b.index c.get-y.result.now _ c.get-y.ensures.unfolds in
-    (omega (arith, x, y, c.decreases), (imports_stand c.args.types.now c.args.b.index c.get-y.result.now c.get-y.ensures.before, imports_stand c.args.types.now c.args.a.index c.get-x.result.now c.get-x.ensures.before))
+component_matches-entries_pass_under-requires g t c κs inside =
+    let x = imports_below c.args.types.now c.args.a.index c.visited-x.result.now _ c.visited-x.ensures.unfolds in
+    let y = imports_below c.args.types.now c.args.b.index c.visited-y.result.now _ c.visited-y.ensures.unfolds in
+    (omega (arith, x, y, c.decreases), (inside, (imports_stand c.args.types.now c.args.b.index c.visited-y.result.now c.visited-y.ensures.before, (imports_stand c.args.types.now c.args.a.index c.visited-x.result.now c.visited-x.ensures.before, c.visited-x.ensures.apart.0))))
 
 pub component_matches-entries_pass_under-requires-2 : goal.component_matches-entries_pass_under-requires-2
-component_matches-entries_pass_under-requires-2 t c =
-    let x = exports_below c.args.types.now c.args.a.index c.get-x.result.now _ c.get-x.ensures.unfolds in
-    let y = exports_below c.args.types.now c.args.b.index c.get-y.result.now _ c.get-y.ensures.unfolds in
-    (omega (arith, x, y, c.decreases), (component_stands c.args.types.now c.args.a.index c.get-x.result.now c.get-x.ensures.before, component_stands c.args.types.now c.args.b.index c.get-y.result.now c.get-y.ensures.before))
+component_matches-entries_pass_under-requires-2 g t c κs inside =
+    let x = exports_below c.args.types.now c.args.a.index c.visited-x.result.now _ c.visited-x.ensures.unfolds in
+    let y = exports_below c.args.types.now c.args.b.index c.visited-y.result.now _ c.visited-y.ensures.unfolds in
+    (omega (arith, x, y, c.decreases), (inside, (component_stands c.args.types.now c.args.a.index c.visited-x.result.now c.visited-x.ensures.before, (component_stands c.args.types.now c.args.b.index c.visited-y.result.now c.visited-y.ensures.before, c.visited-y.ensures.apart.1))))
 
 pub same_components-returns-then-not-branch-clause-answers : goal.same_components-returns-then-not-branch-clause-answers
-same_components-returns-then-not-branch-clause-answers t c =
-    same_first c.args.types.now c.args.a.index c.get-x.result.now _ c.get-x.ensures.unfolds c.args.b.index c.get-y.result.now _ c.get-y.ensures.unfolds c.args.level c.in-Some.deeper (omega (arith, c.in-Some.ensures)) (reads c.args.left.now) (reads c.args.right.now)
-    _ c.in-Some-2.own c.in-Some-2.is c.in_ok-own.ensures _ _ refl refl _ _ c.deref.ensures.value c.deref-2.ensures.value _ c.if-not-branch.true c.in_ok-entries_pass_under.ensures.answers
+same_components-returns-then-not-branch-clause-answers g t c =
+    same_first c.args.types.now c.args.a.index c.visited-x.result.now _ c.visited-x.ensures.unfolds c.args.b.index c.visited-y.result.now _ c.visited-y.ensures.unfolds c.args.level c.in-Some.deeper (omega (arith, c.in-Some.ensures)) (reads c.args.left.now) (reads c.args.right.now)
+    _ c.in-Some-2.own c.in-Some-2.is c.in_ok-own.ensures.paired _ _ refl refl _ _ c.deref.ensures.value c.deref-2.ensures.value _ c.if-not-branch.true c.in_ok-entries_pass_under.ensures.answers
 
 pub same_components-returns-clause-answers : goal.same_components-returns-clause-answers
-same_components-returns-clause-answers t c =
+same_components-returns-clause-answers g t c =
     if_ok c.entries_pass_under-2.result
-    (λ passes m. same_second c.args.types.now c.args.a.index c.get-x.result.now _ c.get-x.ensures.unfolds c.args.b.index c.get-y.result.now _ c.get-y.ensures.unfolds c.args.level c.in-Some.deeper (omega (arith, c.in-Some.ensures)) (reads c.args.left.now) (reads c.args.right.now)
-    _ c.in-Some-2.own c.in-Some-2.is c.in_ok-own.ensures _ _ refl refl _ _ c.deref.ensures.value c.deref-2.ensures.value _ c.if-not-branch.false c.in_ok-entries_pass_under.ensures.answers
+    (λ passes m. same_second c.args.types.now c.args.a.index c.visited-x.result.now _ c.visited-x.ensures.unfolds c.args.b.index c.visited-y.result.now _ c.visited-y.ensures.unfolds c.args.level c.in-Some.deeper (omega (arith, c.in-Some.ensures)) (reads c.args.left.now) (reads c.args.right.now)
+    _ c.in-Some-2.own c.in-Some-2.is c.in_ok-own.ensures.paired _ _ refl refl _ _ c.deref.ensures.value c.deref-2.ensures.value _ c.if-not-branch.false c.in_ok-entries_pass_under.ensures.answers
     _ _ (c.in_ok-entries_pass_under.ensures.left c.if-not-branch.false) (c.in_ok-entries_pass_under.ensures.right c.if-not-branch.false) _ _ c.deref-3.ensures.value c.deref-4.ensures.value passes m)
     c.entries_pass_under-2.ensures.answers
 
 pub same_components-returns-clause-left : goal.same_components-returns-clause-left
-same_components-returns-clause-left t c = if_ok c.entries_pass_under-2.result (λ passes m h. m h ∙ c.in_ok-entries_pass_under.ensures.left c.if-not-branch.false) c.entries_pass_under-2.ensures.left
+same_components-returns-clause-left g t c = if_ok c.entries_pass_under-2.result (λ passes m h. m h ∙ c.in_ok-entries_pass_under.ensures.left c.if-not-branch.false) c.entries_pass_under-2.ensures.left
 
 pub same_components-returns-clause-right : goal.same_components-returns-clause-right
-same_components-returns-clause-right t c = if_ok c.entries_pass_under-2.result (λ passes m h. m h ∙ c.in_ok-entries_pass_under.ensures.right c.if-not-branch.false) c.entries_pass_under-2.ensures.right
+same_components-returns-clause-right g t c = if_ok c.entries_pass_under-2.result (λ passes m h. m h ∙ c.in_ok-entries_pass_under.ensures.right c.if-not-branch.false) c.entries_pass_under-2.ensures.right
 
 pub component_matches-returns-then-not-branch-clause-answers : goal.component_matches-returns-then-not-branch-clause-answers
-component_matches-returns-then-not-branch-clause-answers t c =
-    match_first c.args.types.now c.args.a.index c.get-x.result.now _ c.get-x.ensures.unfolds c.args.b.index c.get-y.result.now _ c.get-y.ensures.unfolds c.args.level c.in-Some.deeper (omega (arith, c.in-Some.ensures)) (reads c.args.left.now) (reads c.args.right.now)
+component_matches-returns-then-not-branch-clause-answers g t c =
+    match_first c.args.types.now c.args.a.index c.visited-x.result.now _ c.visited-x.ensures.unfolds c.args.b.index c.visited-y.result.now _ c.visited-y.ensures.unfolds c.args.level c.in-Some.deeper (omega (arith, c.in-Some.ensures)) (reads c.args.left.now) (reads c.args.right.now)
     _ c.in-Some-2.own c.in-Some-2.is c.in_ok-own.ensures.opened _ _ c.in_ok-own.ensures.left c.in_ok-own.ensures.right _ _ c.deref-2.ensures.value c.deref.ensures.value _ c.if-not-branch.true c.in_ok-entries_pass_under.ensures.answers
 
 pub component_matches-returns-clause-answers : goal.component_matches-returns-clause-answers
-component_matches-returns-clause-answers t c =
+component_matches-returns-clause-answers g t c =
     if_ok c.entries_pass_under-2.result
-    (λ passes m. match_second c.args.types.now c.args.a.index c.get-x.result.now _ c.get-x.ensures.unfolds c.args.b.index c.get-y.result.now _ c.get-y.ensures.unfolds c.args.level c.in-Some.deeper (omega (arith, c.in-Some.ensures)) (reads c.args.left.now) (reads c.args.right.now)
+    (λ passes m. match_second c.args.types.now c.args.a.index c.visited-x.result.now _ c.visited-x.ensures.unfolds c.args.b.index c.visited-y.result.now _ c.visited-y.ensures.unfolds c.args.level c.in-Some.deeper (omega (arith, c.in-Some.ensures)) (reads c.args.left.now) (reads c.args.right.now)
     _ c.in-Some-2.own c.in-Some-2.is c.in_ok-own.ensures.opened _ _ c.in_ok-own.ensures.left c.in_ok-own.ensures.right _ _ c.deref-2.ensures.value c.deref.ensures.value _ c.if-not-branch.false c.in_ok-entries_pass_under.ensures.answers
     _ _ (c.in_ok-entries_pass_under.ensures.right c.if-not-branch.false ∙ c.in_ok-own.ensures.left) (c.in_ok-entries_pass_under.ensures.left c.if-not-branch.false ∙ c.in_ok-own.ensures.right) _ _ c.deref-3.ensures.value c.deref-4.ensures.value passes m)
     c.entries_pass_under-2.ensures.answers
 
 pub component_matches-returns-clause-left : goal.component_matches-returns-clause-left
-component_matches-returns-clause-left t c = if_ok c.entries_pass_under-2.result (λ passes m h. m h ∙ c.in_ok-entries_pass_under.ensures.right c.if-not-branch.false ∙ c.in_ok-own.ensures.left) c.entries_pass_under-2.ensures.left
+component_matches-returns-clause-left g t c = if_ok c.entries_pass_under-2.result (λ passes m h. m h ∙ c.in_ok-entries_pass_under.ensures.right c.if-not-branch.false ∙ c.in_ok-own.ensures.left) c.entries_pass_under-2.ensures.left
 
 pub component_matches-returns-clause-right : goal.component_matches-returns-clause-right
-component_matches-returns-clause-right t c = if_ok c.entries_pass_under-2.result (λ passes m h. m h ∙ c.in_ok-entries_pass_under.ensures.left c.if-not-branch.false ∙ c.in_ok-own.ensures.right) c.entries_pass_under-2.ensures.right
+component_matches-returns-clause-right g t c = if_ok c.entries_pass_under-2.result (λ passes m h. m h ∙ c.in_ok-entries_pass_under.ensures.left c.if-not-branch.false ∙ c.in_ok-own.ensures.right) c.entries_pass_under-2.ensures.right
+
+pub same_components-returns-in-None-2-clause-answers : goal.same_components-returns-in-None-2-clause-answers
+same_components-returns-in-None-2-clause-answers g t c =
+    same_none c.args.types.now c.args.a.index c.visited-x.result.now _ c.visited-x.ensures.unfolds c.args.b.index c.visited-y.result.now _ c.visited-y.ensures.unfolds c.args.level c.in-Some.deeper (omega (arith, c.in-Some.ensures)) (reads c.args.left.now) (reads c.args.right.now) _ c.in-None-2.is c.in_ok-own.ensures.paired
 
 -- ## Types that entries refer to
 
 pub types_pass-entity_passes-requires : goal.types_pass-entity_passes-requires
-types_pass-entity_passes-requires t c =
+types_pass-entity_passes-requires g t c κs inside =
     let x = entity_of c.args.types.now c.args.a c.in-Some.x (sym c.as_entity.ensures ∙ c.in-Some.is) in
     let y = entity_of c.args.types.now c.args.b c.in-Some-as_entity.y (sym c.as_entity-in-Some.ensures ∙ c.in-Some-as_entity.is) in
-    (omega (arith, ap (λ (w : Type_tree). height w) x.1, ap (λ (w : Type_tree). height w) y.1, c.decreases), (subst (λ (w : Type 0). w) (sym x.0) c.requires.a, subst (λ (w : Type 0). w) (sym y.0) c.requires.b))
+    (omega (arith, ap (λ (w : Type_tree). height w) x.1, ap (λ (w : Type_tree). height w) y.1, c.decreases), (inside, (subst (λ (w : Type 0). w) (sym x.0) c.requires.a, subst (λ (w : Type 0). w) (sym y.0) c.requires.b)))
 
 pub types_pass-returns-then-same-clause-answers : goal.types_pass-returns-then-same-clause-answers
-types_pass-returns-then-same-clause-answers t c d l r =
+types_pass-returns-then-same-clause-answers g t c d l r =
     let x = entity_of c.args.types.now c.args.a c.in-Some.x (sym c.as_entity.ensures ∙ c.in-Some.is) in
     let y = entity_of c.args.types.now c.args.b c.in-Some-as_entity.y (sym c.as_entity-in-Some.ensures ∙ c.in-Some-as_entity.is) in
     c.same_owned.ensures ∙ sym (ap (λ (b : Bool). b && same_members (owned (tree_at c.args.types.now (any_part c.args.a))) (owned (tree_at c.args.types.now (any_part c.args.b)))) (types_told c.args.types.now.core c.args.level (reads c.args.left.now) (reads c.args.right.now) _ _ _ _ x.1 y.1 c.in_ok-same-in-Some-as_entity.ensures.answers d l r ∙ c.if-same.true))
 
 pub types_pass-returns-then-same-clause-left : goal.types_pass-returns-then-same-clause-left
-types_pass-returns-then-same-clause-left t c h = c.in_ok-same-in-Some-as_entity.ensures.left c.if-same.true
+types_pass-returns-then-same-clause-left g t c h = c.in_ok-same-in-Some-as_entity.ensures.left c.if-same.true
 
 pub types_pass-returns-then-same-clause-right : goal.types_pass-returns-then-same-clause-right
-types_pass-returns-then-same-clause-right t c h = c.in_ok-same-in-Some-as_entity.ensures.right c.if-same.true
+types_pass-returns-then-same-clause-right g t c h = c.in_ok-same-in-Some-as_entity.ensures.right c.if-same.true
 
 pub types_pass-returns-else-same-clause-answers : goal.types_pass-returns-else-same-clause-answers
-types_pass-returns-else-same-clause-answers t c d l r =
+types_pass-returns-else-same-clause-answers g t c d l r =
     let x = entity_of c.args.types.now c.args.a c.in-Some.x (sym c.as_entity.ensures ∙ c.in-Some.is) in
     let y = entity_of c.args.types.now c.args.b c.in-Some-as_entity.y (sym c.as_entity-in-Some.ensures ∙ c.in-Some-as_entity.is) in
     c.if-same.false ∙ sym (ap (λ (b : Bool). b && same_members (owned (tree_at c.args.types.now (any_part c.args.a))) (owned (tree_at c.args.types.now (any_part c.args.b)))) (types_told c.args.types.now.core c.args.level (reads c.args.left.now) (reads c.args.right.now) _ _ _ _ x.1 y.1 c.in_ok-same-in-Some-as_entity.ensures.answers d l r ∙ c.if-same.false))
 
 pub types_pass-returns-in-None-as_entity-clause-answers : goal.types_pass-returns-in-None-as_entity-clause-answers
-types_pass-returns-in-None-as_entity-clause-answers t c =
+types_pass-returns-in-None-as_entity-clause-answers g t c =
     no_resource c.args.types.now c.args.level (reads c.args.left.now) (reads c.args.right.now) c.args.a c.args.b c.in-Some.x c.requires.a c.requires.b (sym c.as_entity.ensures ∙ c.in-Some.is) (sym c.as_entity-in-Some.ensures ∙ c.in-None-as_entity.is)
 
 pub types_pass-returns-in-None-clause-answers : goal.types_pass-returns-in-None-clause-answers
-types_pass-returns-in-None-clause-answers t c d l r =
+types_pass-returns-in-None-clause-answers g t c d l r =
     c.same_resource.ensures ∙ resources_by_ids c.args.types.now c.args.level (reads c.args.left.now) (reads c.args.right.now) c.args.a c.args.b c.requires.b (sym c.as_entity.ensures ∙ c.in-None.is) d l r
+
+-- ## Steps
+
+pub entries_pass-returns-in_err-entity_passes-in-Some-get-clause-counted : goal.entries_pass-returns-in_err-entity_passes-in-Some-get-clause-counted
+entries_pass-returns-in_err-entity_passes-in-Some-get-clause-counted g t c =
+    let y = c.in-Some.entry.now in
+    let e : lookup (bytes_eq y.0) c.args.a.now ≡ Some c.in-Some-get.item.now = sym (c.in-Some-get.ensures ∙ ap (lookup (bytes_eq y.0)) c.in_ok-by_name.ensures) in
+    let n = entries_next (trees c.args.types.now.nodes) c.args.b.now c.loop-k.k y (sym c.in-Some.ensures) in
+    let m = matched_next (trees c.args.types.now.nodes) (named_trees (trees c.args.types.now.nodes) c.args.a.now) c.args.b.now c.loop-k.k y (sym c.in-Some.ensures) in
+    let f = found_is (trees c.args.types.now.nodes) c.args.a.now y.0 c.in-Some-get.item.now e in
+    let w = matched_within (trees c.args.types.now.nodes) (named_trees (trees c.args.types.now.nodes) c.args.a.now) c.args.b.now c.requires.apart in
+    omega (arith, n, m, f, w, c.in_err-entity_passes-in-Some-get.ensures.counted, c.loop-k.invariant.counted)
+
+pub entries_pass-returns-then-not-branch-2-clause-counted : goal.entries_pass-returns-then-not-branch-2-clause-counted
+entries_pass-returns-then-not-branch-2-clause-counted g t c =
+    let y = c.in-Some.entry.now in
+    let e : lookup (bytes_eq y.0) c.args.a.now ≡ Some c.in-Some-get.item.now = sym (c.in-Some-get.ensures ∙ ap (lookup (bytes_eq y.0)) c.in_ok-by_name.ensures) in
+    let n = entries_next (trees c.args.types.now.nodes) c.args.b.now c.loop-k.k y (sym c.in-Some.ensures) in
+    let m = matched_next (trees c.args.types.now.nodes) (named_trees (trees c.args.types.now.nodes) c.args.a.now) c.args.b.now c.loop-k.k y (sym c.in-Some.ensures) in
+    let f = found_is (trees c.args.types.now.nodes) c.args.a.now y.0 c.in-Some-get.item.now e in
+    let w = matched_within (trees c.args.types.now.nodes) (named_trees (trees c.args.types.now.nodes) c.args.a.now) c.args.b.now c.requires.apart in
+    omega (arith, n, m, f, w, c.in_ok-entity_passes-in-Some-get.ensures.counted, c.loop-k.invariant.counted)
+
+pub entries_pass-returns-in-None-clause-counted : goal.entries_pass-returns-in-None-clause-counted
+entries_pass-returns-in-None-clause-counted g t c =
+    let w = matched_within (trees c.args.types.now.nodes) (named_trees (trees c.args.types.now.nodes) c.args.a.now) c.args.b.now c.requires.apart in
+    omega (arith, w, c.loop-k.invariant.counted)
+
+pub entries_pass-returns-clause-counted : goal.entries_pass-returns-clause-counted
+entries_pass-returns-clause-counted g t c =
+    let w = matched_within (trees c.args.types.now.nodes) (named_trees (trees c.args.types.now.nodes) c.args.a.now) c.args.b.now c.requires.apart in
+    omega (arith, w, c.loop-k.invariant.counted)
+
+pub instances_pass-returns-clause-counted : goal.instances_pass-returns-clause-counted
+instances_pass-returns-clause-counted g t c =
+    let x = instance_extent c.args.types.now c.args.a.index c.visited-x.result.now _ c.visited-x.ensures.unfolds in
+    let y = instance_extent c.args.types.now c.args.b.index c.visited-y.result.now _ c.visited-y.ensures.unfolds in
+    omega (arith, x, y, c.visited-x.ensures.counted, c.visited-y.ensures.counted, c.entries_pass_under.ensures.counted)
+
+pub same_components-returns-in_err-entries_pass_under-clause-counted : goal.same_components-returns-in_err-entries_pass_under-clause-counted
+same_components-returns-in_err-entries_pass_under-clause-counted g t c =
+    let x = component_extent c.args.types.now c.args.a.index c.visited-x.result.now _ c.visited-x.ensures.unfolds in
+    let y = component_extent c.args.types.now c.args.b.index c.visited-y.result.now _ c.visited-y.ensures.unfolds in
+    omega (arith, x, y, c.visited-x.ensures.counted, c.visited-y.ensures.counted, c.in_ok-own.ensures.counted, c.in_err-entries_pass_under.ensures.counted)
+
+pub same_components-returns-then-not-branch-clause-counted : goal.same_components-returns-then-not-branch-clause-counted
+same_components-returns-then-not-branch-clause-counted g t c =
+    let x = component_extent c.args.types.now c.args.a.index c.visited-x.result.now _ c.visited-x.ensures.unfolds in
+    let y = component_extent c.args.types.now c.args.b.index c.visited-y.result.now _ c.visited-y.ensures.unfolds in
+    omega (arith, x, y, c.visited-x.ensures.counted, c.visited-y.ensures.counted, c.in_ok-own.ensures.counted, c.in_ok-entries_pass_under.ensures.counted)
+
+pub same_components-returns-clause-counted : goal.same_components-returns-clause-counted
+same_components-returns-clause-counted g t c =
+    let x = component_extent c.args.types.now c.args.a.index c.visited-x.result.now _ c.visited-x.ensures.unfolds in
+    let y = component_extent c.args.types.now c.args.b.index c.visited-y.result.now _ c.visited-y.ensures.unfolds in
+    omega (arith, x, y, c.visited-x.ensures.counted, c.visited-y.ensures.counted, c.in_ok-own.ensures.counted, c.in_ok-entries_pass_under.ensures.counted, c.entries_pass_under-2.ensures.counted)
+
+pub component_matches-returns-in_err-entries_pass_under-clause-counted : goal.component_matches-returns-in_err-entries_pass_under-clause-counted
+component_matches-returns-in_err-entries_pass_under-clause-counted g t c =
+    let x = component_extent c.args.types.now c.args.a.index c.visited-x.result.now _ c.visited-x.ensures.unfolds in
+    let y = component_extent c.args.types.now c.args.b.index c.visited-y.result.now _ c.visited-y.ensures.unfolds in
+    omega (arith, x, y, c.visited-x.ensures.counted, c.visited-y.ensures.counted, c.in_ok-own.ensures.counted, c.in_err-entries_pass_under.ensures.counted)
+
+pub component_matches-returns-then-not-branch-clause-counted : goal.component_matches-returns-then-not-branch-clause-counted
+component_matches-returns-then-not-branch-clause-counted g t c =
+    let x = component_extent c.args.types.now c.args.a.index c.visited-x.result.now _ c.visited-x.ensures.unfolds in
+    let y = component_extent c.args.types.now c.args.b.index c.visited-y.result.now _ c.visited-y.ensures.unfolds in
+    omega (arith, x, y, c.visited-x.ensures.counted, c.visited-y.ensures.counted, c.in_ok-own.ensures.counted, c.in_ok-entries_pass_under.ensures.counted)
+
+pub component_matches-returns-clause-counted : goal.component_matches-returns-clause-counted
+component_matches-returns-clause-counted g t c =
+    let x = component_extent c.args.types.now c.args.a.index c.visited-x.result.now _ c.visited-x.ensures.unfolds in
+    let y = component_extent c.args.types.now c.args.b.index c.visited-y.result.now _ c.visited-y.ensures.unfolds in
+    omega (arith, x, y, c.visited-x.ensures.counted, c.visited-y.ensures.counted, c.in_ok-own.ensures.counted, c.in_ok-entries_pass_under.ensures.counted, c.entries_pass_under-2.ensures.counted)

@@ -9,7 +9,7 @@ use Rattle.wcv_subtype.proofs.Exporting.{exports_kept}
 use Rattle.wcv_subtype.proofs.counterparts.Exports.keep.Goals as goal
 
 pub returns-clause-maps : goal.returns-clause-maps
-returns-clause-maps c =
+returns-clause-maps g c =
     exports_kept c.args.types.now c.args.self.now.maps c.insert.new.self c.args.ty c.args.place c.in_ok-map-in-Some.map c.requires.maps c.requires.place c.in_ok-insert-in-Some.ensures.updates
     (c.in-Some.ensures.exports ∙ ap (named_trees (trees c.args.types.now.nodes)) (sym c.in_ok-map-in-Some.ensures))
     (subst (λ (es : List (Text × ComponentItem)). All (EntryStands c.args.types.now) es) (sym c.in_ok-map-in-Some.ensures) c.in-Some.ensures.stand)
