@@ -5,7 +5,6 @@ use Rattle.std.specs.Option.{option_map, unwrap_or}
 use Rattle.wcv_core.specs.Checks.{Checks}
 use Rattle.wcv_core.specs.CoreForm.{CompositeForm, func_form, SubForm, Group}
 use Rattle.wcv_core.specs.CoreGroups.{IsValWithin}
-use Rattle.wcv_core.specs.Names.{Name}
 use Rattle.wcv_core.specs.declared.core_types.AbstractHeap.TheVariants as abstract
 use Rattle.wcv_core.specs.declared.core_types.CoreTypeId.{CoreTypeId}
 use Rattle.wcv_core.specs.declared.core_types.HeapType.{HeapType}
@@ -17,8 +16,8 @@ use Rattle.wcv_syntax.specs.declared.canonical.CanonicalFunction.{CanonicalFunct
 use Rattle.wcv_types.specs.Arena.{Arena}
 use Rattle.wcv_types.specs.Entities.{SlotStands}
 use Rattle.wcv_types.specs.Standing.{Stands}
-use Rattle.wcv_types.specs.Tree.{here, label, Parts, none, part, parts}
-use Rattle.wcv_types.specs.Unfold.{Type_tree, left_out, option_slot, slot_tree, tree_at, trees}
+use Rattle.wcv_types.specs.Tree.{here, label, nothing, Tree, node, Parts, none, part, parts}
+use Rattle.wcv_types.specs.Unfold.{option_slot, slot_tree, tree_at, trees}
 use Rattle.wcv_types.specs.declared.ids.Part.TheVariants as p
 use Rattle.wcv_flat.specs.Flat.{pointer_type}
 use Rattle.wcv_flat.specs.Options.{pointer_size, type_checks}
@@ -74,8 +73,8 @@ is_shared q = false
 -- ## Functions that are lowered
 
 -- the parts of a function that takes the value and gives none
-abbrev pub taking : Type_tree → Parts Name Name
-taking t = part (label []) t (part here left_out none)
+abbrev pub taking : {R I : Type 0} → Tree R I → Parts R I
+taking t = part (label []) t (part here (node nothing none) none)
 
 -- it stands in the arena
 abbrev pub FunctionStands : Arena → RowFunction → Type 0

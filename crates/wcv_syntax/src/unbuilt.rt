@@ -1,6 +1,5 @@
 // What of an item is not built yet, for messages.
 use crate::built::{is_built_in_component, is_built_in_instance};
-use crate::canonical_name::name_of;
 use crate::component_type::{
     ComponentType, ComponentTypeDeclaration, ComponentTypeRef, InstanceTypeDeclaration,
 };
@@ -13,7 +12,7 @@ use std::fmt;
 #[derive(Clone, Copy)]
 pub struct UnreadForm(pub ItemForm);
 
-/// Shows what of an item is not built, where it holds a canonical function or a body that is not read.
+/// Shows what of an item is not built, where it holds a body that is not read.
 #[derive(Clone, Copy)]
 pub struct SectionForm<'a>(pub &'a Section);
 
@@ -40,10 +39,6 @@ pub struct AliasForm<'a>(pub &'a ComponentAlias);
 impl fmt::Display for SectionForm<'_> {
     fn fmt<W: fmt::Write>(&self, f: &mut fmt::Formatter<W>) -> fmt::Result {
         match self.0 {
-            Section::Canon(func) => {
-                let name = name_of(func);
-                write!(f, "the canonical function `{name}` is not built yet")
-            }
             Section::Unbuilt(form) => write!(f, "{}", UnreadForm(*form)),
             _ => f.write_str("this form of item is not built yet"),
         }

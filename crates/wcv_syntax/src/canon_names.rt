@@ -10,8 +10,8 @@ macro_rules! named {
     };
 }
 
-/// The name of a canonical function in a listing.
-pub(crate) fn name_of(func: &CanonicalFunction) -> &'static str {
+/// The name of a canonical function, as in a listing: `resource.new`, for one.
+pub fn canonical_name(func: &CanonicalFunction) -> &'static str {
     named!(func;
         "lift" Lift "lower" Lower "resource.new" ResourceNew "resource.drop" ResourceDrop
         "resource.rep" ResourceRep "thread.spawn-ref" ThreadSpawnRef
