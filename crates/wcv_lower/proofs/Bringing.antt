@@ -38,7 +38,7 @@ use Rattle.wcv_lower.specs.Names.{Names, Origin, introduced, again}
 use Rattle.wcv_lower.specs.NewTypes.{path_or_none}
 use Rattle.wcv_lower.specs.Owned.{AllEntries}
 use Rattle.wcv_lower.specs.Readers.{New_node, func_node, defined_node, module_node, core_instance_node, core_exports_node, if_sort, Maker}
-use Rattle.wcv_lower.specs.Step.{Change, appends, lists, introduces, defines, creates, core_appends, interns, charges, Step, Brought, bare, joins, enters, joins_types}
+use Rattle.wcv_lower.specs.Step.{Change, appends, lists, introduces, defines, creates, core_appends, interns, charges, types_slots, Step, Brought, bare, joins, enters, joins_types}
 use Rattle.wcv_lower.specs.Trees.{tree_reader, Tree_context, Tree_stack, node_tree, tree_maker, referenced, created}
 use Rattle.wcv_lower.specs.Types.{func_parts, func_made, added, type_step}
 use Rattle.wcv_lower.specs.Values.{type_of_sort, resource_at, value_entry, option_entry, Written_parts, behind, parts_entries}
@@ -103,6 +103,7 @@ Brings P New (core_appends k x) = P x
 Brings P New (creates d is) = Unit {0}
 Brings P New (interns gs) = Unit {0}
 Brings P New (charges k n) = Unit {0}
+Brings P New (types_slots v) = Unit {0}
 
 abbrev pub AllBring : (Type_tree → Type 0) → (Name → Type 0) → Step tree_reader → Type 0
 AllBring P New p = All (Brings P New) p

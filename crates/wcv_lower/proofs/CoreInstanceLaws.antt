@@ -72,7 +72,7 @@ module _ {X Y : Reader} (m : Map X Y) {Known : X.Entry → Type 0} (law : Commut
 
   -- ## Items that are listed
 
-  item_found-mapped : (o : Option X.Entry) → option_and_then Y.item (option_map m.entry o) ≡ option_and_then X.item o
+  pub item_found-mapped : (o : Option X.Entry) → option_and_then Y.item (option_map m.entry o) ≡ option_and_then X.item o
   item_found-mapped None = refl
   item_found-mapped (Some x) = law.item x
 

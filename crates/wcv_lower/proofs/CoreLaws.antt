@@ -26,7 +26,7 @@ module _ {X Y : Reader} (m : Map X Y) {Known : X.Entry → Type 0} (law : Commut
   entries_of-mapped [] = refl
   entries_of-mapped (x ∷ xs) = λ j. law.core_entry x j ∷ entries_of-mapped xs j
 
-  core_entries-mapped : (c : Context X) → core_entries (map_context m c) ≡ core_entries c
+  pub core_entries-mapped : (c : Context X) → core_entries (map_context m c) ≡ core_entries c
   core_entries-mapped c = entries_of-mapped (c.core core_types)
 
   outer_entries-mapped : (s : Stack X) → outer_entries (map_stack m s) ≡ outer_entries s

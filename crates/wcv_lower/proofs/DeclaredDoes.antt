@@ -17,7 +17,7 @@ use Rattle.wcv_lower.specs.Ending.{declared_made, declared_end_checks}
 use Rattle.wcv_lower.specs.Entries.{extern_name, written, written_checks, import_step}
 use Rattle.wcv_lower.specs.Growth.{step}
 use Rattle.wcv_lower.specs.Readers.{Reader}
-use Rattle.wcv_lower.specs.Step.{Change, appends, lists, introduces, defines, creates, core_appends, interns, charges, Step, change_at, change, apply, enters}
+use Rattle.wcv_lower.specs.Step.{Change, appends, lists, introduces, defines, creates, core_appends, interns, charges, types_slots, Step, change_at, change, apply, enters}
 use Rattle.wcv_lower.specs.Types.{added, type_step}
 use Rattle.std.proofs.lemmas.Bool.{false≢true}
 use Rattle.wcv_lower.proofs.Causes.{free_left, free_right}
@@ -47,6 +47,7 @@ module _ {X : Reader} where
   change-outer (interns gs) s = refl
   change-outer (charges zero n) s = refl
   change-outer (charges (suc k) n) s = change_at-length k (charge n) s.outer
+  change-outer (types_slots v) s = refl
 
   apply-outer : (p : Step X) (s : Stack X) → length (apply p s).outer ≡ length s.outer
   apply-outer [] s = refl

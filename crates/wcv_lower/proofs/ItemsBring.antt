@@ -10,6 +10,7 @@ use Rattle.wcv_lower.specs.Names.{Names, Origin}
 use Rattle.wcv_lower.specs.Owned.{AllEntries}
 use Rattle.wcv_lower.specs.Trees.{Tree_stack, tree_maker}
 use Rattle.wcv_lower.proofs.Bringing.{OfAny, AllBring, types_bring, imports_bring, exports_bring, core_types_bring, core_modules_bring, core_instances_bring, core_aliases_bring}
+use Rattle.wcv_lower.proofs.CanonsBring.{canons_bring}
 use Rattle.wcv_lower.proofs.InstancesBring.{Keeps, instances_bring, keeps_by}
 use Rattle.wcv_lower.proofs.Owning.{Inherited, KeptWhereGiven}
 
@@ -32,7 +33,7 @@ module _ {P : Type_tree → Type 0} {In : Parts Name Name → Type 0} (law : Inh
   items_bring fs (alias_item (alias.CoreInstanceExport k i n)) keep = core_aliases_bring law New s.top k i n
   items_bring fs (alias_item (alias.Outer k n i)) keep = tt
   items_bring fs (start_item a b c) keep = tt
-  items_bring fs (canon_item c) keep = tt
+  items_bring fs (canon_item c) keep = canons_bring law New s all c
   items_bring fs unread keep = tt
 
   kept_item : KeptWhereGiven P → (f : Form) → ItemKeeps f

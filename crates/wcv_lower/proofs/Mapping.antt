@@ -17,7 +17,7 @@ use Rattle.wcv_types.specs.Positions.{is_there}
 use Rattle.wcv_lower.specs.Mapped.{Map, Commutes, IsKnown, map_entries, map_paths, map_defined, map_context, map_stack, map_change, map_step, map_brought}
 use Rattle.wcv_lower.specs.Entries.{entity_checks}
 use Rattle.wcv_lower.specs.Readers.{Reader, sort_of, if_sort, weight}
-use Rattle.wcv_lower.specs.Step.{Change, appends, lists, introduces, defines, creates, core_appends, interns, charges, Step, on_top, change_at, on_outer, change, apply, Brought, joins, enters}
+use Rattle.wcv_lower.specs.Step.{Change, appends, lists, introduces, defines, creates, core_appends, interns, charges, types_slots, Step, on_top, change_at, on_outer, change, apply, Brought, joins, enters}
 
 -- two ways around a square, over what there is
 pub mapped-square : {A B C D : Type 0} (p : A → B) (v : B → D) (u : A → C) (q : C → D) → ((x : A) → v (p x) ≡ q (u x)) → (o : Option A) → option_map v (option_map p o) ≡ option_map q (option_map u o)
@@ -104,6 +104,7 @@ module _ {X Y : Reader} (m : Map X Y) {Known : X.Entry → Type 0} (law : Commut
   change-mapped (core_appends k x) s = top-mapped (push_core k x) (push_core k (m.entry x)) (push_core-mapped k x) s
   change-mapped (interns gs) s = refl
   change-mapped (charges k n) s = outer-mapped k n s
+  change-mapped (types_slots v) s = refl
 
   pub apply-mapped : (p : Step X) (s : Stack X) → apply (map_step m p) (map_stack m s) ≡ map_stack m (apply p s)
   apply-mapped [] s = refl

@@ -26,7 +26,7 @@ use Rattle.wcv_lower.proofs.ValueLaws.{mapped, found_there}
 
 -- ## Checks one after another
 
-said_free : (cs : Checks) → IsFree cs → is_free cs ≡ true
+pub said_free : (cs : Checks) → IsFree cs → is_free cs ≡ true
 said_free [] f = refl
 said_free (c ∷ cs) f = λ j. not (f.0 j) && said_free cs f.1 j
 

@@ -7,7 +7,7 @@ use Rattle.wcv_core.specs.Names.{Name, same, member}
 use Rattle.wcv_core.proofs.Names.{same-true, same-refl}
 use Rattle.wcv_lower.specs.Context.{importing, exporting}
 use Rattle.wcv_lower.specs.Owned.{own_resources, IsOwn, IsOnce}
-use Rattle.wcv_lower.specs.Step.{Change, appends, lists, introduces, defines, creates, core_appends, interns, charges, Step, change, apply}
+use Rattle.wcv_lower.specs.Step.{Change, appends, lists, introduces, defines, creates, core_appends, interns, charges, types_slots, Step, change, apply}
 use Rattle.wcv_lower.specs.Trees.{tree_reader, Tree_context, Tree_stack}
 use Rattle.wcv_lower.proofs.Given.{or_left, or_right, not_so}
 use Rattle.wcv_lower.proofs.Members.{member_cases, member_left, member_right, placed_firsts, unknown_firsts, defined_firsts, names_in, imported_own, defined_own, introduced_own, defines_own}
@@ -49,6 +49,7 @@ change_names (creates d is) = []
 change_names (core_appends k x) = []
 change_names (interns gs) = []
 change_names (charges k n) = []
+change_names (types_slots v) = []
 
 abbrev pub new_names : Step tree_reader → List Name
 new_names [] = []
@@ -71,6 +72,7 @@ change_cases (core_appends k x) s r o = inl o
 change_cases (interns gs) s r o = inl o
 change_cases (charges zero n) s r o = inl o
 change_cases (charges (suc k) n) s r o = inl o
+change_cases (types_slots v) s r o = inl o
 
 -- and none twice
 module _ (c : Tree_context) (a : IsOnce (own_resources c)) (ns : List Name) (b : IsOnce ns) (d : (r : Name) → IsOwn c r → member r ns ≡ true → ⊥) where
@@ -105,6 +107,7 @@ change_once (core_appends k x) s a b d = a
 change_once (interns gs) s a b d = a
 change_once (charges zero n) s a b d = a
 change_once (charges (suc k) n) s a b d = a
+change_once (types_slots v) s a b d = a
 
 pub applied_cases : (p : Step tree_reader) (s : Tree_stack) (r : Name) → IsOwn (apply p s).top r → IsOwn s.top r ⊎ (member r (new_names p) ≡ true)
 applied_cases [] s r o = inl o

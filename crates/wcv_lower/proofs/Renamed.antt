@@ -7,14 +7,14 @@ use Rattle.wcv_core.specs.Names.{Name, member}
 use Rattle.wcv_types.specs.Identity.{Identity, of_node, of_reference, identity_at, same_identity, rename_identity}
 use Rattle.wcv_types.specs.Named.{passes}
 use Rattle.wcv_types.specs.Positions.{is_there}
-use Rattle.wcv_types.specs.Rename.{rename, rename_parts, rename_head, rename_paths, EachName}
+use Rattle.wcv_types.specs.Rename.{rename, rename_parts, rename_head, rename_paths, no_identity, EachName}
 use Rattle.wcv_types.specs.Resources.{owned_by}
 use Rattle.wcv_types.specs.Tree as tree
 use Rattle.wcv_types.specs.Tree.{Text, Extern_name, Head, nothing, primitive, resource, defined, func, instance, component, type_entity, core_module, core_instance, core_type, core_item, Role, here, label, import, export, core_import, core_export, Sort, is_nothing, is_value, is_resource, is_func, is_instance, is_component, is_type, is_module, is_core_instance, is_core_type, is_core_item, node, Parts, none, part, sort, head, exports_in, firsts, type_of, resource_type, entries, core_imports, core_exports}
 use Rattle.wcv_types.proofs.Identity.{same_under, same_kept, identity-same}
 use Rattle.wcv_types.proofs.Measure.{size-rename, depth-rename}
 use Rattle.wcv_types.proofs.Named.{is_in-same, is_named-same, passes-same}
-use Rattle.wcv_types.proofs.Renaming.{each-always}
+use Rattle.wcv_types.proofs.Renaming.{each-always, rename-twice}
 use Rattle.wcv_types.specs.FirstPath.{first_path}
 use Rattle.wcv_types.specs.Resources.{is_free}
 use Rattle.wcv_types.specs.Unfold.{Type_tree}
@@ -268,4 +268,5 @@ module _ (w : Renaming) where
     primitive_of = primitive_of-renamed;
     contains = λ k t. contains-rename f g k t;
     abi_size = λ k t. abi_size-rename f g k t;
+    outline = λ t. rename-twice f no_identity g no_identity t;
   }

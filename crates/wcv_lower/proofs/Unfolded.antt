@@ -202,4 +202,5 @@ module _ (a : Arena) where
     primitive_of = λ x. refl;
     contains = λ k x. refl;
     abi_size = λ k x. refl;
+    outline = λ x. refl;
   }

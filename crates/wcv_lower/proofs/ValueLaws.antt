@@ -47,7 +47,7 @@ module _ {X Y : Reader} (m : Map X Y) {Known : X.Entry → Type 0} (law : Commut
   value_checks-mapped fs c w (Primitive p) = refl
   value_checks-mapped fs c w (Ty k) = sort_checks-mapped is_value c w k
 
-  option_checks-mapped : (fs : WasmFeatures) (c : Context X) → IsKnown Known c → (o : Option ComponentValType) → option_checks fs (map_context m c) o ≡ option_checks fs c o
+  pub option_checks-mapped : (fs : WasmFeatures) (c : Context X) → IsKnown Known c → (o : Option ComponentValType) → option_checks fs (map_context m c) o ≡ option_checks fs c o
   option_checks-mapped fs c w None = refl
   option_checks-mapped fs c w (Some v) = value_checks-mapped fs c w v
 

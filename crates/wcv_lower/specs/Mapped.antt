@@ -9,7 +9,7 @@ use Rattle.wcv_types.specs.Abi.{Mark}
 use Rattle.wcv_types.specs.Tree.{Text, Extern_name, Role}
 use Rattle.wcv_lower.specs.Context.{Context, Stack, Side, Space, Core_space}
 use Rattle.wcv_lower.specs.Readers.{Reader, Maker, Named, New_node, func_node, defined_node, module_node, core_instance_node, core_exports_node, instance_node, component_node, Brought, first_named}
-use Rattle.wcv_lower.specs.Step.{Change, appends, lists, introduces, defines, creates, core_appends, interns, charges, Step}
+use Rattle.wcv_lower.specs.Step.{Change, appends, lists, introduces, defines, creates, core_appends, interns, charges, types_slots, Step}
 use Rattle.wcv_lower.specs.Uses.{Uses}
 
 abbrev pub map_entries : {E F : Type 0} → (E → F) → List (Extern_name × E) → List (Extern_name × F)
@@ -62,6 +62,7 @@ pub record Commutes {X Y : Reader} (m : Map X Y) (Known : X.Entry → Type 0) : 
   pub primitive_of : (x : X.Entry) → Y.primitive_of (m.entry x) ≡ X.primitive_of x
   pub contains : (k : Mark) (x : X.Entry) → Y.contains k (m.entry x) ≡ X.contains k x
   pub abi_size : (k : ℕ) (x : X.Entry) → Y.abi_size k (m.entry x) ≡ X.abi_size k x
+  pub outline : (x : X.Entry) → Y.outline (m.entry x) ≡ X.outline x
 
 -- what stands in the context is known
 pub record IsKnown {X : Reader} (Known : X.Entry → Type 0) (c : Context X) : Type 0 where
@@ -84,6 +85,7 @@ module _ {X Y : Reader} (m : Map X Y) where
     size = c.size;
     depth = c.depth;
     aliased = c.aliased;
+    context_type = c.context_type;
   }
 
   abbrev pub map_stack : Stack X → Stack Y
@@ -98,6 +100,7 @@ module _ {X Y : Reader} (m : Map X Y) where
   map_change (core_appends k x) = core_appends k (m.entry x)
   map_change (interns gs) = interns gs
   map_change (charges k n) = charges k n
+  map_change (types_slots v) = types_slots v
 
   abbrev pub map_step : Step X → Step Y
   map_step p = map map_change p

@@ -9,6 +9,7 @@ use Rattle.wcv_syntax.specs.ModuleTypes.{Module_type, Core_import, Core_export}
 use Rattle.wcv_types.specs.Abi.{Mark}
 use Rattle.wcv_types.specs.Tree.{Text, Extern_name, Former, Role, Sort}
 use Rattle.wcv_lower.specs.Checks.{Checks, Weight, same_sort}
+use Rattle.wcv_lower.specs.Outlines.{Outline}
 use Rattle.wcv_lower.specs.Spaces.{Side}
 
 pub record Reader : Type 1 where
@@ -65,6 +66,8 @@ pub record Reader : Type 1 where
   pub contains : Mark → Entry → Bool
   -- its size in memory, where a pointer has so many bytes
   pub abi_size : ℕ → Entry → ℕ
+  -- the type without the names of resources and nodes
+  pub outline : Entry → Outline
 
 module _ (X : Reader) where
   abbrev pub Named : Type 0

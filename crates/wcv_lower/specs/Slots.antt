@@ -86,6 +86,7 @@ slot_reader a = record {
   primitive_of = λ x. tree_reader.primitive_of (slot_tree (trees a.nodes) x);
   contains = λ k x. tree_reader.contains k (slot_tree (trees a.nodes) x);
   abi_size = λ k x. tree_reader.abi_size k (slot_tree (trees a.nodes) x);
+  outline = λ x. tree_reader.outline (slot_tree (trees a.nodes) x);
 }
 
 -- the trees that the slots stand for

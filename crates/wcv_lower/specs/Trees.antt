@@ -25,6 +25,7 @@ use Rattle.wcv_lower.specs.Instantiated.{instantiated, instantiated_resources}
 use Rattle.wcv_lower.specs.Names.{Names, introduced}
 pub use Rattle.wcv_lower.specs.NewTypes.{type_entry}
 use Rattle.wcv_lower.specs.NewTypes.{renewed, new_reference, instance_tree, instance_resources}
+use Rattle.wcv_lower.specs.Outlines.{outline}
 use Rattle.wcv_lower.specs.Readers.{Reader, New_node, func_node, defined_node, module_node, core_instance_node, core_exports_node, instance_node, component_node, Maker}
 
 -- ## Of a type entity
@@ -154,6 +155,7 @@ tree_reader = record {
   primitive_of = primitive_of;
   contains = contains;
   abi_size = abi_size;
+  outline = λ t. outline t;
 }
 
 abbrev pub Tree_context : Type 0

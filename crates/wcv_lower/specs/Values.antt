@@ -10,14 +10,18 @@ use Rattle.wcv_syntax.specs.declared.component_type.ComponentValType.{ComponentV
 use Rattle.wcv_syntax.specs.declared.component_type.ComponentValType.TheVariants.{Primitive, Ty}
 use Rattle.wcv_types.specs.Tree.{Sort, is_value, is_resource, Role}
 use Rattle.wcv_lower.specs.Checks.{Checks, missing_of}
+pub use Rattle.wcv_flat.specs.Rows.{cm_async, cm_threading, cm_error_context}
 pub use Rattle.wcv_lower.specs.Context.{type_at}
 use Rattle.wcv_lower.specs.Context.{Context}
 use Rattle.wcv_lower.specs.Readers.{Reader, Made_parts, sort_of, if_sort}
 
 -- ## Features
 
-abbrev pub cm_async : ℕ
-cm_async = 256
+abbrev pub cm_async_stackful : ℕ
+cm_async_stackful = 512
+
+abbrev pub cm_more_async_builtins : ℕ
+cm_more_async_builtins = 1024
 
 abbrev pub cm64 : ℕ
 cm64 = 8192
@@ -27,9 +31,6 @@ cm_map = 32768
 
 abbrev pub cm_fixed_length_lists : ℕ
 cm_fixed_length_lists = 65536
-
-abbrev pub cm_error_context : ℕ
-cm_error_context = 131072
 
 -- ## Types by index
 
