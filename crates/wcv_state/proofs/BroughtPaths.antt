@@ -3,7 +3,7 @@ use Rattle.std.proofs.Common.{◌≡◌, ℕ, List, [], ◌∷◌, ◌++◌, map
 use Rattle.std.specs.Prelude.{Option, All, slice_get}
 use Rattle.std.proofs.lemmas.Bool.{eqb-true}
 use Rattle.std.proofs.lemmas.List.{map-append}
-use Rattle.std.proofs.lemmas.List.Elements.{All-append, All-map, All-take, All-weaker}
+use Rattle.std.proofs.lemmas.List.Elements.{All-nil, All-cons, All-append, All-map, All-take, All-weaker}
 use Rattle.wcv_core.specs.Names.{Name, number}
 use Rattle.wcv_core.specs.declared.core_types.ValType.{ValType}
 use Rattle.wcv_core.proofs.Names.{and_left}
@@ -25,7 +25,7 @@ use Rattle.wcv_types.proofs.Each.{map-push, length-mapped}
 use Rattle.wcv_lower.specs.Context.{placed, unknown}
 use Rattle.wcv_lower.specs.Owned.{IsLed}
 use Rattle.wcv_state.specs.Bringing.{Paths, LeadsWithin}
-use Rattle.wcv_state.specs.Contents.{Contents, Listed, context_of, defined_resource, LeadsToImport, StateStands}
+use Rattle.wcv_state.specs.Contents.{Contents, Listed, context_of, defined_resource, is_number, LeadsToImport, StateStands}
 use Rattle.wcv_state.specs.Looking.{introduced_by, introduced_id}
 use Rattle.wcv_state.specs.Promises.{IsPrefix}
 use Rattle.wcv_state.proofs.Keeping.{path_more, lead_more}
@@ -112,7 +112,12 @@ abbrev pub ImportsKept : Arena → Contents → Paths → Listed → Type 0
 ImportsKept a z rs es = IsPrefix z.imported_resources rs × All (λ (p : ResourceId × List ℕ). ResourceStands a p.0) rs × All (LeadsToImport a es) rs
 
 abbrev pub DefinedKept : Arena → Contents → List (ResourceId × Option ValType) → Type 0
-DefinedKept a z rs = IsPrefix z.defined_resources rs × All (λ (p : ResourceId × Option ValType). ResourceStands a p.0) rs
+DefinedKept a z rs = IsPrefix z.defined_resources rs × All (λ (p : ResourceId × Option ValType). ResourceStands a p.0) rs × All (λ (p : ResourceId × Option ValType). is_number p.1 ≡ true) rs
+
+-- what represents them is not known
+unknown_numbers : (new : Paths) → All (λ (p : ResourceId × Option ValType). is_number p.1 ≡ true) (unknown new)
+unknown_numbers [] = All-nil (λ (p : ResourceId × Option ValType). is_number p.1 ≡ true)
+unknown_numbers (r ∷ rs) = All-cons (λ (p : ResourceId × Option ValType). is_number p.1 ≡ true) (r.0, None) (unknown rs) refl (unknown_numbers rs)
 
 module _ (a : Arena) (z : Contents) (h : StateStands a z) (e : Text × ComponentItem) (new : Paths) (stand : All (λ (r : ResourceId × List ℕ). ResourceStands a r.0) new) where
   placed_stand : (k : ℕ) (new : Paths) → All (λ (r : ResourceId × List ℕ). ResourceStands a r.0) new → All (λ (r : ResourceId × List ℕ). ResourceStands a r.0) (placed k new)
@@ -142,6 +147,7 @@ module _ (a : Arena) (z : Contents) (h : StateStands a z) (e : Text × Component
     (unknown (take j new), q),
     subst (All (λ (p : ResourceId × Option ValType). ResourceStands a p.0)) (sym q)
         (All-append (λ (p : ResourceId × Option ValType). ResourceStands a p.0) z.defined_resources (unknown (take j new)) h.defined (unknown_stand (take j new) (All-take (λ (r : ResourceId × List ℕ). ResourceStands a r.0) j new stand))),
+    subst (All (λ (p : ResourceId × Option ValType). is_number p.1 ≡ true)) (sym q) (All-append (λ (p : ResourceId × Option ValType). is_number p.1 ≡ true) z.defined_resources (unknown (take j new)) h.numbers (unknown_numbers (take j new))),
   )
 
 -- all of a list

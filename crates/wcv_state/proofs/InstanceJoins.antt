@@ -43,7 +43,7 @@ pub instance_keeps : (a : Arena) (s z : Contents) (sp : SpaceLists) (ds : Define
 instance_keeps a s z sp ds b i new k e h st own rs spaces made =
     let s' : Contents = joined_state z sp ds b in
     keeps_entry a s z s' (instance_entry i) e h refl st (λ q. own) spaces (each_side _ (inl refl) (inl refl)) (λ kept. same_imported a z kept _ _ (instance_entry i) refl (inl refl))
-    (λ kept. brought_defined a z kept (instance_entry i) new rs ds k made) (λ kept d. (no_more (names z d), kept.named d)) (λ kept. same_sized (trees a.nodes) z s' refl (each_side _ refl refl) kept) refl refl
+    (λ kept. brought_defined a z kept (instance_entry i) new rs ds k made) (λ kept d. (no_more (names z d), kept.named d)) (λ kept. same_sized (trees a.nodes) z s' refl (each_side _ refl refl) kept) refl refl refl
 
 pub instance_joined : (a : Arena) (s z : Contents) (sp : SpaceLists) (m : NewInstance) (ds : Defined) (b : Bool) → z ≡ s → sp ≡ push_id in_instances m.ty z.spaces → ds ≡ z.defined_resources ++ unknown m.resources → (outer : List Tree_context) →
     stack_of a (joined_state z sp ds b) outer ≡ apply (instance_joins (brought_of a m)) (stack_of a s outer)

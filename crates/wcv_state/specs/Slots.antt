@@ -26,6 +26,7 @@ slots_of a s = record {
   size = s.info.size;
   depth = s.info.depth;
   aliased = 0;
+  context_type = s.context_type;
 }
 
 -- the states that are open, the innermost first, over the arena's table of core types

@@ -1,6 +1,9 @@
 // Types that are written beside exported items.
-ghost use Rattle.std.specs.Prelude.{◌≡◌, OnOk, IfErr};
-ghost use Rattle.wcv_types.specs.Entities.{EntityStands};
+ghost use Rattle.std.specs.Prelude.{◌≡◌, ◌<◌, OnOk, IfErr};
+ghost use Rattle.wcv_types.specs.Entities.{entity_tree, EntityStands};
+ghost use Rattle.wcv_types.specs.Unfold.{trees};
+ghost use Rattle.wcv_matching.specs.Refusals.{MemoryOrMismatch};
+ghost use Rattle.wcv_matching.specs.TableMatching.{TypeMatches};
 ghost use Rattle.wcv_lower.specs.Checks.{IsFree};
 ghost use Rattle.wcv_state.specs.Looking as looking;
 ghost use Rattle.wcv_state.specs.Looking.{ascribed_id_checks};
@@ -8,9 +11,11 @@ ghost use Rattle.wcv_state.specs.Promises.{MemoryOrCausedBy};
 
 use crate::instances::is_closed;
 use crate::resources::introduced;
+use std::marker::Brand;
+use std::sync::ledger::{Blank, Ledger};
 use wcv_core::{Error, ErrorKind, Why};
 use wcv_subtype::component_entity_type;
-use wcv_types::{ComponentEntityType, TypeAlloc};
+use wcv_types::{ComponentEntityType, Steps, TypeAlloc};
 
 /// Whether the entity brings resources of its own where it joins.
 fn brings_own(types: &TypeAlloc, ty: &ComponentEntityType) -> bool
@@ -21,6 +26,26 @@ fn brings_own(types: &TypeAlloc, ty: &ComponentEntityType) -> bool
         ComponentEntityType::Instance(id) => !is_closed(types, *id),
         _ => introduced(ty).is_some(),
     }
+}
+
+/// Whether the item has the type, with the steps counted.
+fn matches_by<L: Ledger>(
+    types: &TypeAlloc,
+    item: &ComponentEntityType,
+    ty: &ComponentEntityType,
+    offset: u64,
+    blank: Blank,
+) -> Result<(), Error>
+    requires item { EntityStands types.now item.now }
+    requires ty { EntityStands types.now ty.now }
+    requires name { blank.name ≡ L.name }
+    requires parts { blank.parts ≡ L.parts }
+    requires some { 0 < blank.parts }
+    ensures ok { OnOk result (TypeMatches types.now.core (entity_tree (trees types.now.nodes) item.now) (entity_tree (trees types.now.nodes) ty.now)) }
+    ensures err { IfErr result (MemoryOrMismatch offset (TypeMatches types.now.core (entity_tree (trees types.now.nodes) item.now) (entity_tree (trees types.now.nodes) ty.now))) }
+{
+    let mut steps: Steps<L> = Steps::new(blank);
+    component_entity_type(types, item, ty, offset, &mut steps)
 }
 
 /// Whether the item has the type that is written beside it, which may bring no resources of its own.
@@ -41,5 +66,5 @@ pub fn check_ascribed(
         let why = Why::new("no item has a type that brings resources of its own");
         return Err(Error::from(Error::new(ErrorKind::Mismatch, offset, why)));
     }
-    component_entity_type(types, item, ty, offset)
+    matches_by::<Brand>(types, item, ty, offset, Blank::new(1))
 }

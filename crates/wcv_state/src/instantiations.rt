@@ -63,27 +63,51 @@ fn made_under<L: Ledger>(
     component: ComponentTypeId,
     args: &EntityMap,
     map: &mut Remapping,
-    blank: Blank,
+    steps: &mut Steps<L>,
 ) -> Result<NewInstance, OutOfMemory>
     requires stands { Stands types.old (part.Component component) }
     requires args { All (ArgumentStands types.old) args.now }
     requires may { MayInstantiate (named_args types.old args.now) (tree_at types.old (part.Component component)) }
     requires opens { IsOpening types.old args.now component map.old }
-    requires name { blank.name ≡ L.name }
-    requires parts { blank.parts ≡ L.parts }
-    requires some { 0 < blank.parts }
     ensures ok { IfOk result (ComponentInstanceMade types.old types.new args.now component) }
     ensures grown { Extends types.old types.new }
 {
     let _ = args;
     types.names_given();
-    let mut steps: Steps<L> = Steps::new(blank);
-    let old = read_component(types, component, &mut steps)?;
+    let old = read_component(types, component, steps)?;
     let resources = replace_resources(types, &old.owned, map)?;
-    let exports = remapped_exports(types, &old.exports, map, &mut steps)?;
+    let exports = remapped_exports(types, &old.exports, map, steps)?;
     map.entries_differ();
     let ty = push_instance(types, exports)?;
     Ok(NewInstance { ty, resources })
+}
+
+/// An instance of the component, with the steps counted.
+fn made_by<L: Ledger>(
+    types: &mut TypeAlloc,
+    component: ComponentTypeId,
+    args: &EntityMap,
+    offset: u64,
+    blank: Blank,
+) -> Result<NewInstance, Error>
+    requires stands { Stands types.old (part.Component component) }
+    requires args { All (ArgumentStands types.old) args.now }
+    requires may { MayInstantiate (named_args types.old args.now) (tree_at types.old (part.Component component)) }
+    requires name { blank.name ≡ L.name }
+    requires parts { blank.parts ≡ L.parts }
+    requires some { 0 < blank.parts }
+    ensures opens { OnOk result ((s : Name → Name) × Opens types.old.core s (named_args types.old args.now) (tree_at types.old (part.Component component))) }
+    ensures ok { IfOk result (ComponentInstanceMade types.old types.new args.now component) }
+    ensures err { IfErr result (MemoryOrMismatch offset ((s : Name → Name) × Opens types.old.core s (named_args types.old args.now) (tree_at types.old (part.Component component)))) }
+    ensures grown { Extends types.old types.new }
+{
+    let mut steps: Steps<L> = Steps::new(blank);
+    let mut map = match open_instance_type(types, args, component, offset, &mut steps) {
+        Ok(map) => map,
+        Err(error) => return Err(error),
+    };
+    let made = made_under(types, component, args, &mut map, &mut steps)?;
+    Ok(made)
 }
 
 /// An instance of a component: its imports are opened by the arguments, what it defines becomes new, what mentions one of these
@@ -103,12 +127,7 @@ pub fn instance_of_component(
     ensures err { IfErr result (MemoryOrMismatch offset ((s : Name → Name) × Opens types.old.core s (named_args types.old args.now) (tree_at types.old (part.Component component)))) }
     ensures grown { Extends types.old types.new }
 {
-    let mut map = match open_instance_type(types, args, component, offset) {
-        Ok(map) => map,
-        Err(error) => return Err(error),
-    };
-    let made = made_under::<Brand>(types, component, args, &mut map, Blank::new(1))?;
-    Ok(made)
+    made_by::<Brand>(types, component, args, offset, Blank::new(1))
 }
 
 impl ComponentState {

@@ -1,4 +1,4 @@
 use Rattle.wcv_state.proofs.instantiations.instance_of_component.Given as goal
 
-abbrev pub ghosts-made_under : goal.ghosts-made_under
-ghosts-made_under a = record { name = a.blank.name; parts = a.blank.parts }
+abbrev pub ghosts-made_by : goal.ghosts-made_by
+ghosts-made_by a = record { name = a.blank.name; parts = a.blank.parts }
