@@ -2,10 +2,13 @@
 use Rattle.std.proofs.Common.{◌≡◌, ◌+◌, List, [], ◌∷◌, refl, sym, ◌∙◌, ap, subst, arith, append-nil, Bool, true, false, cond, Some, None}
 use Rattle.std.specs.Prelude.{Option}
 use Rattle.std.specs.Option.{option_map}
+use Rattle.std.proofs.lemmas.Bool.{false≢true}
 use Rattle.std.proofs.lemmas.List.{map-append}
 use Rattle.std.proofs.lemmas.List.Elements.{All-push}
 use Rattle.wcv_core.specs.Names.{Place, number, stamp}
 use Rattle.wcv_core.specs.declared.core_types.ValType.{ValType}
+use Rattle.wcv_core.specs.declared.core_types.ValType.TheVariants as val
+use Rattle.wcv_core.specs.declared.features.WasmFeatures.{WasmFeatures}
 use Rattle.wcv_syntax.specs.Model.{resource_type}
 use Rattle.wcv_types.specs.Arena.{Arena}
 use Rattle.wcv_types.specs.ComponentTrees.{ResourceStands}
@@ -16,12 +19,14 @@ use Rattle.wcv_types.specs.declared.ids.ComponentAnyTypeId.TheVariants as any
 use Rattle.wcv_types.specs.declared.ids.Part.TheVariants as part
 use Rattle.wcv_types.specs.declared.ids.ResourceId.{ResourceId}
 use Rattle.wcv_types.proofs.Grown.{extends_refl}
+use Rattle.wcv_lower.specs.Checks.{IsFree}
 use Rattle.wcv_lower.specs.Context.{is_concrete, in_types, push, define}
 use Rattle.wcv_lower.specs.Given.{names_of}
 use Rattle.wcv_lower.specs.Readers.{Maker}
 use Rattle.wcv_lower.specs.Step.{Step, apply, joins_types, defines}
 use Rattle.wcv_lower.specs.Trees.{type_entry, Tree_context, tree_reader, tree_maker}
-use Rattle.wcv_state.specs.Contents.{Contents, kind_of, context_of, stack_of, defined_resource, with_defined, with_id, spent, names, sides, StateStands}
+use Rattle.wcv_lower.specs.Types.{rep_checks}
+use Rattle.wcv_state.specs.Contents.{Contents, kind_of, context_of, stack_of, defined_resource, with_defined, with_id, spent, names, sides, is_number, StateStands}
 use Rattle.wcv_state.specs.Looking.{has_resource}
 use Rattle.wcv_state.specs.Promises.{Keeps}
 use Rattle.wcv_state.proofs.Given.{resource_names, resource_given, resource_name, reference_same}
@@ -29,8 +34,17 @@ use Rattle.wcv_state.proofs.Keeping.{no_more, entries_refl, state_stands, same_c
 use Rattle.wcv_state.proofs.Listed.{later_is_new}
 use Rattle.wcv_decls.specs.Items.{Declares}
 
-keeps_defined : (a : Arena) (r : ResourceId) (v : Option ValType) (s : Contents) → StateStands a s → ResourceStands a r → Keeps a a s (with_defined r v s)
-keeps_defined a r v s h k = record {
+-- a representation that may be written is a number
+pub rep_is_number : (fs : WasmFeatures) (rep : ValType) → IsFree (rep_checks fs rep) → is_number (Some rep) ≡ true
+rep_is_number fs val.I32 h = refl
+rep_is_number fs val.I64 h = refl
+rep_is_number fs val.F32 h = absurd (false≢true (sym h.0))
+rep_is_number fs val.F64 h = absurd (false≢true (sym h.0))
+rep_is_number fs val.V128 h = absurd (false≢true (sym h.0))
+rep_is_number fs (val.Ref r) h = absurd (false≢true (sym h.0))
+
+keeps_defined : (a : Arena) (r : ResourceId) (v : Option ValType) (s : Contents) → is_number v ≡ true → StateStands a s → ResourceStands a r → Keeps a a s (with_defined r v s)
+keeps_defined a r v s n h k = record {
   arena = extends_refl a;
   stands = record {
     space = h.space;
@@ -39,6 +53,7 @@ keeps_defined a r v s h k = record {
     side = h.side;
     imported = h.imported;
     defined = All-push (λ (p : ResourceId × Option ValType). ResourceStands a p.0) s.defined_resources (r, v) h.defined k;
+    numbers = All-push (λ (p : ResourceId × Option ValType). is_number p.1 ≡ true) s.defined_resources (r, v) h.numbers n;
     named = h.named;
     lead = h.lead;
     sized = record { size = h.sized.size; depth = h.sized.depth };
@@ -50,6 +65,7 @@ keeps_defined a r v s h k = record {
   named = λ d. no_more (names s d);
   kind = refl;
   features = refl;
+  context_type = λ w e. e;
 }
 
 defined_context : (a : Arena) (r : ResourceId) (v : Option ValType) (s : Contents) → context_of a (with_defined r v s) ≡ define (number r.index) v (context_of a s)
@@ -81,13 +97,13 @@ module _ (a b : Arena) (s : Contents) (id : AliasableResourceId) (h : StateStand
   stands_there : Stands b (part.Resource id)
   stands_there = subst (λ (i : AliasableResourceId). Stands b (part.Resource i)) (sym is) (record { resource = omega (arith, more); stamp = omega (arith, stamps) })
 
-  pub defined_keeps : (v : Option ValType) → Keeps a b s (with_defined id.resource v s)
-  defined_keeps v = keeps_trans a b b s s (with_defined id.resource v s) made_keeps (keeps_defined b id.resource v s made_stands stands_there.resource)
+  pub defined_keeps : (v : Option ValType) → is_number v ≡ true → Keeps a b s (with_defined id.resource v s)
+  defined_keeps v n = keeps_trans a b b s s (with_defined id.resource v s) made_keeps (keeps_defined b id.resource v s n made_stands stands_there.resource)
 
-  pub pushed_keeps : (v : Option ValType) → Keeps a b s (with_id in_types (any.Resource id) (with_defined id.resource v s))
-  pushed_keeps v =
+  pub pushed_keeps : (v : Option ValType) → is_number v ≡ true → Keeps a b s (with_id in_types (any.Resource id) (with_defined id.resource v s))
+  pushed_keeps v n =
       let t : Contents = with_defined id.resource v s in
-      let k : Keeps a b s t = defined_keeps v in
+      let k : Keeps a b s t = defined_keeps v n in
       keeps_trans a b b s t (with_id in_types (any.Resource id) t) k (keeps_with_id b in_types (any.Resource id) t k.stands (stands_there, stands_there) tt)
 
   pub spent_keeps : (t : Contents) → Keeps a b s t → Keeps a b s (spent t)
@@ -112,13 +128,13 @@ module _ (a b : Arena) (s : Contents) (id : AliasableResourceId) (h : StateStand
       (λ j. push in_types (type_entry (reference_same a p j)) (define (resource_name a p j) (Some rep) (context_of a s))) ∙ sym (resource_context rep) in
       λ j. record { top = e j; outer = outer; groups = sym (ap (λ (x : Arena). x.core) eb) j }
 
-  pub resource_declares : (rep : ValType) (dtor : Option _) (s' : Contents) → is_concrete (kind_of s.kind) ≡ true → s.spent ≡ false → s' ≡ with_resource rep → Declares a b s s' (resource_type rep dtor)
-  resource_declares rep dtor s' concrete live es = subst (λ (z : Contents). Declares a b s z (resource_type rep dtor)) (sym es) (record {
+  pub resource_declares : (rep : ValType) (dtor : Option _) (s' : Contents) → is_concrete (kind_of s.kind) ≡ true → s.spent ≡ false → is_number (Some rep) ≡ true → s' ≡ with_resource rep → Declares a b s s' (resource_type rep dtor)
+  resource_declares rep dtor s' concrete live n es = subst (λ (z : Contents). Declares a b s z (resource_type rep dtor)) (sym es) (record {
     given_names = resource_names a;
     given = λ p. resource_given a b p more stamps;
     grown = λ outer p.
         ap (λ (x : Bool). option_map (λ (y : Step tree_reader). apply y (stack_of a s outer)) (cond x (Some (defines (maker_at p).resource (Some rep) ∷ joins_types (maker_at p).reference)) None)) concrete ∙
         ap Some (resource_grows rep outer p);
     live = live;
-    keeps = pushed_keeps (Some rep);
+    keeps = pushed_keeps (Some rep) n;
   })

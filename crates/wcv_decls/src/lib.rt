@@ -3,6 +3,7 @@
 
 mod add;
 mod alike;
+mod canon_limits;
 mod close;
 mod content;
 mod core_limits;
@@ -31,6 +32,7 @@ mod stack;
 mod store;
 mod values;
 
+pub use canon_limits::check_canon_limits;
 pub use core_limits::{
     check_alias_limits, check_core_limits, check_core_module_limits, check_instance_limits,
 };

@@ -12,7 +12,7 @@ use Rattle.wcv_state.specs.declared.kind.ComponentKind.{ComponentKind}
 use Rattle.wcv_state.specs.Contents.{Contents, kind_of, with_id, with_defined, spent}
 use Rattle.wcv_state.specs.Promises.{MemoryOrCausedBy, Keeps}
 use Rattle.wcv_decls.proofs.Destructors.{resource_free, scope_caused, rep_caused, dtor_caused}
-use Rattle.wcv_decls.proofs.Defining.{is_new_import, is_new_definition, made_keeps, defined_keeps, spent_keeps, resource_declares}
+use Rattle.wcv_decls.proofs.Defining.{rep_is_number, is_new_import, is_new_definition, made_keeps, defined_keeps, spent_keeps, resource_declares}
 use Rattle.wcv_decls.proofs.resource.add_resource.Goals as goal
 
 pub define_resource-requires-clause-imported : goal.define_resource-requires-clause-imported
@@ -30,12 +30,12 @@ pub returns-in_err-push_type-clause-keeps : goal.returns-in_err-push_type-clause
 returns-in_err-push_type-clause-keeps c =
     let t : Contents = with_defined c.in_ok-id.id.resource (Some c.args.rep) c.args.state.now in
     let p = err_from_is_err_and c.from_residual-in_err-push_type.result c.from_residual-in_err-push_type.ensures.1 in
-    rw p.1 (subst (Keeps c.args.types.now c.alloc_resource_id.new.self c.args.state.now) (sym (c.in_err-push_type.ensures.err ∙ ap spent c.in_ok-define_resource.ensures.ok)) (spent_keeps c.args.types.now c.alloc_resource_id.new.self c.args.state.now c.in_ok-id.id c.requires.stands c.in_ok-id.ensures.made c.in_ok-id.ensures.last t (defined_keeps c.args.types.now c.alloc_resource_id.new.self c.args.state.now c.in_ok-id.id c.requires.stands c.in_ok-id.ensures.made c.in_ok-id.ensures.last (Some c.args.rep))))
+    rw p.1 (subst (Keeps c.args.types.now c.alloc_resource_id.new.self c.args.state.now) (sym (c.in_err-push_type.ensures.err ∙ ap spent c.in_ok-define_resource.ensures.ok)) (spent_keeps c.args.types.now c.alloc_resource_id.new.self c.args.state.now c.in_ok-id.id c.requires.stands c.in_ok-id.ensures.made c.in_ok-id.ensures.last t (defined_keeps c.args.types.now c.alloc_resource_id.new.self c.args.state.now c.in_ok-id.id c.requires.stands c.in_ok-id.ensures.made c.in_ok-id.ensures.last (Some c.args.rep) (rep_is_number _ c.args.rep c.in_ok-check_rep.ensures.ok))))
 
 pub returns-clause-ok : goal.returns-clause-ok
 returns-clause-ok c =
     let free : not (is_concrete (kind_of c.args.state.now.kind)) ≡ false = subst (λ (k : ComponentKind). not (is_concrete (kind_of k)) ≡ false) c.kind.ensures c.in_ok-check_scope.ensures.ok.0 in
-    resource_declares c.args.types.now c.alloc_resource_id.new.self c.args.state.now c.in_ok-id.id c.requires.stands c.in_ok-id.ensures.made c.in_ok-id.ensures.last c.args.rep c.args.dtor c.push_type.new.self (not-false (is_concrete (kind_of c.args.state.now.kind)) free) c.requires.live
+    resource_declares c.args.types.now c.alloc_resource_id.new.self c.args.state.now c.in_ok-id.id c.requires.stands c.in_ok-id.ensures.made c.in_ok-id.ensures.last c.args.rep c.args.dtor c.push_type.new.self (not-false (is_concrete (kind_of c.args.state.now.kind)) free) c.requires.live (rep_is_number _ c.args.rep c.in_ok-check_rep.ensures.ok)
     (c.in_ok-push_type.ensures.ok ∙ ap (with_id in_types (any.Resource c.in_ok-id.id)) c.in_ok-define_resource.ensures.ok)
 
 pub returns-in_err-check_scope-clause-err : goal.returns-in_err-check_scope-clause-err
