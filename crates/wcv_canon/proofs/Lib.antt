@@ -1,0 +1,15 @@
+mod Carriers
+mod CoreJoined
+mod EarlyChecks
+mod Found
+mod FoundFacts
+mod KnownFacts
+mod LiftChecks
+mod Names
+mod OptionLists
+mod OptionRules
+mod PlainForms
+mod Refusals
+mod RowForms
+mod Rows
+mod Slots

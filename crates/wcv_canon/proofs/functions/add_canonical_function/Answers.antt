@@ -1,0 +1,13 @@
+use Rattle.std.proofs.Common.{ap}
+use Rattle.wcv_syntax.specs.View.{canon_view}
+use Rattle.wcv_state.specs.Contents.{Contents}
+use Rattle.wcv_canon.proofs.Refusals.{canon_refused, marked_keeps}
+use Rattle.wcv_canon.proofs.functions.add_canonical_function.Goals as goal
+
+pub returns-clause-err : goal.returns-clause-err
+returns-clause-err c =
+    canon_refused c.args.types.now c.join_canonical_function.new.types c.args.state.now c.mark_spent.new.self (canon_view c.args.func) c.args.offset c.in-Err.error (ap (λ (z : Contents). z.spent) c.mark_spent.ensures) c.in-Err.ensures.err
+
+pub returns-clause-keeps : goal.returns-clause-keeps
+returns-clause-keeps c =
+    marked_keeps c.args.types.now c.join_canonical_function.new.types c.args.state.now c.join_canonical_function.new.state c.mark_spent.new.self c.join_canonical_function.ensures.keeps c.mark_spent.ensures
