@@ -51,7 +51,7 @@ sub-closed : (P : Name → Type 0) (i : ℕ) → Within P (sub_type i)
 sub-closed P i r (inl x) = absurd x
 sub-closed P i r (inr x) = absurd x.1
 
-item-closed : (P : Name → Type 0) (e : EntityType) → Within P (node (core_item e) none)
+pub item-closed : (P : Name → Type 0) (e : EntityType) → Within P (node (core_item e) none)
 item-closed P e r (inl x) = absurd x
 item-closed P e r (inr x) = absurd x.1
 

@@ -20,6 +20,7 @@ use Rattle.wcv_lower.proofs.Bringing.{AllBring, BroughtOf, of_some, enters_bring
 use Rattle.wcv_lower.proofs.ItemsBring.{items_bring_given}
 use Rattle.wcv_lower.proofs.Owning.{owns_not_inherited, owns_not_given}
 use Rattle.wcv_link.proofs.Bare.{AreBare}
+use Rattle.wcv_link.proofs.CanonGrowing.{canon-does}
 use Rattle.wcv_link.proofs.CoreGrowing.{core_type-does, core_module-does, core_instance-does, core_alias-does}
 use Rattle.wcv_link.proofs.Entering.{written-does, exported-does}
 use Rattle.wcv_link.proofs.Growing.{Ready, Grows, Does, does-grow, type-does}
@@ -59,7 +60,7 @@ module _ (p : Place) (s : Tree_stack) (h : Ready p s.top) where
   step-does fs (alias_item (alias.InstanceExport k i n)) x may b e = cc
   step-does fs (alias_item (alias.Outer k n i)) x may b e = cc
   step-does fs (start_item k args results) x may b e = cc
-  step-does fs (canon_item k) x may b e = cc
+  step-does fs (canon_item f) x may b e = canon-does p s h f x e
   step-does fs unread x may b e = cc
 
   -- what no entry owns, none owns behind it

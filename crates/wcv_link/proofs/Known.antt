@@ -13,7 +13,7 @@ use Rattle.wcv_lower.specs.Context.{in_types, in_funcs, in_values, in_instances,
 use Rattle.wcv_lower.specs.Mapped.{map_context}
 use Rattle.wcv_lower.specs.Owned.{AllEntries}
 use Rattle.wcv_lower.specs.Renamed.{Renaming, renaming}
-use Rattle.wcv_lower.specs.Step.{Change, appends, lists, introduces, defines, creates, core_appends, interns, charges, Step, change, apply, joins, enters, Brought}
+use Rattle.wcv_lower.specs.Step.{Change, appends, lists, introduces, defines, creates, core_appends, interns, charges, types_slots, Step, change, apply, joins, enters, Brought}
 use Rattle.wcv_lower.specs.Trees.{Type_tree, Tree_context, Tree_stack, tree_reader, created, referenced}
 use Rattle.wcv_lower.proofs.Bringing.{Brings, AllBring, brings_one, brings_more}
 use Rattle.wcv_link.proofs.Having.{Has, has-left, has-renamed_back}
@@ -122,6 +122,7 @@ module _ (E : Type_tree → Type 0) where
   change-has (interns gs) s f h = h
   change-has (charges zero n) s f h = record { space = h.space; core = h.core; side = h.side }
   change-has (charges (suc k) n) s f h = h
+  change-has (types_slots v) s f h = record { space = h.space; core = h.core; side = h.side }
 
   -- the entries of the top behind a step
   pub apply-has : (p : Step tree_reader) (s : Tree_stack) → AllBring E Any p → AllEntries E s.top → AllEntries E (apply p s).top
@@ -166,6 +167,7 @@ in-change (core_appends k t) s r h = h
 in-change (interns gs) s r h = h
 in-change (charges zero n) s r h = h
 in-change (charges (suc k) n) s r h = h
+in-change (types_slots v) s r h = h
 
 pub in-apply : (p : Step tree_reader) (s : Tree_stack) (r : Name) → In s.top r → In (apply p s).top r
 in-apply [] s r h = h

@@ -1,39 +1,42 @@
--- What core items bring to a context is tidy.
+-- What core items and canonical functions bring to a context is tidy.
 use Rattle.std.proofs.Common.{◌≡◌, ℕ, suc, List, [], ◌∷◌, Bool, true, false, not, cond, refl, subst, Some, None}
 use Rattle.std.specs.Prelude.{Option}
 use Rattle.std.specs.Option.{option_map, option_and_then}
 use Rattle.std.specs.List.{list_all}
 use Rattle.std.proofs.lemmas.List.Elements.{All-nil}
 use Rattle.wcv_core.specs.CoreForm.{Group}
-use Rattle.wcv_core.specs.CoreJoining.{group_ids, grown}
+use Rattle.wcv_core.specs.CoreJoining.{first_id, group_ids, grown}
 use Rattle.wcv_core.specs.CoreWritten.{closed_group}
 use Rattle.wcv_core.specs.Names.{Place, base}
 use Rattle.wcv_core.specs.declared.core_types.EntityType.{EntityType}
+use Rattle.wcv_core.specs.declared.core_types.EntityType.TheVariants as entity
 use Rattle.wcv_core.specs.declared.features.WasmFeatures.{WasmFeatures}
-use Rattle.wcv_syntax.specs.Model.{Core_type_form, core_rec, core_module_type, Module_decl, Core_instance_form, core_instantiate, core_bag}
+use Rattle.wcv_syntax.specs.Model.{Core_type_form, core_rec, core_module_type, Module_decl, Core_instance_form, core_instantiate, core_bag, Canon_form}
 use Rattle.wcv_syntax.specs.declared.core_section.Export.{Export}
 use Rattle.wcv_syntax.specs.declared.core_section.ExternalKind.{ExternalKind}
 use Rattle.wcv_syntax.specs.declared.core_section.InstantiationArg.{InstantiationArg}
 use Rattle.wcv_syntax.specs.ModuleTypes.{Made}
 use Rattle.wcv_types.specs.Measure.{size}
-use Rattle.wcv_types.specs.Tree.{Text, here, core_import, core_export, core_imports, core_exports, core_module, core_instance, core_type, core_item, sub_type, node, none, part}
+use Rattle.wcv_types.specs.Tree.{Text, is_func, here, core_import, core_export, core_imports, core_exports, core_module, core_instance, core_type, core_item, sub_type, node, none, part}
 use Rattle.wcv_types.specs.Unfold.{capped}
 use Rattle.wcv_types.proofs.Lists.{some-inj}
+use Rattle.wcv_lower.specs.Canons.{func_joins, canon_step}
 use Rattle.wcv_lower.specs.Checks.{is_none}
-use Rattle.wcv_lower.specs.Context.{Core_space, core_types, core_modules, core_instances}
+use Rattle.wcv_lower.specs.Context.{in_funcs, Core_space, core_types, core_funcs, core_modules, core_instances}
 use Rattle.wcv_lower.specs.CoreInstances.{space_of, core_module_at, core_instance_at, item_listed, items_listed, listed_size, core_instance_made, instance_joins, core_instance_step, core_export_of, if_of, item_joins, core_alias_step}
 use Rattle.wcv_lower.specs.CoreItems.{core_entries, is_closable, types_join, closed_step, module_joins, core_type_made, core_module_made, core_type_step, core_module_step}
 use Rattle.wcv_lower.specs.Names.{names_by_place}
 use Rattle.wcv_lower.specs.Owned.{AllEntries}
 use Rattle.wcv_lower.specs.Readers.{New_node, core_instance_node, core_exports_node}
-use Rattle.wcv_lower.specs.Step.{core_appends, interns, Step}
+use Rattle.wcv_lower.specs.Step.{appends, core_appends, interns, types_slots, Step}
 use Rattle.wcv_lower.specs.Trees.{Type_tree, Tree_stack, tree_reader, tree_maker, module_tree, node_tree}
 use Rattle.wcv_lower.proofs.Bringing.{Brings, AllBring, brings_one, brings_more}
 use Rattle.wcv_link.proofs.Bare.{OwnsNothing}
+use Rattle.wcv_link.proofs.CanonGrowing.{canon-holds}
 use Rattle.wcv_link.proofs.CoreGrowing.{if-some}
 use Rattle.wcv_link.proofs.Known.{mapped-some, all-get, Any}
 use Rattle.wcv_link.proofs.Tidy.{Known, TidyType, TidyEntry, NoneAt, BringsTidy, brings-known}
-use Rattle.wcv_link.proofs.TidyTypes.{AreTidy, leaf-tidy, one-more, with_node, knows-node, node-tidy, NodeTidy}
+use Rattle.wcv_link.proofs.TidyTypes.{AreTidy, leaf-tidy, one-more, with_node, knows-node, node-tidy, NodeTidy, plain-tidy}
 
 module _ (g : Known) where
   -- core items
@@ -119,3 +122,16 @@ module _ (p : Place) (s : Tree_stack) (g : Known) (y : AllEntries (TidyEntry g) 
   core_alias-tidy k i n x e =
       let m = mapped-some (item_joins tree_reader k) (option_and_then (if_of k) (option_and_then (core_export_of tree_reader n) (core_instance_at s.top i))) x e in
       subst (BringsTidy p g) m.2 (brings-known p g (item_joins tree_reader k m.0) (brings_one (TidyEntry g) Any (core_appends (space_of k) (tree_reader.core_item m.0)) (item-tidy g m.0)))
+
+  -- ## Canonical functions
+
+  core-brings : (c : Group) → AllBring (TidyEntry g) Any (func_joins tree_reader s.groups c)
+  core-brings c =
+      let e : EntityType = entity.Func (record { index = first_id s.groups c }) in
+      brings_more (TidyEntry g) Any (interns (grown s.groups c)) (core_appends core_funcs (tree_reader.core_item e) ∷ []) tt (brings_one (TidyEntry g) Any (core_appends core_funcs (tree_reader.core_item e)) (item-tidy g e))
+
+  pub canon-tidy : (f : Canon_form) (x : Step tree_reader) → canon_step s f ≡ Some x → BringsTidy p g x
+  canon-tidy f x e =
+      brings-known p g x
+      (canon-holds s (AllBring (TidyEntry g) Any) (λ v z w. brings_more (TidyEntry g) Any (types_slots v) z tt w) core-brings
+      (λ k t q. brings_one (TidyEntry g) Any (appends in_funcs t) (plain-tidy g s.top y is_func k t refl q)) f x e)

@@ -22,7 +22,7 @@ use Rattle.wcv_lower.proofs.Bringing.{brings_one, brings_more}
 use Rattle.wcv_link.proofs.Growing.{Ready}
 use Rattle.wcv_link.proofs.Known.{mapped-some, Any}
 use Rattle.wcv_link.proofs.Tidy.{Known, TidyEntry, NoneKnown, NoneAt, none-at, BringsTidy, brings-known, TidyBehind, apply-tidy}
-use Rattle.wcv_link.proofs.TidyCore.{core_type-tidy, core_module-tidy, core_instance-tidy, core_alias-tidy}
+use Rattle.wcv_link.proofs.TidyCore.{core_type-tidy, core_module-tidy, core_instance-tidy, core_alias-tidy, canon-tidy}
 use Rattle.wcv_link.proofs.TidyEntering.{enters-tidy, written-tidy, exported-tidy}
 use Rattle.wcv_link.proofs.TidyInstances.{instance-tidy}
 use Rattle.wcv_link.proofs.TidyTypes.{with_node, knows-node, NodeTidy, entry-tidy, reference-tidy, made-tidy}
@@ -72,7 +72,7 @@ module _ (p : Place) (s : Tree_stack) (h : Ready p s.top) (g : Known) (y : AllEn
   step-tidy fs (alias_item (alias.InstanceExport k i n)) x e = cc
   step-tidy fs (alias_item (alias.Outer k n i)) x e = cc
   step-tidy fs (start_item k args results) x e = cc
-  step-tidy fs (canon_item k) x e = cc
+  step-tidy fs (canon_item f) x e = canon-tidy p s g y (none-at p g unknown) f x e
   step-tidy fs unread x e = cc
 
   pub grow-tidy : (fs : WasmFeatures) (f : Form) (u : Tree_stack) → grow fs (tree_maker names_by_place p) s f ≡ Some u → TidyBehind p g u.top

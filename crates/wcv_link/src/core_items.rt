@@ -1,22 +1,24 @@
-// Reading core types, core modules, instances, core instances and aliases.
+// Reading core types, core modules, instances, core instances, canonical functions and aliases.
 ghost use Rattle.std.specs.Prelude.{map, OnOk, IfErr};
-ghost use Rattle.wcv_syntax.specs.Model.{core_type_item, core_module_item, core_instance_item, instance_item, alias_item};
-ghost use Rattle.wcv_syntax.specs.View.{core_type_view, code_decl_view, core_instance_view, instance_view};
+ghost use Rattle.wcv_syntax.specs.Model.{core_type_item, core_module_item, core_instance_item, instance_item, canon_item, alias_item};
+ghost use Rattle.wcv_syntax.specs.View.{core_type_view, code_decl_view, core_instance_view, instance_view, canon_view};
 ghost use Rattle.wcv_state.specs.Promises.{Keeps};
 ghost use Rattle.wcv_decls.specs.Stack.{IsOpen};
 ghost use Rattle.wcv_link.specs.Instances.{AllMayInstantiate};
 ghost use Rattle.wcv_link.specs.Progress.{IsReady, TakesItem, LeavesItem, AcceptsItem, RefusesItem};
 
 use crate::instantiate::Instantiate;
+use wcv_canon::Canon;
 use wcv_core::Error;
 use wcv_decls::{
-    Declare, add_core_module_to, check_alias_limits, check_component_instance_limits,
-    check_core_limits, check_core_module_limits, check_instance_limits,
+    Declare, add_core_module_to, check_alias_limits, check_canon_limits,
+    check_component_instance_limits, check_core_limits, check_core_module_limits,
+    check_instance_limits,
 };
 use wcv_state::{ComponentState, check_form};
 use wcv_syntax::{
-    AliasForm, ComponentAlias, ComponentInstance, CoreType, Instance, InstanceForm, ModuleDecl,
-    is_built_alias, is_built_instance,
+    AliasForm, CanonicalFunction, ComponentAlias, ComponentInstance, CoreType, Instance,
+    InstanceForm, ModuleDecl, is_built_alias, is_built_instance,
 };
 use wcv_types::TypeAlloc;
 
@@ -87,6 +89,22 @@ pub fn read_instance(
     )?;
     check_component_instance_limits(&instance, offset)?;
     state.add_instance(instance, types, offset)
+}
+
+/// Reads a canonical function.
+pub fn read_canon(
+    func: CanonicalFunction,
+    state: &mut ComponentState,
+    types: &mut TypeAlloc,
+    offset: u64,
+) -> Result<(), Error>
+    requires { IsOpen types.old state.old }
+    ensures ok { OnOk result (TakesItem types.old types.new state.old state.new (canon_item (canon_view func))) }
+    ensures err { IfErr result (LeavesItem types.old types.new state.old (canon_item (canon_view func)) offset) }
+    ensures keeps { Keeps types.old types.new state.old state.new }
+{
+    check_canon_limits(&func, offset)?;
+    state.canonical_function(func, types, offset)
 }
 
 /// Reads an alias into the innermost state.
