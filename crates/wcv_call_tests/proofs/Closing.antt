@@ -1,14 +1,13 @@
--- Groups of one function type that takes and gives nothing are in closed form.
+-- A function type that takes and gives nothing is in closed form.
 use Rattle.std.proofs.Common.{◌≡◌, ℕ, ◌<◌, refl, sym, subst, arith}
-use Rattle.std.specs.Prelude.{List, [], ◌∷◌, ◌++◌, map, Option, None, IfSome, All, true, false}
+use Rattle.std.specs.Prelude.{[], ◌++◌, Option, None, All, true, false}
 use Rattle.std.proofs.lemmas.List.Elements.{All-nil, All-cons}
-use Rattle.wcv_core.specs.CoreForm.{CompositeForm, SubForm, func_form, composite_form, sub_form}
-use Rattle.wcv_core.specs.CoreGroups.{IsClosed, IsValWithin, IsFormWithin, parent_id, parent_in}
+use Rattle.wcv_core.specs.CoreForm.{CompositeForm, SubForm, func_form}
+use Rattle.wcv_core.specs.CoreGroups.{IsClosed, IsValWithin, IsFormWithin}
 use Rattle.wcv_core.specs.CoreIds.{composite_ids, super_ids}
 use Rattle.wcv_core.specs.declared.core_types.FuncType.{FuncType}
-use Rattle.wcv_core.specs.declared.core_types.SubType.{SubType}
 use Rattle.wcv_core.specs.declared.core_types.SuperType.{SuperType}
-use Rattle.wcv_types.specs.CoreCalls.{func_group, sole_group}
+use Rattle.wcv_types.specs.CoreCalls.{func_group}
 
 empty_within : (n : ℕ) → IsFormWithin n 1 (func_form [] [])
 empty_within n = (All-nil (IsValWithin n 1), All-nil (IsValWithin n 1))
@@ -16,22 +15,8 @@ empty_within n = (All-nil (IsValWithin n 1), All-nil (IsValWithin n 1))
 form_within : (n : ℕ) (f : CompositeForm) → f ≡ func_form [] [] → IsFormWithin n 1 f
 form_within n f e = subst (IsFormWithin n 1) (sym e) (empty_within n)
 
-no_parent : (n : ℕ) (s : SubType) → s.supertype ≡ None → IfSome (parent_in n (sub_form s)) (λ (p : ℕ). p < n)
-no_parent n s e = subst (λ (o : Option SuperType). IfSome (parent_id n o) (λ (p : ℕ). p < n)) (sym e) tt
-
 none_named : (n : ℕ) (o : Option SuperType) (f : CompositeForm) → o ≡ None → f ≡ func_form [] [] → All (λ (i : ℕ). i < n) ((super_ids o ++ composite_ids f) ++ [])
 none_named n o f e q = subst (All (λ (i : ℕ). i < n)) (λ j. (super_ids (sym e j) ++ composite_ids (sym q j)) ++ []) (All-nil (λ (i : ℕ). i < n))
-
-pub sole_closed : (n : ℕ) (s : SubType) → s.supertype ≡ None → composite_form s.inner ≡ func_form [] [] → IsClosed n (sole_group s)
-sole_closed n s e f = record {
-  some = omega arith;
-  older = none_named n s.supertype (composite_form s.inner) e f;
-  ordered = (no_parent n s e, tt);
-  within = All-cons (λ (s : SubForm). IsFormWithin n 1 s.inner) (sub_form s) [] (form_within n (composite_form s.inner) f) (All-nil (λ (s : SubForm). IsFormWithin n 1 s.inner));
-}
-
-pub one_closed : (n : ℕ) (s : SubType) (xs : List SubType) → xs ≡ s ∷ [] → s.supertype ≡ None → composite_form s.inner ≡ func_form [] [] → IsClosed n (map sub_form xs)
-one_closed n s xs q e f = subst (λ (ys : List SubType). IsClosed n (map sub_form ys)) (sym q) (sole_closed n s e f)
 
 pub func_closed : (n : ℕ) (f : FuncType) → func_form f.params.items f.results.items ≡ func_form [] [] → IsClosed n (func_group f)
 func_closed n f e = record {

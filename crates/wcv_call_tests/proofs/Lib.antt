@@ -2,4 +2,3 @@ pub mod Closing
 pub mod Owning
 pub mod Standing
 pub mod Opened
-pub mod RowWords

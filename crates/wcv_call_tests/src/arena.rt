@@ -1,8 +1,7 @@
 // What is asked of an arena: one function owns it.
-use crate::core_types::equal_closed_forms_are_one;
+use crate::core_types::a_function_type_is_interned;
 use crate::externs::names_are_for_their_sorts;
 use crate::matching::items_match;
-use crate::row_types::rows_append_their_types;
 use crate::sort_calls::{
     a_component_has_its_part, a_reference_stays, a_value_has_its_text, value_types_are_equal,
 };
@@ -21,20 +20,18 @@ pub enum Asked {
     Text,
     Reference,
     Equal,
-    Rows,
 }
 
 /// Whether the answer is the one that is due.
 fn holds(alloc: Global, asked: Asked, types: &mut TypeAlloc) -> bool {
     match asked {
-        Asked::CoreTypes => equal_closed_forms_are_one(alloc, types),
+        Asked::CoreTypes => a_function_type_is_interned(alloc, types),
         Asked::Items => items_match(types),
         Asked::Parts => a_component_has_its_part(types),
         Asked::Names => names_are_for_their_sorts(types),
         Asked::Text => a_value_has_its_text(types),
         Asked::Reference => a_reference_stays(types),
         Asked::Equal => value_types_are_equal(types),
-        Asked::Rows => rows_append_their_types(types),
     }
 }
 

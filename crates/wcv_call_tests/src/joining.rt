@@ -5,7 +5,7 @@ ghost use Rattle.wcv_decls.specs.Stack.{IsOpen};
 ghost use Rattle.wcv_types.specs.Entities.{EntityStands, SlotStands};
 ghost use Rattle.wcv_types.specs.Unfold.{value_slot};
 
-use crate::written::{written, written_func};
+use crate::written::written;
 use std::alloc::{AllocError, Global};
 use wcv_core::{Error, ValType};
 use wcv_decls::Declare;
@@ -37,35 +37,8 @@ fn add_resource(states: &mut Vec<ComponentState>, types: &mut TypeAlloc) -> Resu
     add(ComponentType::Resource { rep, dtor: None }, states, types)
 }
 
-/// A resource that joins is known with what represents it.
-pub fn a_resource_is_represented(states: &mut Vec<ComponentState>, types: &mut TypeAlloc) -> bool
-    requires { AreReady types.old states.old.items }
-{
-    match add_resource(states, types) {
-        Ok(()) => match states[0].local_rep(0, 4) {
-            Ok((id, ValType::I64)) => id.index == 0,
-            _ => false,
-        },
-        Err(_) => false,
-    }
-}
-
-/// A function type joins.
-pub fn add_func(
-    alloc: Global,
-    text: &str,
-    states: &mut Vec<ComponentState>,
-    types: &mut TypeAlloc,
-) -> Result<(), Error>
-    requires { AreReady types.old states.old.items }
-    ensures { OnOk result (AreReady types.new states.new.items) }
-{
-    let func = written_func(alloc, text)?;
-    add(ComponentType::Func(func), states, types)
-}
-
 /// Defined types join, behind a resource and its handles.
-pub fn add_all(
+fn add_all(
     alloc: Global,
     row: &str,
     states: &mut Vec<ComponentState>,
@@ -117,7 +90,7 @@ fn layout_words(alloc: Global, abi: AbiInfo, free: bool) -> Result<String, Alloc
 }
 
 /// The index of the last type.
-pub fn last_index(state: &ComponentState) -> u32 {
+fn last_index(state: &ComponentState) -> u32 {
     let last = state.space_len(Space::Types).saturating_sub(1);
     u32::try_from(last).unwrap_or(0)
 }

@@ -11,10 +11,6 @@ mod core_types;
 #[cfg(test)]
 mod externs;
 #[cfg(test)]
-mod flat;
-#[cfg(test)]
-mod flat_rows;
-#[cfg(test)]
 mod items;
 #[cfg(test)]
 mod joining;
@@ -30,8 +26,6 @@ mod modules;
 mod names;
 #[cfg(test)]
 mod printed;
-#[cfg(test)]
-mod row_types;
 #[cfg(test)]
 mod sort_calls;
 #[cfg(test)]

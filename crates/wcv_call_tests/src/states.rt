@@ -3,8 +3,7 @@ ghost use Rattle.std.specs.Prelude.{IfOk};
 ghost use Rattle.wcv_decls.specs.Declaring.{AreReady};
 ghost use Rattle.wcv_types.specs.Arena.{Arena};
 
-use crate::flat::{a_function_is_lowered, types_are_flat};
-use crate::joining::{a_resource_is_represented, types_are_laid_out};
+use crate::joining::types_are_laid_out;
 use crate::modules::a_module_is_exported;
 use crate::state::what_is_pushed_stands;
 use bitflags::Flags;
@@ -27,10 +26,7 @@ fn alone(alloc: Global) -> Result<Vec<ComponentState>, OutOfMemory>
 pub enum Question {
     Pushed,
     Module,
-    Resource,
     Layout,
-    Flat,
-    Lowered,
 }
 
 /// Whether the answer is the one that is due.
@@ -46,10 +42,7 @@ fn answers(
     match question {
         Question::Pushed => what_is_pushed_stands(&mut states[0]),
         Question::Module => a_module_is_exported(alloc, &mut states[0], types),
-        Question::Resource => a_resource_is_represented(states, types),
         Question::Layout => types_are_laid_out(alloc, line, states, types),
-        Question::Flat => types_are_flat(alloc, line, states, types),
-        Question::Lowered => a_function_is_lowered(alloc, line, states, types),
     }
 }
 

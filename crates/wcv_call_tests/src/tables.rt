@@ -1,7 +1,6 @@
 // All tables, and the one test over them.
 use crate::arena::{Asked, holds_of_arena};
 use crate::base::{a_label_is_kept, a_map_gives_its_pairs};
-use crate::flat_rows::{FLAT, LOWERED};
 use crate::items::an_item_is_copied;
 use crate::layouts::LAYOUTS;
 use crate::lists::{a_list_has_its_parts, exports_are_copied};
@@ -11,7 +10,7 @@ use crate::states::{Question, holds, other_answer};
 use std::alloc::Global;
 
 // Whether each case is answered as is due.
-fn cases(alloc: Global) -> [bool; 20] {
+fn cases(alloc: Global) -> [bool; 18] {
     [
         a_label_is_kept(alloc),
         a_group_is_printed(alloc),
@@ -29,17 +28,13 @@ fn cases(alloc: Global) -> [bool; 20] {
         holds_of_arena(alloc, Asked::Text),
         holds_of_arena(alloc, Asked::Reference),
         holds_of_arena(alloc, Asked::Equal),
-        holds_of_arena(alloc, Asked::Rows),
         holds(alloc, Question::Pushed, ""),
         holds(alloc, Question::Module, ""),
-        holds(alloc, Question::Resource, ""),
     ]
 }
 
 #[test]
 fn all_is_answered_as_is_due(rt: HostRuntime) {
-    assert_eq!(rt; cases(rt.alloc()), [true; 20]);
+    assert_eq!(rt; cases(rt.alloc()), [true; 18]);
     assert_eq!(rt; other_answer(rt.alloc(), Question::Layout, LAYOUTS), "");
-    assert_eq!(rt; other_answer(rt.alloc(), Question::Flat, FLAT), "");
-    assert_eq!(rt; other_answer(rt.alloc(), Question::Lowered, LOWERED), "");
 }

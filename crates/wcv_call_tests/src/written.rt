@@ -1,7 +1,7 @@
-// Types that are written: a form and value types behind it, or the value types of a function.
+// Defined types that are written: a form and value types behind it.
 use std::alloc::Global;
 use wcv_core::{OutOfMemory, PrimitiveValType, Text};
-use wcv_syntax::{ComponentDefinedType, ComponentFuncType, ComponentValType, VariantCase};
+use wcv_syntax::{ComponentDefinedType, ComponentValType, VariantCase};
 
 const PRIMITIVES: &[(&str, PrimitiveValType)] = &[
     ("bool", PrimitiveValType::Bool),
@@ -162,15 +162,4 @@ pub fn written(alloc: Global, text: &str) -> Result<ComponentDefinedType, OutOfM
     let (form, words) = text.split_once(' ').unwrap_or((text, ""));
     let values = values(alloc, words)?;
     shape(alloc, form, values.as_slice())
-}
-
-/// A function type: its parameters, and its result behind `->`, where `_` is none.
-pub fn written_func(alloc: Global, text: &str) -> Result<ComponentFuncType, OutOfMemory> {
-    let (params, result) = text.split_once(" -> ").unwrap_or((text, "_"));
-    let values = values(alloc, params)?;
-    Ok(ComponentFuncType {
-        async_: false,
-        params: fields(alloc, values.as_slice())?,
-        result: value(result),
-    })
 }
