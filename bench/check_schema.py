@@ -167,7 +167,7 @@ def is_built(item):
     match item:
         case {"type": body}:
             return is_built_type(body)
-        case {"core-type": _} | {"core-module": _} | {"core-instance": _}:
+        case {"core-type": _} | {"core-module": _} | {"core-instance": _} | {"canon": _}:
             return True
         case {"alias": alias}:
             return "core-export" in alias

@@ -4,7 +4,7 @@
     bench/measure.py [RUNS] [TABLE ..]
 
 The tables are `overview`, `small`, `front`, `long`, `nested`, `types`, `resources`, `names`, `core`, `ends`,
-`setters`, `reports`, `declared`, `instances` and `components`, all of them if none is named. Times are the smallest
+`setters`, `reports`, `declared`, `instances`, `components` and `canonical`, all of them if none is named. Times are the smallest
 of RUNS runs, 5 if not given, in which the programs that are compared take turns: what else the machine does can only
 add to them. Peak memory is the largest resident size of one more run, in which the bytes that it writes are counted
 too. Where valgrind is there, the instructions of one run are counted: they do not depend on what else the machine
@@ -20,6 +20,7 @@ import sys
 import tempfile
 import time
 
+import make_canonicals
 import make_listings
 
 ROOT = os.path.dirname(os.path.dirname(os.path.abspath(__file__)))
@@ -224,6 +225,21 @@ def components(runs):
     print_table("Listing of a component that imports instances, all over one resource", ALL, rows, runs)
 
 
+def canonical(runs):
+    make = make_canonicals
+    makers = (
+        ("functions of 16 parameters, lowered", make.wide(16)),
+        ("functions of 1,000 parameters, lowered", make.wide(1_000)),
+        ("functions of a tuple of 10,000 parts, lowered", make.wide_values(10_000)),
+        ("functions of types 500 deep, lowered", make.deep(500)),
+        ("functions that are lifted with all options", make.lifted),
+        ("async functions that are lifted with a callback", make.lifted_async),
+        ("each canonical function in turn", make.in_turn),
+    )
+    rows = [(f"{name}, {size}", items, is_counted) for name, it in makers for size, items, is_counted in by_size(it, (1,))]
+    print_table("Listing of canonical functions", ALL, rows, runs, features=make.FEATURES)
+
+
 KINDS = (
     ("functions", make_listings.ordinary),
     ("tuples that name the type before twice", make_listings.twice),
@@ -273,6 +289,7 @@ TABLES = {
     "declared": declared,
     "instances": instances,
     "components": components,
+    "canonical": canonical,
 }
 
 
