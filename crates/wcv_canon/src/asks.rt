@@ -10,10 +10,9 @@ ghost use Rattle.wcv_canon.specs.Operands.{operand_checks, row_asked, is_lift};
 
 use crate::ask::{Ask, Barred, Needed, check_asks};
 use crate::lists::OptionName;
-use crate::options::named;
 use wcv_core::{Error, WasmFeatures};
 use wcv_state::ComponentState;
-use wcv_syntax::{CanonicalFunction, canonical_name};
+use wcv_syntax::CanonicalFunction;
 use wcv_types::TypeAlloc;
 
 const ASYNC: Ask = Ask::Feature(WasmFeatures::CM_ASYNC);
@@ -248,8 +247,5 @@ pub fn check_operands(
     ensures ok { OnOk result ((outer : List Tree_context) → IsFree (operand_checks state.now.features (stack_of types.now state.now outer) (canon_view func.now))) }
     ensures err { IfErr result (λ e. (outer : List Tree_context) → MemoryOrCausedBy (operand_checks state.now.features (stack_of types.now state.now outer) (canon_view func.now)) offset e) }
 {
-    match check_row(func, state, types, offset) {
-        Ok(()) => Ok(()),
-        Err(err) => Err(named(canonical_name(func), err)),
-    }
+    check_row(func, state, types, offset)
 }

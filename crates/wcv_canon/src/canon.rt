@@ -72,7 +72,7 @@ impl Canon for ComponentState {
         options: &[CanonicalOption],
         offset: u64,
     ) -> Result<CanonicalOptions, Error> {
-        read_options("options", options, self, types, offset)
+        read_options(options, self, types, offset)
     }
 
     fn canonical_function(

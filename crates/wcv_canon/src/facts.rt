@@ -22,7 +22,7 @@ use wcv_core::limits::MAX_ENTRIES;
 use wcv_core::{CompositeInnerType, CoreTypeId, Error, ErrorKind, Refusal, ValType, Why};
 use wcv_flat::{CanonicalOptions, Concurrency, PtrSize, RowFacts, RowFunction, StringEncoding};
 use wcv_state::ComponentState;
-use wcv_syntax::{CanonicalFunction, CanonicalOption, ComponentValType as Written, canonical_name};
+use wcv_syntax::{CanonicalFunction, CanonicalOption, ComponentValType as Written};
 use wcv_types::{ComponentCoreTypeId, ComponentValType, TypeAlloc};
 
 /// What represents the resource at that index, where it is defined here with that.
@@ -236,10 +236,7 @@ fn options_of(
     ensures err { IfErr result (λ e. (outer : List Tree_context) → MemoryOrCausedBy (if_found (options.options_checks state.now.features (stack_of types.now state.now outer)) (options_in (canon_view func.now))) offset e) }
 {
     match list_of(func) {
-        Some(list) => {
-            let name = canonical_name(func);
-            Ok(Some(read_options(name, list.as_slice(), state, types, offset)?))
-        }
+        Some(list) => Ok(Some(read_options(list.as_slice(), state, types, offset)?)),
         None => Ok(None),
     }
 }

@@ -1,6 +1,7 @@
 // One more canonical function.
 ghost use Rattle.std.specs.Prelude.{◌≡◌, false, List, OnOk, IfErr};
 ghost use Rattle.wcv_core.specs.Names.{Place};
+ghost use Rattle.wcv_core.specs.Refusal.{error_kind, error_offset};
 ghost use Rattle.wcv_syntax.specs.Model.{canon_item, lift};
 ghost use Rattle.wcv_syntax.specs.View.{canon_view};
 ghost use Rattle.wcv_flat.specs.Rows.{canon_row};
@@ -18,7 +19,7 @@ use crate::lift::find_lift;
 use wcv_core::Error;
 use wcv_flat::{RowFacts, row_signature};
 use wcv_state::ComponentState;
-use wcv_syntax::{CanonicalFunction, CanonicalOption};
+use wcv_syntax::{CanonicalFunction, CanonicalOption, canonical_name};
 use wcv_types::TypeAlloc;
 
 /// The type of the slots is the one that the function names, where none is said yet.
@@ -122,6 +123,14 @@ fn join_canonical_function(
     }
 }
 
+/// What an error of a canonical function says, behind the function's name.
+fn named(name: &'static str, err: Error) -> Error
+    ensures kind { error_kind result ≡ error_kind err }
+    ensures offset { error_offset result ≡ error_offset err }
+{
+    Error::told(err.kind(), err.offset(), format_args!("{name}: {err}"))
+}
+
 /// The canonical function joins the state. After an error the state is spent.
 pub fn add_canonical_function(
     func: CanonicalFunction,
@@ -138,7 +147,7 @@ pub fn add_canonical_function(
         Ok(()) => Ok(()),
         Err(error) => {
             state.mark_spent();
-            Err(error)
+            Err(named(canonical_name(&func), error))
         }
     }
 }

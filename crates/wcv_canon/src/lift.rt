@@ -42,12 +42,12 @@ fn check_async(
     match options.concurrency {
         Concurrency::Sync => Ok(()),
         Concurrency::Async { .. } if !is_async => {
-            let why = Why::new("lift: option `async` may stand for an async function type alone");
+            let why = Why::new("option `async` may stand for an async function type alone");
             Err(Error::new(ErrorKind::Options, offset, why))
         }
         Concurrency::Async { callback: None }
             if !features.contains(WasmFeatures::CM_ASYNC_STACKFUL) => {
-            let what = "lift: option `async` without `callback`";
+            let what = "option `async` without `callback`";
             Err(missing_feature(what, "", "cm-async-stackful", offset))
         }
         _ => Ok(()),
@@ -93,7 +93,7 @@ fn check_post_return(
         ErrorKind::Options,
         offset,
         format_args!(
-            "lift: option `post-return` asks for a core function that takes what {lifted} gives, and core function {index} is {found}"
+            "option `post-return` asks for a core function that takes what {lifted} gives, and core function {index} is {found}"
         ),
     ))
 }
@@ -142,7 +142,7 @@ fn check_signature(
     Err(Error::told(
         ErrorKind::Signature,
         offset,
-        format_args!("lift of core function {index}: expected {expected}, found {found}"),
+        format_args!("core function {index}: expected {expected}, found {found}"),
     ))
 }
 
@@ -165,7 +165,7 @@ pub fn find_lift(
 {
     let core = state.core_function_at(core_index, offset)?;
     let id = state.function_type_at(type_index, offset)?;
-    let read = read_options("lift", options, state, types, offset)?;
+    let read = read_options(options, state, types, offset)?;
     check_room(state, types, offset)?;
     let shape = types.get(id);
     check_async(&read, shape.async_, state.features(), offset)?;

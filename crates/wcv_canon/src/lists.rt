@@ -105,6 +105,11 @@ fn encoding_in(option: CanonicalOption) -> Option<StringEncoding>
     }
 }
 
+/// Whether the option is an encoding.
+pub fn is_encoding(option: CanonicalOption) -> bool {
+    encoding_in(option).is_some()
+}
+
 /// The first encoding.
 #[tactic(auto, using(crate::proofs::OptionLists::first_goes, crate::proofs::OptionLists::first_found, crate::proofs::OptionLists::first_none))]
 pub fn first_encoding(options: &[CanonicalOption]) -> Option<StringEncoding>

@@ -12,7 +12,9 @@ ghost use Rattle.wcv_state.specs.Promises.{MemoryOrCausedBy};
 ghost use Rattle.wcv_canon.specs.Options.{option_asked};
 
 use crate::items::{check_core_func, check_memory, require};
-use crate::lists::{OptionName, first_encoding, first_index, option_word, repeated, stands};
+use crate::lists::{
+    OptionName, first_encoding, first_index, is_encoding, option_word, repeated, stands,
+};
 use wcv_core::{Error, ErrorKind, ValType, WasmFeatures, Why};
 use wcv_flat::{CanonicalOptions, Concurrency, PtrSize, StringEncoding};
 use wcv_state::ComponentState;
@@ -27,12 +29,20 @@ pub fn refused(words: &'static str, option: &'static str, offset: u64) -> Error
     Error::from(Error::new(ErrorKind::Options, offset, Why::new(words).word(option)))
 }
 
-/// What an error of a canonical function says, behind the function's name.
-pub fn named(name: &'static str, err: Error) -> Error
-    ensures kind { error_kind result ≡ error_kind err }
-    ensures offset { error_offset result ≡ error_offset err }
+/// The refusal of an option that stands once more, or of a second encoding, where that one is the first.
+fn repeats(option: CanonicalOption, first: Option<StringEncoding>, offset: u64) -> Error
+    ensures kind { error_kind result ≡ ErrorKind.Options }
+    ensures offset { error_offset result ≡ offset }
 {
-    Error::told(err.kind(), err.offset(), format_args!("{name}: {err}"))
+    let word = option_word(option);
+    match (first, is_encoding(option)) {
+        (Some(first), true) => Error::told(
+            ErrorKind::Options,
+            offset,
+            format_args!("canonical encoding option `{first}` conflicts with option `{word}`"),
+        ),
+        _ => refused("option `%w` stands twice", word, offset),
+    }
 }
 
 /// The rules on what stands beside what in a list.
@@ -41,8 +51,7 @@ fn check_list(options: &[CanonicalOption], offset: u64) -> Result<(), Error>
     ensures err { IfErr result (MemoryOrCausedBy (list_rules options.now) offset) }
 {
     if let Some(option) = repeated(options) {
-        let words = "option `%w` may not stand where it, or another encoding, stands already";
-        return Err(refused(words, option_word(option), offset));
+        return Err(repeats(option, first_encoding(options), offset));
     }
     if stands(OptionName::Realloc, options) && !stands(OptionName::Memory, options) {
         return Err(refused("option `realloc` needs the option `%w`", "memory", offset));
@@ -211,7 +220,7 @@ fn check_each(
 }
 
 /// The options of a list, where the list breaks no rule on options.
-fn read_list(
+pub fn read_options(
     options: &[CanonicalOption],
     state: &ComponentState,
     types: &TypeAlloc,
@@ -226,23 +235,4 @@ fn read_list(
     let read = found_options(options, state, types, offset);
     check_each(options, read.ptr_type(), state, types, offset)?;
     Ok(read)
-}
-
-/// So with messages that begin with the name.
-pub fn read_options(
-    name: &'static str,
-    options: &[CanonicalOption],
-    state: &ComponentState,
-    types: &TypeAlloc,
-    offset: u64,
-) -> Result<CanonicalOptions, Error>
-    requires stands { StateStands types.now state.now }
-    ensures ok { IfOk result (λ read. read ≡ options_read (context_of types.now state.now) options.now) }
-    ensures free { OnOk result ((outer : List Tree_context) → IsFree (options_checks state.now.features (stack_of types.now state.now outer) options.now)) }
-    ensures err { IfErr result (λ e. (outer : List Tree_context) → MemoryOrCausedBy (options_checks state.now.features (stack_of types.now state.now outer) options.now) offset e) }
-{
-    match read_list(options, state, types, offset) {
-        Ok(read) => Ok(read),
-        Err(err) => Err(named(name, err)),
-    }
 }
