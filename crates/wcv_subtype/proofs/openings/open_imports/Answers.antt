@@ -1,14 +1,16 @@
-use Rattle.std.proofs.Common.{arith, sym, ◌∙◌, ap, List}
+use Rattle.std.proofs.Common.{arith, refl, sym, ◌∙◌, ap, List}
 use Rattle.std.proofs.lemmas.Result.{err_from_is_err_and}
 use Rattle.wcv_types.specs.Entities.{EntityStands}
 use Rattle.wcv_types.specs.declared.item_map.ComponentItem.{ComponentItem}
 use Rattle.wcv_matching.proofs.ByName.{is_there}
 use Rattle.wcv_matching.proofs.Entries.{entry_within}
+use Rattle.wcv_matching.specs.OnePass.{given}
 use Rattle.wcv_types.specs.Tree.{Text}
 use Rattle.wcv_types.specs.Unfold.{trees}
 use Rattle.wcv_subtype.specs.Extent.{found_extent}
 use Rattle.wcv_subtype.specs.IdPasses.{named_trees}
 use Rattle.wcv_subtype.specs.Readings.{reads}
+use Rattle.wcv_subtype.proofs.Comparing.{passed_as}
 use Rattle.wcv_subtype.proofs.Extents.{entries_next, matched_next}
 use Rattle.wcv_subtype.proofs.Opening.{all_gave, fits_as, next_given, next_passes, refused_as, refuses}
 use Rattle.wcv_subtype.proofs.openings.open_imports.Goals as goal
@@ -40,6 +42,7 @@ loop-k-preserved g c =
     record {
       left = next_passes a c.args.args.now f c.args.imports.now c.loop-k.k y (sym c.in-Some.ensures) x w c.loop-k.invariant.left;
       right = c.in_ok-argument-in-Some.ensures.right ∙ c.loop-k.invariant.right;
+      compared = passed_as a given (reads c.loop-k.right) given _ _ _ refl c.in_ok-argument-in-Some.ensures.right refl c.in_ok-argument-in-Some.ensures.compared;
       seen = c.in_ok-give-in-Some.ensures.seen;
       resources = c.in_ok-give-in-Some.ensures.resources ∙ c.loop-k.invariant.resources;
       gives = next_given a c.args.args.now f c.args.imports.now c.loop-k.k y (sym c.in-Some.ensures) x _ w (c.in_ok-give-in-Some.ensures.given _ c.loop-k.invariant.gives);
