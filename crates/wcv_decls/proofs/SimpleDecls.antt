@@ -139,7 +139,7 @@ module _ (fs : WasmFeatures) (mk : Maker tree_reader) (s u : Tree_stack) where
   core_sides (core_module_type ds) e = module_sides (core_type_made fs s (core_module_type ds)) e
 
 -- an entity that joins its space changes neither
-joined_sides : (k : Sort) (x : Type_tree) (s : Tree_stack) → SameSides s.top (apply (joins tree_reader k x) s).top
+pub joined_sides : (k : Sort) (x : Type_tree) (s : Tree_stack) → SameSides s.top (apply (joins tree_reader k x) s).top
 joined_sides is_func x s = record { kind = refl; side = λ k. refl; defined = refl }
 joined_sides is_value x s = record { kind = refl; side = λ k. refl; defined = refl }
 joined_sides is_instance x s = record { kind = refl; side = λ k. refl; defined = refl }

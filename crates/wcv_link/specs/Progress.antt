@@ -18,7 +18,7 @@ use Rattle.wcv_state.specs.Contents.{Contents, stack_of}
 use Rattle.wcv_state.specs.Instances.{MayOpen}
 use Rattle.wcv_state.specs.Promises.{numbers_of, MemoryOrCausedBy, Keeps}
 use Rattle.wcv_decls.specs.Declaring.{innermost}
-use Rattle.wcv_decls.specs.Stack.{IsOpen, AreCalm, ChangesLast, stay, contexts_around}
+use Rattle.wcv_decls.specs.Stack.{IsOpen, AreCalm, all_uncharged, contexts_around}
 use Rattle.wcv_link.specs.Instances.{AllMayInstantiate}
 use Rattle.wcv_link.specs.Valid.{start, Refused}
 
@@ -37,11 +37,12 @@ looks_around (core_type_item t) = true
 looks_around (alias_item a) = true
 looks_around f = false
 
--- the state grew by the item at that place, by names that the arena gave, in the contexts further out, and the item has no cause
-pub record GrewAt (a b : Arena) (outer : List Tree_context) (s s' : Contents) (f : Form) (p : Place) : Type 0 where
+-- the state grew by the item at that place, by names that the arena gave, in the contexts further out, which became others, and the item
+-- has no cause
+pub record GrewAt (a b : Arena) (outer outer' : List Tree_context) (s s' : Contents) (f : Form) (p : Place) : Type 0 where
   pub names : GivenNames
   pub given : GivesAt (Under p) (numbers_of a) (numbers_of b) names
-  pub grown : read_item s.features (tree_maker (names_of names)) p (stack_of a s outer) f ≡ Some (stack_of b s' outer)
+  pub grown : read_item s.features (tree_maker (names_of names)) p (stack_of a s outer) f ≡ Some (stack_of b s' outer')
   pub free : IsFree (item_causes s.features (tree_maker (names_of names)) p (stack_of a s outer) f)
 
 -- the error is out of memory, or a cause of the item at that place by names that the arena gave
@@ -60,7 +61,7 @@ LastMayInstantiate a ss = AllMayInstantiate a (innermost ss)
 
 -- a state took the item, at whatever place and in whatever contexts
 pub record TakesItem (a b : Arena) (s s' : Contents) (f : Form) : Type 0 where
-  pub grew : (outer : List Tree_context) (p : Place) → GrewAt a b outer s s' f p
+  pub grew : (outer : List Tree_context) (p : Place) → GrewAt a b outer outer s s' f p
   pub live : s'.spent ≡ false
   pub keeps : Keeps a b s s'
 
@@ -69,12 +70,17 @@ pub record LeavesItem {M : Type 0} (a b : Arena) (s : Contents) (f : Form) (offs
   pub refused : (outer : List Tree_context) (p : Place) → RefusedAt a b outer s f p offset e
   pub arena : Extends a b
 
--- the innermost of the states took it at that place, and the others stay, with their contexts
+-- the innermost of the states took it at that place, and the others stay but for what was aliased into them
 pub record TakenOn (a b : Arena) (p : Place) (ss ss' : List Contents) (f : Form) : Type 0 where
-  pub last : ChangesLast stay ss ss'
-  pub around : contexts_around b last.outer ≡ contexts_around a last.outer
-  pub grew : GrewAt a b (contexts_around a last.outer) last.old last.new f p
-  pub features : last.new.features ≡ last.old.features
+  pub outer : List Contents
+  pub outer' : List Contents
+  pub old : Contents
+  pub new : Contents
+  pub was : ss ≡ outer ++ old ∷ []
+  pub becomes : ss' ≡ outer' ++ new ∷ []
+  pub same : all_uncharged outer' ≡ all_uncharged outer
+  pub grew : GrewAt a b (contexts_around a outer) (contexts_around b outer') old new f p
+  pub features : new.features ≡ old.features
 
 -- so at whatever place, and they may be used further
 pub record AcceptsItem (a b : Arena) (ss ss' : List Contents) (f : Form) : Type 0 where

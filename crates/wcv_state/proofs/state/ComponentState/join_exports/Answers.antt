@@ -74,6 +74,7 @@ returns-clause-ok c =
     has_joined c.args.limited exporting c.args.types.now c.args.self.now (contents_of c.self.inside) c.args.name c.args.new.now c.self.view_is _ c.requires.may_join
     (record {
       kinds = refl;
+      aliased = refl;
       slots = refl;
       spaces = c.in_ok-enter.ensures.joined.spaces;
       info = c.in_ok-enter.ensures.joined.info;
