@@ -1,5 +1,5 @@
 -- What an import or an export does to a context: it lists the resources that the entry brings, each with a path that leads to it.
-use Rattle.std.proofs.Common.{◌≡◌, ℕ, zero, suc, List, [], ◌∷◌, ◌++◌, length, true, false, refl, sym, ap, subst, inl, inr, Some, None, ◌⊎◌}
+use Rattle.std.proofs.Common.{◌≡◌, ℕ, zero, suc, List, [], ◌∷◌, ◌++◌, length, true, false, refl, sym, ◌∙◌, ap, subst, inl, inr, Some, None, ◌⊎◌}
 use Rattle.std.specs.Prelude.{All, slice_get, Option}
 use Rattle.std.specs.Option.{option_map}
 use Rattle.std.proofs.lemmas.Bool.{false≢true}
@@ -29,6 +29,7 @@ use Rattle.wcv_lower.specs.Trees.{Type_tree, Entries, type_entry, referenced, Tr
 use Rattle.wcv_lower.specs.Values.{type_at, type_of_sort}
 use Rattle.wcv_lower.proofs.Bringing.{of_some, type_has}
 use Rattle.wcv_lower.proofs.Owning.{owns_not_inherited}
+use Rattle.wcv_link.proofs.Bare.{OwnsNothing, IsBare, AreBare, bare-instance}
 use Rattle.wcv_link.proofs.Growing.{Leads, Ready, AreNew, Adds, Does, SameLists, same-leads, same-led, nothing-new}
 use Rattle.wcv_link.proofs.Having.{Has, has-right, has-beside, has-beside_back, once-beside}
 use Rattle.wcv_link.proofs.Known.{mapped-some, then-some, all-get, Fine, created-fine, In, Any, After, enters-bring, in-apply}
@@ -209,22 +210,29 @@ module _ (p : Place) (s : Tree_stack) (h : Ready p s.top) where
       let m = mapped-some (bare tree_reader) (slice_get (s.top.space k) i) b e in
       subst (Enters exporting n) m.2 (bare-does exporting n m.0 (all-get (Fine (In s.top)) (s.top.space k) i m.0 (h.fine.space k) m.1))
 
-  export-does : (n : Extern_name) (x : ComponentExternalKind) (i : ℕ) (b : Brought tree_reader) → option_map (exported_as (tree_maker names_by_place p) x) (slice_get (items_of s.top x) i) ≡ Some b → Does exporting p s (enters exporting n b)
-  export-does n kind.Ty i b e =
+  -- an instance owns nothing, and so it is the instance that is made of it
+  instance-does : AreBare s.top → (n : Extern_name) (i : ℕ) (b : Brought tree_reader) → option_map (tree_maker names_by_place p).instance_of (slice_get (s.top.space in_instances) i) ≡ Some b → Enters exporting n b
+  instance-does alone n i b e =
+      let m = mapped-some (tree_maker names_by_place p).instance_of (slice_get (s.top.space in_instances) i) b e in
+      let own : OwnsNothing m.0 = (all-get IsBare (s.top.space in_instances) i m.0 (alone.space in_instances) m.1).0 in
+      subst (Enters exporting n) (sym (bare-instance names_by_place p m.0 own) ∙ m.2) (bare-does exporting n m.0 (all-get (Fine (In s.top)) (s.top.space in_instances) i m.0 (h.fine.space in_instances) m.1))
+
+  export-does : AreBare s.top → (n : Extern_name) (x : ComponentExternalKind) (i : ℕ) (b : Brought tree_reader) → option_map (exported_as (tree_maker names_by_place p) x) (slice_get (items_of s.top x) i) ≡ Some b → Does exporting p s (enters exporting n b)
+  export-does alone n kind.Ty i b e =
       let m = mapped-some (exported_as (tree_maker names_by_place p) kind.Ty) (slice_get (s.top.space in_types) i) b e in
       subst (Enters exporting n) m.2
       (bare-does exporting n (again_brought (tree_maker names_by_place p) (referenced m.0)).entity (again-fine (In s.top) names_by_place p (referenced m.0) (type-fine (In s.top) s.top h.fine i (referenced m.0) (ap (option_map referenced) m.1))))
-  export-does n kind.Func i b e = item-does n in_funcs i b e
-  export-does n kind.Value i b e = item-does n in_values i b e
-  export-does n kind.Instance i b e = item-does n in_instances i b e
-  export-does n kind.Component i b e = item-does n in_components i b e
-  export-does n kind.Module i b e =
+  export-does alone n kind.Func i b e = item-does n in_funcs i b e
+  export-does alone n kind.Value i b e = item-does n in_values i b e
+  export-does alone n kind.Instance i b e = instance-does alone n i b e
+  export-does alone n kind.Component i b e = item-does n in_components i b e
+  export-does alone n kind.Module i b e =
       let m = mapped-some (bare tree_reader) (slice_get (s.top.core core_modules) i) b e in
       subst (Enters exporting n) m.2 (bare-does exporting n m.0 (all-get (Fine (In s.top)) (s.top.core core_modules) i m.0 (h.fine.core core_modules) m.1))
 
   -- an item, with what is written beside it
-  pub exported-does : (n : Extern_name) (e : ComponentExport) (o : Option ComponentTypeRef) (b : Brought tree_reader) → is_built_written o ≡ true → exported_by (tree_maker names_by_place p) s.top e o ≡ Some b → Does exporting p s (enters exporting n b)
-  exported-does n e None b w q = export-does n e.kind e.index b q
-  exported-does n e (Some r) b w q =
+  pub exported-does : AreBare s.top → (n : Extern_name) (e : ComponentExport) (o : Option ComponentTypeRef) (b : Brought tree_reader) → is_built_written o ≡ true → exported_by (tree_maker names_by_place p) s.top e o ≡ Some b → Does exporting p s (enters exporting n b)
+  exported-does alone n e None b w q = export-does alone n e.kind e.index b q
+  exported-does alone n e (Some r) b w q =
       let m = then-some (λ (x : Type_tree). written (tree_maker names_by_place p) s.top r) (exported_at s.top e) b q in
       written-does exporting n r b w m.2

@@ -33,13 +33,15 @@ abbrev pub side_of : Form → Side
 side_of (import_item i) = importing
 side_of f = exporting
 
--- an instance is made in a component alone, where instances that are entries own nothing
+-- an instance is made in a component alone, and where instances that are entries own nothing; so is an item exported
 abbrev pub MayStand : Form → Tree_context → Type 0
 MayStand (instance_item i) c = (is_concrete c.kind ≡ true) × AreBare c
+MayStand (export_item x) c = AreBare c
 MayStand f c = Unit {0}
 
 pub stands-in-component : (f : Form) (c : Tree_context) → is_concrete c.kind ≡ true → AreBare c → MayStand f c
 stands-in-component (instance_item i) c e b = (e, b)
+stands-in-component (export_item x) c e b = b
 stands-in-component f c e b = tt
 
 module _ (p : Place) (s : Tree_stack) (h : Ready p s.top) where
@@ -50,7 +52,7 @@ module _ (p : Place) (s : Tree_stack) (h : Ready p s.top) where
       subst (Does importing p s) m.2 (written-does p s h importing (extern_name i.name) i.ty m.0 b m.1)
   step-does fs (export_item i) x may b e =
       let m = mapped-some (enters exporting (extern_name i.name)) (exported (tree_maker names_by_place p) s.top i) x e in
-      subst (Does exporting p s) m.2 (exported-does p s h (extern_name i.name) i i.ty m.0 (and_right (is_built_sort i.kind) (is_built_written i.ty) b) m.1)
+      subst (Does exporting p s) m.2 (exported-does p s h may (extern_name i.name) i i.ty m.0 (and_right (is_built_sort i.kind) (is_built_written i.ty) b) m.1)
   step-does fs (core_type_item t) x may b e = core_type-does p s h fs t x e
   step-does fs (core_module_item ds) x may b e = core_module-does p s h fs ds x e
   step-does fs (core_instance_item i) x may b e = core_instance-does p s h i x e

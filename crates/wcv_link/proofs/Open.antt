@@ -58,9 +58,10 @@ module _ (a : Arena) (ss : List Contents) (k : ℕ) (s : Contents) (e : k ≡ le
 
   -- an instance may be made of each instance type in it
   pub last_may_open : AllMayOpen a s
-  last_may_open r =
+  last_may_open =
       let was : ss ≡ around ss ++ s ∷ [] = (last_changed ss k s s h.some e (is_innermost ss k s h.some e i)).was in
-      simple.may_open a (contexts_around a (around ss)) s r last_open.stands (h.calm (around ss) s was)
+      let calm : IsCalm (numbers_of a) (stack_on a (around ss) s) = h.calm (around ss) s was in
+      ((λ r. simple.may_open a (contexts_around a (around ss)) s r last_open.stands calm), (λ x. simple.item_may_open a (contexts_around a (around ss)) s x last_open.stands calm))
 
   -- and of each component
   pub last_may_instantiate : LastMayInstantiate a ss → AllMayInstantiate a s

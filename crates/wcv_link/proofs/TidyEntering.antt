@@ -1,5 +1,5 @@
 -- What an import or an export brings to a context is tidy.
-use Rattle.std.proofs.Common.{◌≡◌, ℕ, refl, subst, Some, None}
+use Rattle.std.proofs.Common.{◌≡◌, ℕ, refl, sym, ◌∙◌, subst, Some, None}
 use Rattle.std.specs.Prelude.{slice_get, Option}
 use Rattle.std.specs.Option.{option_map}
 use Rattle.wcv_core.specs.Names.{Place}
@@ -19,10 +19,11 @@ use Rattle.wcv_lower.specs.Owned.{AllEntries}
 use Rattle.wcv_lower.specs.Step.{enters, Brought, bare}
 use Rattle.wcv_lower.specs.Trees.{Type_tree, type_entry, referenced, Tree_context, tree_reader, tree_maker}
 use Rattle.wcv_lower.specs.Values.{type_at, type_of_sort}
+use Rattle.wcv_link.proofs.Bare.{bare-instance}
 use Rattle.wcv_link.proofs.Growing.{Ready}
 use Rattle.wcv_link.proofs.Known.{mapped-some, then-some, all-get, In, enters-bring}
 use Rattle.wcv_link.proofs.Looking.{sorted-fine, sorted-sort}
-use Rattle.wcv_link.proofs.Tidy.{Known, TidyEntry, NoneKnown, none-at, BringsTidy}
+use Rattle.wcv_link.proofs.Tidy.{Known, TidyEntry, NoneKnown, none-at, BringsTidy, entry-bare}
 use Rattle.wcv_link.proofs.TidyInstances.{instance_of-tidy}
 use Rattle.wcv_link.proofs.TidyTypes.{TidyThere, tidy-before, created-tidy, reference-tidy, referenced-tidy, type-tidy, sorted-tidy, plain-tidy, module-tidy, again-tidy}
 
@@ -66,7 +67,10 @@ module _ (p : Place) (c : Tree_context) (h : Ready p c) (g : Known) (y : AllEntr
       subst IsTidyBrought m.2 (again-tidy p g (none-at p g unknown) (referenced m.0) (referenced-tidy g m.0 (all-get (TidyEntry g) (c.space in_types) i m.0 (y.space in_types) m.1)))
   export-tidy kind.Func i b e = item-tidy in_funcs i b e
   export-tidy kind.Value i b e = item-tidy in_values i b e
-  export-tidy kind.Instance i b e = item-tidy in_instances i b e
+  export-tidy kind.Instance i b e =
+      let m = mapped-some (tree_maker names_by_place p).instance_of (slice_get (c.space in_instances) i) b e in
+      let w : TidyEntry g m.0 = all-get (TidyEntry g) (c.space in_instances) i m.0 (y.space in_instances) m.1 in
+      subst IsTidyBrought (sym (bare-instance names_by_place p m.0 (entry-bare g m.0 w).0) ∙ m.2) (tidy-before p g m.0 w)
   export-tidy kind.Component i b e = item-tidy in_components i b e
   export-tidy kind.Module i b e =
       let m = mapped-some (bare tree_reader) (slice_get (c.core core_modules) i) b e in

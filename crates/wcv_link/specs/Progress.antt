@@ -7,6 +7,7 @@ use Rattle.wcv_core.specs.declared.error.ErrorKind.TheVariants as kind
 use Rattle.wcv_core.specs.declared.features.WasmFeatures.{WasmFeatures}
 use Rattle.wcv_syntax.specs.Model.{Form, type_item, core_type_item, alias_item, Items, no_items, next_item}
 use Rattle.wcv_syntax.specs.declared.component_type.ComponentTypeRef.{ComponentTypeRef}
+use Rattle.wcv_syntax.specs.declared.name.ComponentExport.{ComponentExport}
 use Rattle.wcv_types.specs.Arena.{Arena}
 use Rattle.wcv_types.specs.Standing.{Extends}
 use Rattle.wcv_lower.specs.Checks.{IsFree}
@@ -15,7 +16,7 @@ use Rattle.wcv_lower.specs.Items.{read_item, item_causes}
 use Rattle.wcv_lower.specs.Names.{Names, Under}
 use Rattle.wcv_lower.specs.Trees.{Tree_context, Tree_stack, tree_maker}
 use Rattle.wcv_state.specs.Contents.{Contents, stack_of}
-use Rattle.wcv_state.specs.Instances.{MayOpen}
+use Rattle.wcv_state.specs.Instances.{MayOpen, ItemMayOpen}
 use Rattle.wcv_state.specs.Promises.{numbers_of, MemoryOrCausedBy, Keeps}
 use Rattle.wcv_decls.specs.Declaring.{innermost}
 use Rattle.wcv_decls.specs.Stack.{IsOpen, AreCalm, all_uncharged, contexts_around}
@@ -51,9 +52,9 @@ pub record RefusedAt {M : Type 0} (a b : Arena) (outer : List Tree_context) (s :
   pub given : GivesAt (Under p) (numbers_of a) (numbers_of b) names
   pub caused : MemoryOrCausedBy (item_causes s.features (tree_maker (names_of names)) p (stack_of a s outer) f) offset e
 
--- an instance may be made of each instance type that stands in the state
+-- an instance may be made of each instance type that stands in the state, and of the type of each instance that is exported
 abbrev pub AllMayOpen : Arena → Contents → Type 0
-AllMayOpen a s = (r : ComponentTypeRef) → MayOpen a s.spaces.types r
+AllMayOpen a s = ((r : ComponentTypeRef) → MayOpen a s.spaces.types r) × ((e : ComponentExport) → ItemMayOpen a s.spaces.instances e)
 
 -- so of each component that stands in the innermost state
 abbrev pub LastMayInstantiate : Arena → List Contents → Type 0

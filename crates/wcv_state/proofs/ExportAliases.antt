@@ -27,7 +27,6 @@ use Rattle.wcv_types.specs.declared.shapes.ComponentEntityType.{ComponentEntityT
 use Rattle.wcv_types.specs.declared.shapes.ComponentEntityType.TheVariants as entity
 use Rattle.wcv_types.proofs.EntryParts.{entry_parts, exports_in-exports}
 use Rattle.wcv_types.proofs.Lists.{some-inj}
-use Rattle.wcv_types.proofs.Unfolding.{sort_stands}
 use Rattle.wcv_subtype.proofs.PassIds.{found_stands}
 use Rattle.wcv_lower.specs.Aliases.{sort_named, is_admitted, instance_at, export_of, joining, export_alias_step, named_checks, export_alias_checks}
 use Rattle.wcv_lower.specs.Checks.{Checks, Counts, Cause, IsFree, full, if_found, missing, no_room, same_sort}
@@ -37,11 +36,11 @@ use Rattle.wcv_lower.specs.Growth.{unbuilt}
 use Rattle.wcv_lower.specs.Readers.{if_sort, first_named}
 use Rattle.wcv_lower.specs.Step.{Step, apply, joins}
 use Rattle.wcv_lower.specs.Trees.{Tree_context, tree_reader}
-use Rattle.wcv_state.specs.Aliasing.{with_entity, is_kind, export_id, export_id_checks, ExportFinds, FindsAlone}
+use Rattle.wcv_state.specs.Aliasing.{with_entity, is_kind, export_id, export_id_checks, ExportFinds}
 use Rattle.wcv_state.specs.Contents.{Contents, kind_of, id_tree, context_of, stack_of, StateStands}
 use Rattle.wcv_state.specs.Entering.{room_counts}
 use Rattle.wcv_state.specs.Looking.{New_id, own_id, core_id, is_built_entity, enter_id}
-use Rattle.wcv_state.specs.Promises.{MemoryOrCausedBy, EntityAlone, Grew, Keeps}
+use Rattle.wcv_state.specs.Promises.{MemoryOrCausedBy, Grew, Keeps}
 use Rattle.wcv_state.proofs.Brought.{entity_sorted}
 use Rattle.wcv_state.proofs.Calls.{caused_more}
 use Rattle.wcv_state.proofs.CoreItems.{missing_mapped}
@@ -56,13 +55,13 @@ instances_full n = let e : nat_le max_instances (min n 18446744073709551615) ≡
 -- ## An entity joins its space
 
 module _ (a : Arena) (s : Contents) where
-  pub entity_keeps : StateStands a s → (x : ComponentEntityType) → is_built_entity x ≡ true → EntityStands a x → EntityAlone a x → Keeps a a s (with_entity x s)
-  entity_keeps h (entity.Module i) b p o = keeps_with_core a core_modules i s h p
-  entity_keeps h (entity.Func i) b p o = keeps_with_id a in_funcs i s h p tt
-  entity_keeps h (entity.Value v) b p o = absurd (false≢true b)
-  entity_keeps h (entity.Ty c r) b p o = keeps_with_id a in_types c s h (p.0, p.0) tt
-  entity_keeps h (entity.Instance i) b p o = keeps_with_id a in_instances i s h p (o refl)
-  entity_keeps h (entity.Component i) b p o = keeps_with_id a in_components i s h p tt
+  pub entity_keeps : StateStands a s → (x : ComponentEntityType) → is_built_entity x ≡ true → EntityStands a x → Keeps a a s (with_entity x s)
+  entity_keeps h (entity.Module i) b p = keeps_with_core a core_modules i s h p
+  entity_keeps h (entity.Func i) b p = keeps_with_id a in_funcs i s h p
+  entity_keeps h (entity.Value v) b p = absurd (false≢true b)
+  entity_keeps h (entity.Ty c r) b p = keeps_with_id a in_types c s h (p.0, p.0)
+  entity_keeps h (entity.Instance i) b p = keeps_with_id a in_instances i s h p
+  entity_keeps h (entity.Component i) b p = keeps_with_id a in_components i s h p
 
   entered_stack : (outer : List Tree_context) (n : New_id) → stack_of a (record s { spaces = enter_id (Some n) s.spaces }) outer ≡ apply (new_change (trees a.nodes) n ∷ []) (stack_of a s outer)
   entered_stack outer (own_id k x) = λ j. record { top = with_id_context a k x s j; outer = outer; groups = a.core }
@@ -145,15 +144,6 @@ module _ (a : Arena) (s : Contents) (h : StateStands a s) (w : ComponentExternal
       ap (λ (o : Option Type_tree). option_map (joining {X = tree_reader}) (option_and_then (if_sort tree_reader (sort_named w)) (option_and_then (export_of tree_reader n) o))) (instance_is f.instance f.at) ∙
       ap (λ (o : Option Type_tree). option_map (joining {X = tree_reader}) (option_and_then (if_sort tree_reader (sort_named w)) o)) f.export ∙
       ap (λ (b : Bool). option_map (joining {X = tree_reader}) (cond b (Some (tree a x)) None)) sorted
-
-  -- an instance that is found owns nothing
-  pub found_alone : FindsAlone a s (alias.InstanceExport w i n) → (x : ComponentEntityType) → ExportFinds a s.spaces w i n x → EntityAlone a x
-  found_alone alone (entity.Instance j) f = λ b. alone (tree_at a (part.Instance f.instance)) (tree_at a (part.Instance j)) (instance_is f.instance f.at) f.export (sort_stands a (part.Instance j) f.stands)
-  found_alone alone (entity.Module j) f = λ b. absurd (false≢true b)
-  found_alone alone (entity.Func j) f = λ b. absurd (false≢true b)
-  found_alone alone (entity.Value v) f = λ b. absurd (false≢true b)
-  found_alone alone (entity.Ty c r) f = λ b. absurd (false≢true b)
-  found_alone alone (entity.Component j) f = λ b. absurd (false≢true b)
 
   -- ## Causes
 

@@ -12,20 +12,20 @@ use Rattle.wcv_syntax.specs.declared.instance.ComponentOuterAliasKind.{Component
 use Rattle.wcv_syntax.specs.declared.instance.ComponentOuterAliasKind.TheVariants as outer_kind
 use Rattle.wcv_types.specs.Arena.{Arena}
 use Rattle.wcv_types.specs.Entities.{entity_tree, EntityStands}
-use Rattle.wcv_types.specs.Tree.{Text, is_instance, owned, sort}
+use Rattle.wcv_types.specs.Tree.{Text, sort}
 use Rattle.wcv_types.specs.Unfold.{Type_tree, trees, tree_at}
 use Rattle.wcv_types.specs.declared.ids.ComponentInstanceTypeId.{ComponentInstanceTypeId}
 use Rattle.wcv_types.specs.declared.ids.Part.TheVariants as part
 use Rattle.wcv_types.specs.declared.item_map.ComponentItem.{ComponentItem}
 use Rattle.wcv_types.specs.declared.shapes.ComponentEntityType.{ComponentEntityType}
 use Rattle.wcv_types.specs.declared.shapes.ComponentEntityType.TheVariants as entity
-use Rattle.wcv_lower.specs.Aliases.{sort_named, instance_at, export_of, is_charged, outer_admitted, outer_room, alias_step, alias_checks}
+use Rattle.wcv_lower.specs.Aliases.{sort_named, export_of, is_charged, outer_admitted, outer_room, alias_step, alias_checks}
 use Rattle.wcv_lower.specs.Checks.{Checks, IsFree, if_found, is_none, same_sort}
 use Rattle.wcv_lower.specs.Context.{core_types, is_concrete}
 use Rattle.wcv_lower.specs.CoreInstances.{test_found}
 use Rattle.wcv_lower.specs.Declared.{applied}
 use Rattle.wcv_lower.specs.Trees.{tree_reader}
-use Rattle.wcv_state.specs.Contents.{Contents, SpaceLists, CoreIdStands, core_tree, context_of, kind_of, with_core}
+use Rattle.wcv_state.specs.Contents.{Contents, SpaceLists, CoreIdStands, core_tree, kind_of, with_core}
 use Rattle.wcv_state.specs.Looking.{entity_sort, entered, is_built_entity}
 use Rattle.wcv_state.specs.Entering.{room_counts}
 use Rattle.wcv_state.specs.Promises.{if_built}
@@ -58,11 +58,6 @@ pub record ExportFinds (a : Arena) (s : SpaceLists) (w : ComponentExternalKind) 
   pub export : export_of tree_reader n (tree_at a (part.Instance instance)) ≡ Some (entity_tree (trees a.nodes) x)
   pub sort : is_kind w x ≡ true
   pub stands : EntityStands a x
-
--- an instance that is found as an export owns no resource
-abbrev pub FindsAlone : Arena → Contents → ComponentAlias → Type 0
-FindsAlone a s (alias.InstanceExport w i n) = (t u : Type_tree) → instance_at (context_of a s) i ≡ Some t → export_of tree_reader n t ≡ Some u → sort u ≡ is_instance → owned u ≡ []
-FindsAlone a s x = Unit {0}
 
 -- ## What stands further out
 

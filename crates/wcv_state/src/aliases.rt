@@ -18,7 +18,7 @@ ghost use Rattle.wcv_lower.specs.CoreInstances.{is_of as is_sort_of};
 ghost use Rattle.wcv_lower.specs.Growth.{call_checks};
 ghost use Rattle.wcv_lower.specs.Names.{Names};
 ghost use Rattle.wcv_lower.specs.Trees.{Tree_context, tree_maker};
-ghost use Rattle.wcv_state.specs.Aliasing.{is_outer, FindsAlone, AliasedOn};
+ghost use Rattle.wcv_state.specs.Aliasing.{is_outer, AliasedOn};
 ghost use Rattle.wcv_state.specs.Contents.{kind_of, context_of, stack_of, StateStands};
 ghost use Rattle.wcv_state.specs.Looking.{AliasFinds};
 ghost use Rattle.wcv_state.specs.Promises.{CausedBy, MemoryOrCausedBy, Keeps, Grew};
@@ -134,7 +134,6 @@ impl ComponentState {
         requires stands { StateStands types.now self.old }
         requires built { is_alias_built alias ≡ true }
         requires here { is_outer alias ≡ false }
-        requires alone { FindsAlone types.now self.old alias }
         ensures ok { OnOk result ((outer : List Tree_context) (p : Place) → Grew types.now types.now outer p self.old self.new (alias_item alias)) }
         ensures err { IfErr result (λ e. (outer : List Tree_context) (n : Names) (p : Place) → MemoryOrCausedBy (call_checks self.old.features (tree_maker n p) (stack_of types.now self.old outer) (alias_item alias)) offset e) }
         ensures keeps { Keeps types.now types.now self.old self.new }
@@ -170,7 +169,6 @@ impl ComponentState {
     ) -> Result<(), Error>
         requires some { 0 < length components.old }
         requires open { All (IsOpen types.old) components.old }
-        requires alone { FindsAlone types.old (innermost components.old) alias }
         ensures ok { OnOk result (AliasedOn types.old types.new components.old components.new alias) }
         ensures err { IfErr result (λ e. (p : Place) → RefusedOn types.old types.new p components.old components.new (alias_item alias) offset e) }
         ensures keeps { KeepsOn types.old types.new components.old components.new }
@@ -194,7 +192,6 @@ fn add_alias_on(
 ) -> Result<(), Error>
     requires some { 0 < length components.old }
     requires open { All (IsOpen types.now) components.old }
-    requires alone { FindsAlone types.now (innermost components.old) alias }
     ensures ok { OnOk result (AliasedOn types.now types.now components.old components.new alias) }
     ensures err { IfErr result (λ e. (n : Names) (p : Place) → MemoryOrCausedBy (call_checks (innermost components.old).features (tree_maker n p) (stack_on types.now (around components.old) (innermost components.old)) (alias_item alias)) offset e) }
     ensures last { OnErr result (ChangesLast stay components.old components.new) }

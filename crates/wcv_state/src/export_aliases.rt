@@ -17,7 +17,7 @@ ghost use Rattle.wcv_lower.specs.Growth.{call_checks};
 ghost use Rattle.wcv_lower.specs.Names.{Names};
 ghost use Rattle.wcv_lower.specs.Trees.{Tree_context, tree_maker};
 ghost use Rattle.wcv_state.specs.Aliasing as aliasing;
-ghost use Rattle.wcv_state.specs.Aliasing.{export_id, export_id_checks, ExportFinds, FindsAlone};
+ghost use Rattle.wcv_state.specs.Aliasing.{export_id, export_id_checks, ExportFinds};
 ghost use Rattle.wcv_state.specs.Contents.{kind_of, context_of, stack_of, StateStands};
 ghost use Rattle.wcv_state.specs.Entering.{room_counts};
 ghost use Rattle.wcv_state.specs.Inside.{lists};
@@ -240,7 +240,6 @@ impl ComponentState {
         requires live { self.old.spent ≡ false }
         requires stands { StateStands types.now self.old }
         requires built { is_built_sort kind ≡ true }
-        requires alone { FindsAlone types.now self.old (ComponentAlias.InstanceExport kind index name) }
         ensures ok { OnOk result ((outer : List Tree_context) (p : Place) → Grew types.now types.now outer p self.old self.new (alias_item (ComponentAlias.InstanceExport kind index name))) }
         ensures err { IfErr result (λ e. (outer : List Tree_context) (n : Names) (p : Place) → MemoryOrCausedBy (call_checks self.old.features (tree_maker n p) (stack_of types.now self.old outer) (alias_item (ComponentAlias.InstanceExport kind index name))) offset e) }
         ensures keeps { Keeps types.now types.now self.old self.new }

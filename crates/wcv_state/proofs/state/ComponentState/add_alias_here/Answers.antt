@@ -6,13 +6,9 @@ use Rattle.wcv_syntax.specs.declared.instance.ComponentAlias.{ComponentAlias}
 use Rattle.wcv_lower.specs.Growth.{call_checks}
 use Rattle.wcv_lower.specs.Names.{Names}
 use Rattle.wcv_lower.specs.Trees.{Tree_context, tree_maker}
-use Rattle.wcv_state.specs.Aliasing.{FindsAlone}
 use Rattle.wcv_state.specs.Contents.{stack_of}
 use Rattle.wcv_state.specs.Promises.{MemoryOrCausedBy}
 use Rattle.wcv_state.proofs.state.ComponentState.add_alias_here.Goals as goal
-
-pub add_export_alias-requires-clause-alone : goal.add_export_alias-requires-clause-alone
-add_export_alias-requires-clause-alone c = subst (FindsAlone c.args.types.now c.args.self.now) c.in-InstanceExport.is c.requires.alone
 
 pub returns-in-InstanceExport-clause-err : goal.returns-in-InstanceExport-clause-err
 returns-in-InstanceExport-clause-err c =

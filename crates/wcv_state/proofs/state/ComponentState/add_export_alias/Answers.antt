@@ -5,7 +5,7 @@ use Rattle.wcv_types.proofs.Grown.{extends_refl}
 use Rattle.wcv_lower.specs.Aliases.{export_alias_checks}
 use Rattle.wcv_state.specs.Contents.{context_of}
 use Rattle.wcv_state.specs.Promises.{Keeps}
-use Rattle.wcv_state.proofs.ExportAliases.{entity_keeps, export_grew, found_alone, kind_built}
+use Rattle.wcv_state.proofs.ExportAliases.{entity_keeps, export_grew, kind_built}
 use Rattle.wcv_state.proofs.Calls.{built_caused}
 use Rattle.wcv_state.proofs.Keeping.{keeps_grown, keeps_marked}
 use Rattle.wcv_state.proofs.state.ComponentState.add_export_alias.Goals as goal
@@ -33,5 +33,4 @@ returns-clause-ok c =
 pub returns-clause-keeps : goal.returns-clause-keeps
 returns-clause-keeps c =
     subst (Keeps c.args.types.now c.args.types.now c.args.self.now) (sym c.in_ok-push_entity.ensures.ok)
-    (entity_keeps c.args.types.now c.args.self.now c.requires.stands c.in_ok-item.item (kind_built c.args.kind c.in_ok-item.item c.requires.built c.in_ok-item.ensures.ok.sort) c.in_ok-item.ensures.ok.stands
-    (found_alone c.args.types.now c.args.self.now c.requires.stands c.args.kind c.args.index c.args.name c.requires.alone c.in_ok-item.item c.in_ok-item.ensures.ok))
+    (entity_keeps c.args.types.now c.args.self.now c.requires.stands c.in_ok-item.item (kind_built c.args.kind c.in_ok-item.item c.requires.built c.in_ok-item.ensures.ok.sort) c.in_ok-item.ensures.ok.stands)
