@@ -21,6 +21,7 @@ pub mod PassSteps
 pub mod Extents
 pub mod ExtentSizes
 pub mod PassIds
+pub mod Comparing
 pub mod ComponentIds
 pub mod Exporting
 pub mod OwnPaths

@@ -5,6 +5,7 @@ pub mod Entities
 pub mod Readings
 pub mod SeenValues
 pub mod IdPasses
+pub mod Compared
 pub mod IdCounterparts
 pub mod Openings
 pub mod OwnResources

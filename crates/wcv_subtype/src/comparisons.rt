@@ -12,6 +12,7 @@ ghost use Rattle.wcv_matching.specs.TableMatching.{TypeMatches};
 ghost use Rattle.wcv_subtype.specs.Extent.{entries_extent, extent};
 ghost use Rattle.wcv_subtype.specs.IdPasses.{named_trees};
 
+use crate::compared::Compared;
 use crate::own_resources::{opened_atoms, owned_atoms};
 use crate::passes::entity_passes;
 use crate::readings::Readings;
@@ -107,11 +108,22 @@ fn first_unfit<L: Ledger>(
     ensures counted { steps.new ≤ steps.old + (entries_extent (named_trees (trees types.now.nodes) a.now) + entries_extent (named_trees (trees types.now.nodes) b.now)) }
 {
     let by_name = a.by_name(types.allocator())?;
+    let mut compared = Compared::new(types.allocator());
     for k in 0..b.len() {
         if let Some(entry) = b.get_index(k) {
             match by_name.get(&entry.0) {
                 Some(item) => {
-                    if !entity_passes(types, false, left, right, 1, item.ty, entry.1.ty, steps)? {
+                    if !entity_passes(
+                        types,
+                        false,
+                        &mut compared,
+                        left,
+                        right,
+                        1,
+                        item.ty,
+                        entry.1.ty,
+                        steps,
+                    )? {
                         return Err(unfit_entry(role, &entry.0, Some(item.ty), &entry.1.ty, offset));
                     }
                 }
@@ -228,7 +240,18 @@ fn entity_matches<L: Ledger>(
     let _count = types.core_types().len();
     let mut left = Readings::new(types.allocator());
     let mut right = Readings::new(types.allocator());
-    entity_passes(types, false, &mut left, &mut right, 0, *a, *b, steps)
+    let mut compared = Compared::new(types.allocator());
+    entity_passes(
+        types,
+        false,
+        &mut compared,
+        &mut left,
+        &mut right,
+        0,
+        *a,
+        *b,
+        steps,
+    )
 }
 
 /// Whether the one may stand where the other is expected. It takes at most as many steps as both types are large, one for

@@ -2,6 +2,7 @@
 //! something in them.
 #![tactic(auto)]
 
+mod compared;
 mod comparisons;
 mod counterparts;
 mod entity;

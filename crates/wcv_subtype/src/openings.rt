@@ -15,11 +15,13 @@ ghost use Rattle.wcv_matching.specs.NamedPaths.{entry};
 ghost use Rattle.wcv_matching.specs.OnePass.{each_passes, found_in, given, match_pass};
 ghost use Rattle.wcv_matching.specs.Refusals.{MemoryOrMismatch};
 ghost use Rattle.wcv_matching.specs.TableMatching.{Opens};
+ghost use Rattle.wcv_subtype.specs.Compared.{ArePassed};
 ghost use Rattle.wcv_subtype.specs.Extent.{entries_extent, extent, found_extent, matched_extent, opening_extent};
 ghost use Rattle.wcv_subtype.specs.IdPasses.{named_trees};
 ghost use Rattle.wcv_subtype.specs.Openings.{named_args, ArgumentStands, Fits, Gives, IsOpening};
 ghost use Rattle.wcv_subtype.specs.Readings.{atoms_of, reads, resource_name};
 
+use crate::compared::Compared;
 use crate::comparisons::sort_name;
 use crate::counterparts::{Exports, counterparts};
 use crate::giving::give;
@@ -145,6 +147,7 @@ fn unfit_argument(
 fn argument_for<L: Ledger>(
     types: &TypeAlloc,
     args: &ByName<'_, ComponentItem>,
+    compared: &mut Compared,
     right: &mut Readings,
     import: &(Text, ComponentItem),
     offset: u64,
@@ -152,8 +155,10 @@ fn argument_for<L: Ledger>(
 ) -> Result<ComponentEntityType, Error>
     requires args { All (EntryStands types.now) args.now }
     requires import { EntryStands types.now import.now }
+    requires compared { ArePassed types.now given (reads right.old) compared.old }
     ensures fits { IfOk result (Fits types.now (reads right.old) (named_trees (trees types.now.nodes) args.now) import.now) }
     ensures right { OnOk result (reads right.new ≡ reads right.old) }
+    ensures compared { OnOk result (ArePassed types.now given (reads right.old) compared.new) }
     ensures err { IfErr result (MemoryOrMismatch offset (found_in (match_pass (id_tests types.now.core) 0 given (reads right.old)) (named_trees (trees types.now.nodes) args.now) (import.now.0, entity_tree (trees types.now.nodes) import.now.1.ty) ≡ true)) }
     ensures counted { steps.new ≤ steps.old + (found_extent (named_trees (trees types.now.nodes) args.now) import.now.0 + extent (entity_tree (trees types.now.nodes) import.now.1.ty)) }
 {
@@ -163,6 +168,7 @@ fn argument_for<L: Ledger>(
             if entity_passes(
                 types,
                 false,
+                compared,
                 &mut left,
                 right,
                 0,
@@ -201,10 +207,19 @@ fn open_imports<L: Ledger>(
 {
     let by_name = args.by_name(types.allocator())?;
     let mut seen = Exports::new(types.allocator());
+    let mut compared = Compared::new(types.allocator());
     for k in 0..imports.len() {
         match imports.get_index(k) {
             Some(import) => {
-                let argument = argument_for(types, &by_name, right, import, offset, steps)?;
+                let argument = argument_for(
+                    types,
+                    &by_name,
+                    &mut compared,
+                    right,
+                    import,
+                    offset,
+                    steps,
+                )?;
                 give(types, &mut seen, argument, import.1.ty, opening, steps)?;
             }
             None => unreachable!(),

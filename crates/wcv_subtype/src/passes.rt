@@ -10,11 +10,14 @@ ghost use Rattle.wcv_types.specs.Unfold.{tree_at, trees};
 ghost use Rattle.wcv_types.specs.Sets.{has_resource, resource_names};
 ghost use Rattle.wcv_types.specs.declared.ids.Part.TheVariants as p;
 ghost use Rattle.wcv_matching.specs.AtomTests.{id_tests};
+ghost use Rattle.wcv_subtype.specs.Compared.{ArePassed, PassedIf};
 ghost use Rattle.wcv_subtype.specs.Extent.{entries_extent, extent};
 ghost use Rattle.wcv_subtype.specs.IdPasses.{Answers, AnswersEntries, AnswersTypes, StaysIf, same_resource, as_entity, as_resource, modules_pass, named_trees, OwnsBy};
-ghost use Rattle.wcv_matching.specs.OnePass.{owned_in, same_members};
+ghost use Rattle.wcv_matching.specs.Matching.{Reading};
+ghost use Rattle.wcv_matching.specs.OnePass.{Atom, owned_in, same_members};
 ghost use Rattle.wcv_subtype.specs.Readings.{atoms_of, over, read_by, reads};
 
+use crate::compared::Compared;
 use crate::own_resources::{opened_atoms, owned_atoms, paired_atoms};
 use crate::readings::{Readings, ResourceAtom};
 use crate::values::{same_func, same_value};
@@ -191,6 +194,7 @@ fn same_resource(
 fn entries_pass<L: Ledger>(
     types: &TypeAlloc,
     exact: bool,
+    compared: &mut Compared,
     left: &mut Readings,
     right: &mut Readings,
     level: u64,
@@ -201,9 +205,11 @@ fn entries_pass<L: Ledger>(
     requires a { All (EntryStands types.now) a.now }
     requires b { All (EntryStands types.now) b.now }
     requires apart { NamesDiffer b.now }
+    requires compared { ArePassed types.now (reads left.old) (reads right.old) compared.old }
     ensures answers { IfOk result (AnswersEntries types.now.core exact level (reads left.old) (reads right.old) (named_trees (trees types.now.nodes) a.now) (named_trees (trees types.now.nodes) b.now)) }
     ensures left { IfOk result (λ passes. StaysIf passes (reads left.old) (reads left.new)) }
     ensures right { IfOk result (λ passes. StaysIf passes (reads right.old) (reads right.new)) }
+    ensures compared { IfOk result (λ passes. PassedIf passes types.now (reads left.old) (reads right.old) compared.new) }
     ensures counted { steps.new ≤ steps.old + (entries_extent (named_trees (trees types.now.nodes) a.now) + entries_extent (named_trees (trees types.now.nodes) b.now)) }
 {
     if !names_fit(types.allocator(), exact, a, b)? {
@@ -215,7 +221,7 @@ fn entries_pass<L: Ledger>(
             match by_name.get(&entry.0) {
                 Some(item) => {
                     if !entity_passes(
-                        types, exact, left, right, level, item.ty, entry.1.ty, steps,
+                        types, exact, compared, left, right, level, item.ty, entry.1.ty, steps,
                     )? {
                         return Ok(false);
                     }
@@ -228,11 +234,12 @@ fn entries_pass<L: Ledger>(
 }
 
 /// Whether the one entity passes with the other: whether they are the same where that is asked, or else whether the
-/// one may stand where the other is expected.
+/// one may stand where the other is expected. A pair that is known to pass is not compared again.
 #[cycle(passing)]
 pub(crate) fn entity_passes<L: Ledger>(
     types: &TypeAlloc,
     exact: bool,
+    compared: &mut Compared,
     left: &mut Readings,
     right: &mut Readings,
     level: u64,
@@ -242,9 +249,43 @@ pub(crate) fn entity_passes<L: Ledger>(
 ) -> Result<bool, OutOfMemory>
     requires a { EntityStands types.now a }
     requires b { EntityStands types.now b }
+    requires compared { ArePassed types.now (reads left.old) (reads right.old) compared.old }
     ensures answers { IfOk result (Answers types.now.core exact level (reads left.old) (reads right.old) (entity_tree (trees types.now.nodes) a) (entity_tree (trees types.now.nodes) b)) }
     ensures left { IfOk result (λ passes. StaysIf passes (reads left.old) (reads left.new)) }
     ensures right { IfOk result (λ passes. StaysIf passes (reads right.old) (reads right.new)) }
+    ensures compared { IfOk result (λ passes. PassedIf passes types.now (reads left.old) (reads right.old) compared.new) }
+    ensures counted { steps.new ≤ steps.old + (extent (entity_tree (trees types.now.nodes) a) + extent (entity_tree (trees types.now.nodes) b)) }
+{
+    if compared.knows(exact, level, a, b) {
+        return Ok(true);
+    }
+    if !entity_compared(types, exact, compared, left, right, level, a, b, steps)? {
+        return Ok(false);
+    }
+    compared.keep(exact, level, a, b)?;
+    Ok(true)
+}
+
+/// The same of a pair that is not known.
+#[cycle(passing)]
+fn entity_compared<L: Ledger>(
+    types: &TypeAlloc,
+    exact: bool,
+    compared: &mut Compared,
+    left: &mut Readings,
+    right: &mut Readings,
+    level: u64,
+    a: ComponentEntityType,
+    b: ComponentEntityType,
+    steps: &mut Steps<L>,
+) -> Result<bool, OutOfMemory>
+    requires a { EntityStands types.now a }
+    requires b { EntityStands types.now b }
+    requires compared { ArePassed types.now (reads left.old) (reads right.old) compared.old }
+    ensures answers { IfOk result (Answers types.now.core exact level (reads left.old) (reads right.old) (entity_tree (trees types.now.nodes) a) (entity_tree (trees types.now.nodes) b)) }
+    ensures left { IfOk result (λ passes. StaysIf passes (reads left.old) (reads left.new)) }
+    ensures right { IfOk result (λ passes. StaysIf passes (reads right.old) (reads right.new)) }
+    ensures compared { IfOk result (λ passes. PassedIf passes types.now (reads left.old) (reads right.old) compared.new) }
     ensures counted { steps.new ≤ steps.old + (extent (entity_tree (trees types.now.nodes) a) + extent (entity_tree (trees types.now.nodes) b)) }
 {
     match a {
@@ -264,19 +305,19 @@ pub(crate) fn entity_passes<L: Ledger>(
         },
         ComponentEntityType::Ty { referenced: x, .. } => match b {
             ComponentEntityType::Ty { referenced: y, .. } => {
-                types_pass(types, left, right, level, x, y, steps)
+                types_pass(types, compared, left, right, level, x, y, steps)
             }
             _ => Ok(false),
         },
         ComponentEntityType::Instance(x) => match b {
             ComponentEntityType::Instance(y) => {
-                instances_pass(types, exact, left, right, level, x, y, steps)
+                instances_pass(types, exact, compared, left, right, level, x, y, steps)
             }
             _ => Ok(false),
         },
         ComponentEntityType::Component(x) => match b {
             ComponentEntityType::Component(y) => {
-                components_pass(types, exact, left, right, level, x, y, steps)
+                components_pass(types, exact, compared, left, right, level, x, y, steps)
             }
             _ => Ok(false),
         },
@@ -287,6 +328,7 @@ pub(crate) fn entity_passes<L: Ledger>(
 #[cycle(passing)]
 fn types_pass<L: Ledger>(
     types: &TypeAlloc,
+    compared: &mut Compared,
     left: &mut Readings,
     right: &mut Readings,
     level: u64,
@@ -296,15 +338,17 @@ fn types_pass<L: Ledger>(
 ) -> Result<bool, OutOfMemory>
     requires a { Stands types.now (any_part a) }
     requires b { Stands types.now (any_part b) }
+    requires compared { ArePassed types.now (reads left.old) (reads right.old) compared.old }
     ensures answers { IfOk result (AnswersTypes types.now.core level (reads left.old) (reads right.old) (tree_at types.now (any_part a)) (tree_at types.now (any_part b))) }
     ensures left { IfOk result (λ passes. StaysIf passes (reads left.old) (reads left.new)) }
     ensures right { IfOk result (λ passes. StaysIf passes (reads right.old) (reads right.new)) }
+    ensures compared { IfOk result (λ passes. PassedIf passes types.now (reads left.old) (reads right.old) compared.new) }
     ensures counted { steps.new ≤ steps.old + (extent (tree_at types.now (any_part a)) + extent (tree_at types.now (any_part b))) }
 {
     match as_entity(a) {
         Some(x) => match as_entity(b) {
             Some(y) => {
-                let same = entity_passes(types, true, left, right, level, x, y, steps)?;
+                let same = entity_passes(types, true, compared, left, right, level, x, y, steps)?;
                 Ok(same && same_owned(types, a, b))
             }
             None => Ok(false),
@@ -318,6 +362,7 @@ fn types_pass<L: Ledger>(
 fn instances_pass<L: Ledger>(
     types: &TypeAlloc,
     exact: bool,
+    compared: &mut Compared,
     left: &mut Readings,
     right: &mut Readings,
     level: u64,
@@ -327,9 +372,11 @@ fn instances_pass<L: Ledger>(
 ) -> Result<bool, OutOfMemory>
     requires a { Stands types.now (p.Instance a) }
     requires b { Stands types.now (p.Instance b) }
+    requires compared { ArePassed types.now (reads left.old) (reads right.old) compared.old }
     ensures answers { IfOk result (Answers types.now.core exact level (reads left.old) (reads right.old) (tree_at types.now (p.Instance a)) (tree_at types.now (p.Instance b))) }
     ensures left { IfOk result (λ passes. StaysIf passes (reads left.old) (reads left.new)) }
     ensures right { IfOk result (λ passes. StaysIf passes (reads right.old) (reads right.new)) }
+    ensures compared { IfOk result (λ passes. PassedIf passes types.now (reads left.old) (reads right.old) compared.new) }
     ensures counted { steps.new ≤ steps.old + (extent (tree_at types.now (p.Instance a)) + extent (tree_at types.now (p.Instance b))) }
 {
     let deeper = match level.checked_add(1) {
@@ -342,13 +389,64 @@ fn instances_pass<L: Ledger>(
     let own_left = owned_atoms(alloc, level, &x.defined_resources)?;
     let own_right = owned_atoms(alloc, level, &y.defined_resources)?;
     entries_pass_under(
-        types, exact, left, right, deeper, &own_left, &own_right, &x.exports, &y.exports, steps,
+        types, exact, compared, left, right, deeper, &own_left, &own_right, &x.exports, &y.exports,
+        steps,
     )
+}
+
+/// Whether no resource is read otherwise than before.
+fn own_nothing(
+    own_left: &[(ResourceId, ResourceAtom)],
+    own_right: &[(ResourceId, ResourceAtom)],
+) -> bool
+    ensures { result ≡ true → ((f : Reading Atom) → over (atoms_of own_left.now) f ≡ f) × ((g : Reading Atom) → over (atoms_of own_right.now) g ≡ g) }
+{
+    if own_left.len() != 0 {
+        return false;
+    }
+    if own_right.len() != 0 {
+        return false;
+    }
+    true
 }
 
 /// Whether the entries pass, where each side reads its own resources as these atoms.
 #[cycle(passing)]
 fn entries_pass_under<L: Ledger>(
+    types: &TypeAlloc,
+    exact: bool,
+    compared: &mut Compared,
+    left: &mut Readings,
+    right: &mut Readings,
+    level: u64,
+    own_left: &[(ResourceId, ResourceAtom)],
+    own_right: &[(ResourceId, ResourceAtom)],
+    a: &ItemMap,
+    b: &ItemMap,
+    steps: &mut Steps<L>,
+) -> Result<bool, OutOfMemory>
+    requires a { All (EntryStands types.now) a.now }
+    requires b { All (EntryStands types.now) b.now }
+    requires apart { NamesDiffer b.now }
+    requires compared { ArePassed types.now (reads left.old) (reads right.old) compared.old }
+    ensures answers { IfOk result (AnswersEntries types.now.core exact level (over (atoms_of own_left.now) (reads left.old)) (over (atoms_of own_right.now) (reads right.old)) (named_trees (trees types.now.nodes) a.now) (named_trees (trees types.now.nodes) b.now)) }
+    ensures left { IfOk result (λ passes. StaysIf passes (reads left.old) (reads left.new)) }
+    ensures right { IfOk result (λ passes. StaysIf passes (reads right.old) (reads right.new)) }
+    ensures compared { IfOk result (λ passes. PassedIf passes types.now (reads left.old) (reads right.old) compared.new) }
+    ensures counted { steps.new ≤ steps.old + (entries_extent (named_trees (trees types.now.nodes) a.now) + entries_extent (named_trees (trees types.now.nodes) b.now)) }
+{
+    if own_nothing(own_left, own_right) {
+        entries_pass(types, exact, compared, left, right, level, a, b, steps)
+    } else {
+        entries_pass_in_scope(
+            types, exact, left, right, level, own_left, own_right, a, b, steps,
+        )
+    }
+}
+
+/// The same where some are read otherwise than before: what is known of pairs is of no use there.
+#[cycle(passing)]
+fn entries_pass_in_scope<L: Ledger>(
     types: &TypeAlloc,
     exact: bool,
     left: &mut Readings,
@@ -369,9 +467,10 @@ fn entries_pass_under<L: Ledger>(
     ensures counted { steps.new ≤ steps.old + (entries_extent (named_trees (trees types.now.nodes) a.now) + entries_extent (named_trees (trees types.now.nodes) b.now)) }
 {
     let alloc = types.allocator();
+    let mut compared = Compared::new(alloc);
     let kept_left = left.enter_keeping(alloc, own_left)?;
     let kept_right = right.enter_keeping(alloc, own_right)?;
-    if !entries_pass(types, exact, left, right, level, a, b, steps)? {
+    if !entries_pass(types, exact, &mut compared, left, right, level, a, b, steps)? {
         return Ok(false);
     }
     left.enter(&kept_left)?;
@@ -384,6 +483,7 @@ fn entries_pass_under<L: Ledger>(
 #[cycle(passing)]
 fn same_components<L: Ledger>(
     types: &TypeAlloc,
+    compared: &mut Compared,
     left: &mut Readings,
     right: &mut Readings,
     level: u64,
@@ -393,9 +493,11 @@ fn same_components<L: Ledger>(
 ) -> Result<bool, OutOfMemory>
     requires a { Stands types.now (p.Component a) }
     requires b { Stands types.now (p.Component b) }
+    requires compared { ArePassed types.now (reads left.old) (reads right.old) compared.old }
     ensures answers { IfOk result (Answers types.now.core true level (reads left.old) (reads right.old) (tree_at types.now (p.Component a)) (tree_at types.now (p.Component b))) }
     ensures left { IfOk result (λ passes. StaysIf passes (reads left.old) (reads left.new)) }
     ensures right { IfOk result (λ passes. StaysIf passes (reads right.old) (reads right.new)) }
+    ensures compared { IfOk result (λ passes. PassedIf passes types.now (reads left.old) (reads right.old) compared.new) }
     ensures counted { steps.new ≤ steps.old + (extent (tree_at types.now (p.Component a)) + extent (tree_at types.now (p.Component b))) }
 {
     let deeper = match level.checked_add(1) {
@@ -409,13 +511,15 @@ fn same_components<L: Ledger>(
         None => return Ok(false),
     };
     if !entries_pass_under(
-        types, true, left, right, deeper, &own.left, &own.right, &x.imports, &y.imports, steps,
+        types, true, compared, left, right, deeper, &own.left, &own.right, &x.imports, &y.imports,
+        steps,
     )? {
         return Ok(false);
     }
     entries_pass_under(
         types,
         true,
+        compared,
         left,
         right,
         deeper,
@@ -432,6 +536,7 @@ fn same_components<L: Ledger>(
 #[cycle(passing)]
 fn component_matches<L: Ledger>(
     types: &TypeAlloc,
+    compared: &mut Compared,
     left: &mut Readings,
     right: &mut Readings,
     level: u64,
@@ -441,9 +546,11 @@ fn component_matches<L: Ledger>(
 ) -> Result<bool, OutOfMemory>
     requires a { Stands types.now (p.Component a) }
     requires b { Stands types.now (p.Component b) }
+    requires compared { ArePassed types.now (reads left.old) (reads right.old) compared.old }
     ensures answers { IfOk result (Answers types.now.core false level (reads left.old) (reads right.old) (tree_at types.now (p.Component a)) (tree_at types.now (p.Component b))) }
     ensures left { IfOk result (λ passes. StaysIf passes (reads left.old) (reads left.new)) }
     ensures right { IfOk result (λ passes. StaysIf passes (reads right.old) (reads right.new)) }
+    ensures compared { IfOk result (λ passes. PassedIf passes types.now (reads left.old) (reads right.old) compared.new) }
     ensures counted { steps.new ≤ steps.old + (extent (tree_at types.now (p.Component a)) + extent (tree_at types.now (p.Component b))) }
 {
     let deeper = match level.checked_add(1) {
@@ -456,14 +563,18 @@ fn component_matches<L: Ledger>(
         Some(own) => own,
         None => return Ok(false),
     };
+    compared.flip();
     if !entries_pass_under(
-        types, false, right, left, deeper, &own.right, &own.left, &y.imports, &x.imports, steps,
+        types, false, compared, right, left, deeper, &own.right, &own.left, &y.imports, &x.imports,
+        steps,
     )? {
         return Ok(false);
     }
+    compared.flip();
     entries_pass_under(
         types,
         false,
+        compared,
         left,
         right,
         deeper,
@@ -480,6 +591,7 @@ fn component_matches<L: Ledger>(
 fn components_pass<L: Ledger>(
     types: &TypeAlloc,
     exact: bool,
+    compared: &mut Compared,
     left: &mut Readings,
     right: &mut Readings,
     level: u64,
@@ -489,14 +601,16 @@ fn components_pass<L: Ledger>(
 ) -> Result<bool, OutOfMemory>
     requires a { Stands types.now (p.Component a) }
     requires b { Stands types.now (p.Component b) }
+    requires compared { ArePassed types.now (reads left.old) (reads right.old) compared.old }
     ensures answers { IfOk result (Answers types.now.core exact level (reads left.old) (reads right.old) (tree_at types.now (p.Component a)) (tree_at types.now (p.Component b))) }
     ensures left { IfOk result (λ passes. StaysIf passes (reads left.old) (reads left.new)) }
     ensures right { IfOk result (λ passes. StaysIf passes (reads right.old) (reads right.new)) }
+    ensures compared { IfOk result (λ passes. PassedIf passes types.now (reads left.old) (reads right.old) compared.new) }
     ensures counted { steps.new ≤ steps.old + (extent (tree_at types.now (p.Component a)) + extent (tree_at types.now (p.Component b))) }
 {
     if exact {
-        same_components(types, left, right, level, a, b, steps)
+        same_components(types, compared, left, right, level, a, b, steps)
     } else {
-        component_matches(types, left, right, level, a, b, steps)
+        component_matches(types, compared, left, right, level, a, b, steps)
     }
 }

@@ -18,3 +18,6 @@ returns-clause-matches g c =
     (λ matches m. entities_decided c.args.types.now c.nodes_fit.ensures.all table c.args.a.now c.args.b.now c.requires.a c.requires.b matches
     (answers_at c.args.types.now.core false 0 (reads c.new-left.result) (reads c.new-right.result) given given x y x y c.new-left.ensures c.new-right.ensures refl refl m))
     c.entity_passes.ensures.answers
+
+pub entity_passes-requires-clause-compared : goal.entity_passes-requires-clause-compared
+entity_passes-requires-clause-compared g c = c.new-compared.ensures c.args.types.now (reads c.new-left.result) (reads c.new-right.result)

@@ -1,7 +1,9 @@
-use Rattle.std.proofs.Common.{arith, true, false, sym, inr}
+use Rattle.std.proofs.Common.{arith, true, false, refl, sym, inr}
 use Rattle.wcv_types.specs.Entities.{entity_tree}
 use Rattle.wcv_types.specs.Unfold.{trees}
 use Rattle.wcv_subtype.specs.Readings.{reads}
+use Rattle.wcv_matching.specs.OnePass.{given}
+use Rattle.wcv_subtype.proofs.Comparing.{passed_as}
 use Rattle.wcv_subtype.proofs.Extents.{found_is}
 use Rattle.wcv_subtype.proofs.Opening.{absent, fits, told, unfit}
 use Rattle.wcv_subtype.proofs.PassIds.{answers_are, found_stands}
@@ -9,6 +11,12 @@ use Rattle.wcv_subtype.proofs.openings.argument_for.Goals as goal
 
 pub entity_passes-requires-clause-a : goal.entity_passes-requires-clause-a
 entity_passes-requires-clause-a g c = found_stands c.args.types.now c.args.args.now c.args.import.now.0 c.in-Some.item.now c.requires.args (sym c.in-Some.ensures)
+
+pub entity_passes-requires-clause-compared : goal.entity_passes-requires-clause-compared
+entity_passes-requires-clause-compared g c = passed_as c.args.types.now given (reads c.args.right.now) _ _ _ _ c.new-left.ensures refl refl c.requires.compared
+
+pub returns-then-branch-clause-compared : goal.returns-then-branch-clause-compared
+returns-then-branch-clause-compared g c = passed_as c.args.types.now (reads c.new-left.result) (reads c.args.right.now) _ _ _ _ (sym c.new-left.ensures) refl refl (c.in_ok-entity_passes-in-Some.ensures.compared c.if-branch.true)
 
 pub returns-then-branch-clause-fits : goal.returns-then-branch-clause-fits
 returns-then-branch-clause-fits g c =

@@ -4,6 +4,7 @@ use Rattle.wcv_types.specs.Unfold.{trees}
 use Rattle.wcv_matching.specs.AtomTests.{id_tests}
 use Rattle.wcv_matching.specs.GivenTypes.{given_for}
 use Rattle.wcv_matching.specs.OnePass.{found_in, given, match_pass}
+use Rattle.wcv_subtype.specs.Compared.{ArePassed}
 use Rattle.wcv_subtype.specs.Extent.{entries_extent, matched_extent}
 use Rattle.wcv_subtype.specs.IdCounterparts.{AreExports}
 use Rattle.wcv_subtype.specs.IdPasses.{named_trees}
@@ -17,6 +18,7 @@ invariant-loop-k g l = record {
   left : list_all (found_in (match_pass (id_tests l.types.core) 0 given (reads l.fn.right)) (named_trees (trees l.types.nodes) l.args)) (named_trees (trees l.types.nodes) l.imports) ≡
       list_all (found_in (match_pass (id_tests l.types.core) 0 given (reads l.fn.right)) (named_trees (trees l.types.nodes) l.args)) (drop l.k (named_trees (trees l.types.nodes) l.imports));
   right : reads l.right ≡ reads l.fn.right;
+  compared : ArePassed l.types given (reads l.right) l.compared;
   seen : AreExports l.types l.seen.maps;
   resources : l.opening.resources ≡ l.fn.opening.resources;
   gives : Gives l.types (given_for (named_trees (trees l.types.nodes) l.args) (take l.k (named_trees (trees l.types.nodes) l.imports))) l.opening;
