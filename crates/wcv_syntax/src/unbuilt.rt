@@ -133,7 +133,7 @@ fn write_component_decl<W: fmt::Write>(
     match decl {
         ComponentTypeDeclaration::CoreType(_) => f.write_str("this core type is not built yet"),
         ComponentTypeDeclaration::Ty(ty) => write_type(f, ty),
-        ComponentTypeDeclaration::Alias(_) => f.write_str("aliases are not built yet"),
+        ComponentTypeDeclaration::Alias(alias) => write!(f, "{}", AliasForm(alias)),
         ComponentTypeDeclaration::Export { ty, .. } => write_entry(f, "exports", ref_word(ty)),
         ComponentTypeDeclaration::Import(import) => {
             write_entry(f, "imports", ref_word(&import.ty))
@@ -150,7 +150,7 @@ fn write_instance_decl<W: fmt::Write>(
     match decl {
         InstanceTypeDeclaration::CoreType(_) => f.write_str("this core type is not built yet"),
         InstanceTypeDeclaration::Ty(ty) => write_type(f, ty),
-        InstanceTypeDeclaration::Alias(_) => f.write_str("aliases are not built yet"),
+        InstanceTypeDeclaration::Alias(alias) => write!(f, "{}", AliasForm(alias)),
         InstanceTypeDeclaration::Export { ty, .. } => write_entry(f, "exports", ref_word(ty)),
     }
 }
@@ -207,11 +207,8 @@ impl fmt::Display for InstanceForm<'_> {
 impl fmt::Display for AliasForm<'_> {
     fn fmt<W: fmt::Write>(&self, f: &mut fmt::Formatter<W>) -> fmt::Result {
         f.write_str(match self.0 {
-            ComponentAlias::InstanceExport { .. } => {
-                "aliases of exports of instances are not built yet"
-            }
-            ComponentAlias::CoreInstanceExport { .. } => "this alias is not built yet",
-            ComponentAlias::Outer { .. } => "outer aliases are not built yet",
+            ComponentAlias::InstanceExport { .. } => "aliases of values are not built yet",
+            _ => "this alias is not built yet",
         })
     }
 }
