@@ -218,7 +218,7 @@ module _ {P : Type_tree → Type 0} {In : Parts Name Name → Type 0} (law : Inh
       exported_as_has kind.Module x w = bare_of x w
       exported_as_has kind.Func x w = bare_of x w
       exported_as_has kind.Value x w = bare_of x w
-      exported_as_has kind.Instance x w = bare_of x w
+      exported_as_has kind.Instance x w = instance_of_has x w
       exported_as_has kind.Component x w = bare_of x w
 
       exported_by_has : (e : ComponentExport) (o : Option ComponentTypeRef) → OfAny BroughtOf (exported_by mk c e o)

@@ -8,7 +8,7 @@ use Rattle.wcv_core.specs.CoreForm.{Group}
 use Rattle.wcv_core.specs.Names.{Name, number, stamp, base, at, stamped, aside}
 use Rattle.wcv_types.specs.Unfold.{Type_tree}
 use Rattle.wcv_types.proofs.Lists.{some-inj}
-use Rattle.wcv_lower.specs.Context.{Kind, at_distance, empty, type_at}
+use Rattle.wcv_lower.specs.Context.{Kind, in_instances, at_distance, empty, type_at}
 use Rattle.wcv_lower.specs.Declared.{inside, stack_of, around}
 use Rattle.wcv_lower.specs.Even.{IsBalanced}
 use Rattle.wcv_lower.specs.Given.{Numbers, AtMost}
@@ -16,7 +16,7 @@ use Rattle.wcv_lower.specs.Owned.{OwnsNot, OwnsApart, OwnApart, AllEntries, Ever
 use Rattle.wcv_lower.specs.Step.{Step, apply}
 use Rattle.wcv_lower.specs.Trees.{tree_reader, Tree_context, Tree_stack}
 use Rattle.wcv_lower.proofs.Applied.{applied_has, StoodAt, applied_own}
-use Rattle.wcv_lower.proofs.Bringing.{AllBring, of_some, type_has}
+use Rattle.wcv_lower.proofs.Bringing.{AllBring, of_some, any_at, type_has}
 use Rattle.wcv_lower.proofs.Members.{all_member, all_from_members}
 use Rattle.wcv_lower.proofs.Owning.{apart_outside, own_apart_inherited}
 
@@ -51,6 +51,10 @@ module _ (a : Numbers) (s : Tree_stack) (h : IsCalm a s) where
 
   pub calm_opens : (k : ℕ) (t : Type_tree) → type_at s.top k ≡ Some t → OwnsApart t
   calm_opens k t e = apart_outside t (of_some OwnApart (type_at s.top k) t (type_has own_apart_inherited (λ r. ⊥) s.top (h.apart zero s.top refl) k) e)
+
+  -- so of an instance that stands there
+  pub calm_instance : (k : ℕ) (t : Type_tree) → slice_get (s.top.space in_instances) k ≡ Some t → OwnsApart t
+  calm_instance k t e = apart_outside t (of_some OwnApart (slice_get (s.top.space in_instances) k) t (any_at OwnApart (s.top.space in_instances) k ((h.apart zero s.top refl).space in_instances)) e)
 
 -- ## More is given
 

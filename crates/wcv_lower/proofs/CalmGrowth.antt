@@ -1,7 +1,6 @@
 -- A stack stays calm where an item or a declaration grows it.
 use Rattle.std.proofs.Common.{◌≡◌, ℕ, zero, [], ◌∷◌, refl, sym, subst, Bool, true, false, cond, Some, None}
 use Rattle.std.specs.Prelude.{Option}
-use Rattle.std.specs.Option.{option_map}
 use Rattle.wcv_core.specs.Names.{Name, Place, number, stamp, base, at, stamped, aside}
 use Rattle.wcv_core.specs.declared.features.WasmFeatures.{WasmFeatures}
 use Rattle.wcv_syntax.specs.Model.{Form, instance_item}
@@ -16,7 +15,7 @@ use Rattle.wcv_lower.specs.Even.{IsBalanced}
 use Rattle.wcv_lower.specs.Given.{Given, find, or_by_place, GivenNames, names_of, Numbers, AtMost, IsNewResource, AreGiven, GivesAt}
 use Rattle.wcv_lower.specs.Growth.{step, grow}
 use Rattle.wcv_lower.specs.Names.{Origin, introduced, again, stamp_at, same_origin}
-use Rattle.wcv_lower.specs.Owned.{OwnsNot, OwnApart, ItemRegular, AllEntries, AllOwn, IsCalm}
+use Rattle.wcv_lower.specs.Owned.{OwnsNot, OwnApart, ItemRegular, Everywhere, AllOwn, IsCalm}
 use Rattle.wcv_lower.specs.Readers.{Brought}
 use Rattle.wcv_lower.specs.Step.{Step, apply, enters}
 use Rattle.wcv_lower.specs.Trees.{tree_reader, Tree_stack, tree_maker}
@@ -85,12 +84,12 @@ module _ (In : Place → Type 0) (a b : Numbers) (n : GivenNames) (p : Place) (s
       let v = map-some (enters exporting (extern_name x)) (written (tree_maker (names_of n) p) s.top r) w.0 w.1 in
       step_calm w.0 t (subst (IsGentle a s) (some-inj v.2) (entering exporting (extern_name x) r v.0 v.1)) w.2 own
 
-  item_apart : (fs : WasmFeatures) (t : Tree_stack) (f : Form) (all : AllEntries OwnApart s.top) → ItemRegular s.top f → grow fs (tree_maker (names_of n) p) s f ≡ Some t → ItemKeeps own_apart_inherited (IsLate a) (names_of n) p fresh s all f
-  item_apart fs t (instance_item i) all w e = keeps_apart (IsLate a) (names_of n) p s all i (calm_apart a (names_of n) p s t i h w e) fresh
+  item_apart : (fs : WasmFeatures) (t : Tree_stack) (f : Form) (all : Everywhere OwnApart s) → ItemRegular s.top f → grow fs (tree_maker (names_of n) p) s f ≡ Some t → ItemKeeps own_apart_inherited (IsLate a) (names_of n) p fresh s all f
+  item_apart fs t (instance_item i) all w e = keeps_apart (IsLate a) (names_of n) p s (all zero s.top refl) i (calm_apart a (names_of n) p s t i h w e) fresh
   item_apart fs t f all w e = tt
 
-  item_balanced : (fs : WasmFeatures) (t : Tree_stack) (f : Form) (v : Name → ℕ) (all : AllEntries (IsBalanced v) s.top) → ItemRegular s.top f → grow fs (tree_maker (names_of n) p) s f ≡ Some t → ItemKeeps (balanced_inherited v) (IsLate a) (names_of n) p fresh s all f
-  item_balanced fs t (instance_item i) v all w e = keeps_balanced s v all w (names_of n) p t (IsLate a) fresh i e
+  item_balanced : (fs : WasmFeatures) (t : Tree_stack) (f : Form) (v : Name → ℕ) (all : Everywhere (IsBalanced v) s) → ItemRegular s.top f → grow fs (tree_maker (names_of n) p) s f ≡ Some t → ItemKeeps (balanced_inherited v) (IsLate a) (names_of n) p fresh s all f
+  item_balanced fs t (instance_item i) v all w e = keeps_balanced s v (all zero s.top refl) w (names_of n) p t (IsLate a) fresh i e
   item_balanced fs t f v all w e = tt
 
   pub calm_grows : (fs : WasmFeatures) (t : Tree_stack) (f : Form) → ItemRegular s.top f → AllOwn b t.top → grow fs (tree_maker (names_of n) p) s f ≡ Some t → IsCalm b t
@@ -99,9 +98,9 @@ module _ (In : Place → Type 0) (a b : Numbers) (n : GivenNames) (p : Place) (s
       step_calm w.0 t
       (gentle a s w.0 h
       (λ all. of_some (AllBring OwnApart (IsLate a)) (step fs (tree_maker (names_of n) p) s f) w.0
-      (items_bring own_apart_inherited (IsLate a) (names_of n) p fresh s (all zero s.top refl) fs f (item_apart fs t f (all zero s.top refl) regular e)) w.1)
+      (items_bring own_apart_inherited (IsLate a) (names_of n) p fresh s all fs f (item_apart fs t f all regular e)) w.1)
       (λ y all. of_some (AllBring (OwnsNot y) (IsLate a)) (step fs (tree_maker (names_of n) p) s f) w.0
-      (items_bring_given (owns_not_inherited y) (IsLate a) (names_of n) p fresh s (all zero s.top refl) (owns_not_given y) fs f) w.1)
+      (items_bring_given (owns_not_inherited y) (IsLate a) (names_of n) p fresh s all (owns_not_given y) fs f) w.1)
       (λ v all. of_some (AllBring (IsBalanced v) (IsLate a)) (step fs (tree_maker (names_of n) p) s f) w.0
-      (items_bring (balanced_inherited v) (IsLate a) (names_of n) p fresh s (all zero s.top refl) fs f (item_balanced fs t f v (all zero s.top refl) regular e)) w.1))
+      (items_bring (balanced_inherited v) (IsLate a) (names_of n) p fresh s all fs f (item_balanced fs t f v all regular e)) w.1))
       w.2 own

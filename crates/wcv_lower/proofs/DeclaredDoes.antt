@@ -20,6 +20,7 @@ use Rattle.wcv_lower.specs.Readers.{Reader}
 use Rattle.wcv_lower.specs.Step.{Change, appends, lists, introduces, defines, creates, core_appends, interns, charges, types_slots, Step, change_at, change, apply, enters}
 use Rattle.wcv_lower.specs.Types.{added, type_step}
 use Rattle.std.proofs.lemmas.Bool.{false≢true}
+use Rattle.wcv_lower.proofs.AliasLaws.{alias_does}
 use Rattle.wcv_lower.proofs.Causes.{free_left, free_right}
 use Rattle.wcv_lower.proofs.CoreLaws.{core_type_does}
 use Rattle.wcv_lower.proofs.DeclaredLaws.{then-some}
@@ -152,7 +153,7 @@ module _ (X : Reader) (fs : WasmFeatures) (mk : Makers X) where
     decl_there : (p : Place) (s : Stack X) (d : Decl) → is_built_decl d ≡ true → IsFree (decl_checks fs mk p s d) → (u : Stack X) × (read_decl fs mk p s d ≡ Some u)
     decl_there p s (core_type_decl t) b h = applied_there s (core_type_step fs (mk p) s t) (core_type_does X fs (mk p) s t h)
     decl_there p s (type_decl t) b h = type_there true p s t b h
-    decl_there p s (alias_decl a) b h = absurd (false≢true b)
+    decl_there p s (alias_decl a) b h = applied_there s (alias_step s a) (alias_does X fs s a h)
     decl_there p s (export_decl n r) b h =
         applied_there s (declared_export_step (mk p) s.top n r)
         (mapped (enters exporting (extern_name n)) (written (mk p) s.top r) (written_there X (mk p) s.top r b (free_looked X fs exporting (extern_name n) s.top (written_checks s.top r) (written (mk p) s.top r) h)))

@@ -10,7 +10,7 @@ use Rattle.wcv_types.specs.Tree.{Text}
 use Rattle.wcv_lower.specs.Context.{Context, Stack}
 use Rattle.wcv_lower.specs.CoreInstances.{core_instance_made}
 use Rattle.wcv_lower.specs.CoreItems.{core_type_made, core_module_made}
-use Rattle.wcv_lower.specs.Entries.{made_from, instance_from, makes_new, exported_from}
+use Rattle.wcv_lower.specs.Entries.{made_from, instance_from, makes_new, exported_from, exported_instance}
 use Rattle.wcv_lower.specs.Instances.{opened, bag_made}
 use Rattle.wcv_lower.specs.Readers.{Reader, New_node, module_node}
 use Rattle.wcv_lower.specs.Types.{type_made}
@@ -51,9 +51,9 @@ uses_component o = record { old = None; new = false; instance = None; component 
 abbrev pub ref_uses : {X : Reader} → Context X → ComponentTypeRef → Uses X
 ref_uses c r = record { old = made_from c r; new = makes_new r; instance = instance_from c r; component = None; node = None }
 
--- an exported item uses what the type does that is written beside it, or the type that is exported
+-- an exported item uses what the type does that is written beside it, or the type or the instance that is exported
 abbrev pub exported_uses : {X : Reader} → Context X → ComponentExport → Option ComponentTypeRef → Uses X
-exported_uses c e None = record { old = exported_from c e.kind e.index; new = false; instance = None; component = None; node = None }
+exported_uses c e None = record { old = exported_from c e.kind e.index; new = false; instance = exported_instance c e.kind e.index; component = None; node = None }
 exported_uses c e (Some r) = ref_uses c r
 
 abbrev pub export_uses : {X : Reader} → Context X → ComponentExport → Uses X

@@ -64,7 +64,7 @@ pub fn renaming_keeps_growth_and_causes()
 {}
 
 /// An alias over ids of an arena does what it does over the trees that they stand for, and has the same causes.
-/// Where it has none, it does something. Items are read as aliases of what core instances export, and as no others yet.
+/// Where it has none, it does something.
 pub fn aliases_of_ids_are_those_of_trees()
     ensures step { (a : Arena) (s : Stack (slot_reader a)) (x : ComponentAlias) → AllFit a → IsKnown (SlotStands a) s.top → alias_step (map_stack (to_trees a) s) x ≡ option_map (map_step (to_trees a)) (alias_step s x) }
     ensures causes { (a : Arena) (fs : WasmFeatures) (s : Stack (slot_reader a)) (x : ComponentAlias) → AllFit a → IsKnown (SlotStands a) s.top → alias_checks fs (map_stack (to_trees a) s) x ≡ alias_checks fs s x }

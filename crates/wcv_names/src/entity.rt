@@ -46,7 +46,7 @@ fn any_info(id: ComponentAnyTypeId, types: &TypeAlloc) -> TypeInfo
 }
 
 /// The size and the depth of an entity.
-fn entity_info(ty: &ComponentEntityType, types: &TypeAlloc) -> TypeInfo
+pub fn entity_info(ty: &ComponentEntityType, types: &TypeAlloc) -> TypeInfo
     requires { EntityStands types.now ty.now }
     ensures { IsInfoOf result (entity_tree (trees types.now.nodes) ty.now) }
 {

@@ -14,5 +14,6 @@ mod wanted;
 mod whole_name;
 
 pub use context::ComponentNameContext;
+pub use entity::entity_info;
 pub use name_set::NameSet;
 pub use wcv_core::ExternKind;
