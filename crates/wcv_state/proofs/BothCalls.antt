@@ -12,7 +12,7 @@ use Rattle.wcv_syntax.specs.declared.component_type.ComponentTypeRef.{ComponentT
 use Rattle.wcv_syntax.specs.declared.name.ComponentExport.{ComponentExport}
 use Rattle.wcv_syntax.specs.declared.name.ComponentExternName.{ComponentExternName}
 use Rattle.wcv_types.specs.Arena.{Arena}
-use Rattle.wcv_types.specs.Entities.{entity_tree}
+use Rattle.wcv_types.specs.Entities.{entity_tree, EntityStands}
 use Rattle.wcv_types.specs.Standing.{Extends}
 use Rattle.wcv_types.specs.Unfold.{Type_tree, trees}
 use Rattle.wcv_types.specs.declared.shapes.ComponentEntityType.{ComponentEntityType}
@@ -24,7 +24,7 @@ use Rattle.wcv_lower.specs.Entries as entries
 use Rattle.wcv_lower.specs.Given.{GivenNames, names_of, none_given, both_given, Numbers, IsNewResource, IsNewIdentity, GivesAt}
 use Rattle.wcv_lower.specs.Names.{Under}
 use Rattle.wcv_lower.specs.Readers.{Maker, Brought}
-use Rattle.wcv_lower.specs.Step.{brought_by, brought_at, apply, enters}
+use Rattle.wcv_lower.specs.Step.{brought_at, apply, enters}
 use Rattle.wcv_lower.specs.Trees.{Tree_context, tree_reader, tree_maker}
 use Rattle.wcv_lower.proofs.Causes.{cause_left, cause_right, cause_either, free_both, free_left, free_right}
 use Rattle.wcv_lower.proofs.Given.{given_weaker}
@@ -32,7 +32,6 @@ use Rattle.wcv_state.specs.Contents.{Contents, ids, core_ids, unmarked, marks_as
 use Rattle.wcv_state.specs.Looking.{is_built_entity}
 use Rattle.wcv_state.specs.Promises.{MemoryOrCausedBy, numbers_of, is_instance_entity, if_built, ref_checks, Grew, WrittenEntity, Exported, Entered, EntryCaused, ExportDeclared, ExportCaused}
 use Rattle.wcv_state.proofs.Brought.{as_it_is_at}
-use Rattle.wcv_state.proofs.MadeAlone.{stays_at}
 use Rattle.wcv_state.proofs.Calls.{built_free, caused_more}
 use Rattle.wcv_state.proofs.Keeping.{same_context}
 use Rattle.wcv_state.proofs.Opened.{both_none}
@@ -63,32 +62,6 @@ module _ (a b : Arena) (outer : List Tree_context) (s t : Contents) (h : StateSt
   stack_same : stack_of b t outer ≡ stack_of a s outer
   stack_same = λ j. record { top = context_same j; outer = outer; groups = core j }
 
--- the entity of an exported item, and then its entry, are the export
-pub export_by_both : (a b : Arena) (outer : List Tree_context) (p : Place) (s t s' : Contents) (e : ComponentExport) (x : ComponentEntityType) → StateStands a s → Extends a b → Exported a b p s e x → marks_aside t ≡ marks_aside s → Entered true b b outer p t s' e.name x → Grew a b outer p s s' (export_item e)
-export_by_both a b outer p s t s' e x h g w same v =
-    let c : Tree_context = context_of a s in
-    let tree : Type_tree = entity_tree (trees b.nodes) x in
-    let mk : Maker tree_reader = tree_maker (names_of v.names) p in
-    let of_item : Checks = exported_checks a.core (tree_maker (names_of w.names) p) c e in
-    let looked = free_built (is_built_item e) of_item w.free in
-    let plain : brought_at mk tree ≡ brought_by tree_reader tree = stays_at b (names_of v.names) p x w.stands w.alone in
-    let of_entity : Checks = entity_checks s.features exporting (extern_name e.name) c tree in
-    let room : Checks = full_side true exporting (counts c) in
-    let met = free_built (is_built_entity x) (join_checks true t.features exporting (extern_name e.name) (context_of b t) (brought_at mk tree).entity) v.free in
-    let features : t.features ≡ s.features = ap (λ (z : Contents). z.features) same in
-    let here : join_checks true t.features exporting (extern_name e.name) (context_of b t) (brought_at mk tree).entity ≡ room ++ of_entity =
-    λ j. join_checks true (features j) exporting (extern_name e.name) (context_same a b outer s t h g w.core same j) (plain j).entity in
-    let joined : IsFree (room ++ of_entity) = subst IsFree here met.1 in
-    let all : IsFree (room ++ (of_item ++ of_entity)) = free_both room (of_item ++ of_entity) (free_left room of_entity joined) (free_both of_item of_entity looked.1 (free_right room of_entity joined)) in
-    record {
-      names = w.names;
-      given = w.given;
-      grown = ap (λ o. option_map (λ q. apply q (stack_of a s outer)) (option_map (enters exporting (extern_name e.name)) o)) w.found ∙
-          (λ j. Some (apply (enters exporting (extern_name e.name) (sym plain j)) (sym (stack_same a b outer s t h g w.core same) j))) ∙ ap Some (sym v.entered);
-      free = built_free (is_built_item e) _ looked.0 (subst (λ (o : Option (Brought tree_reader)). IsFree (entries.entry_checks s.features exporting (extern_name e.name) c of_item o)) (sym w.found) all);
-      live = v.live;
-    }
-
 -- ## Names of two calls, one of which gives none
 
 -- new from fewer numbers to more
@@ -118,12 +91,13 @@ module _ (a b a' b' : Numbers) (r : a'.resources ≤ a.resources) (n : a'.nodes 
 more_nodes : (a b : Arena) → Extends a b → length a.nodes ≤ length b.nodes
 more_nodes a b g = subst (λ xs. length a.nodes ≤ length xs) (sym g.nodes) (simp length-append (omega arith))
 
-module _ (a b c : Arena) (p : Place) (s : Contents) (r : ComponentTypeRef) (x : ComponentEntityType) (h : StateStands a s) (g : Extends a b) (k : Extends b c) (w : WrittenEntity a b p s r x) (v : GivenNames) (given : GivesAt (Under p) (numbers_of b) (numbers_of c) v) (bare : is_instance_entity x ≡ false → v ≡ none_given) where
+module _ (a b c : Arena) (p : Place) (x : ComponentEntityType) (g : Extends a b) (k : Extends b c) (first : GivenNames) (given_first : GivesAt (Under p) (numbers_of a) (numbers_of b) first) (instance : is_instance_entity x ≡ true → first ≡ none_given) (stands : EntityStands b x)
+    (v : GivenNames) (given : GivesAt (Under p) (numbers_of b) (numbers_of c) v) (bare : is_instance_entity x ≡ false → v ≡ none_given) where
   abbrev tree : Type_tree
   tree = entity_tree (trees b.nodes) x
 
   abbrev both : GivenNames
-  both = both_given w.names v
+  both = both_given first v
 
   abbrev mk : Maker tree_reader
   mk = tree_maker (names_of both) p
@@ -131,25 +105,53 @@ module _ (a b c : Arena) (p : Place) (s : Contents) (r : ComponentTypeRef) (x : 
   both_given_at : GivesAt (Under p) (numbers_of a) (numbers_of c) both
   both_given_at = go (is_instance_entity x) refl
     where
-      go : (e : Bool) → is_instance_entity x ≡ e → GivesAt (Under p) (numbers_of a) (numbers_of c) (both_given w.names v)
+      go : (e : Bool) → is_instance_entity x ≡ e → GivesAt (Under p) (numbers_of a) (numbers_of c) (both_given first v)
       go true e =
-          subst (λ (n : GivenNames). GivesAt (Under p) (numbers_of a) (numbers_of c) (both_given n v)) (sym (w.instance e))
+          subst (λ (n : GivenNames). GivesAt (Under p) (numbers_of a) (numbers_of c) (both_given n v)) (sym (instance e))
           (gives_within (numbers_of b) (numbers_of c) (numbers_of a) (numbers_of c) g.resources (more_nodes a b g) g.stamps (omega arith) (omega arith) (omega arith) (Under p) v given)
       go false e =
-          subst (λ (n : GivenNames). GivesAt (Under p) (numbers_of a) (numbers_of c) (both_given w.names n)) (sym (bare e))
-          (subst (GivesAt (Under p) (numbers_of a) (numbers_of c)) (sym (both_none w.names))
-          (gives_within (numbers_of a) (numbers_of b) (numbers_of a) (numbers_of c) (omega arith) (omega arith) (omega arith) k.resources (more_nodes b c k) k.stamps (Under p) w.names w.given))
+          subst (λ (n : GivenNames). GivesAt (Under p) (numbers_of a) (numbers_of c) (both_given first n)) (sym (bare e))
+          (subst (GivesAt (Under p) (numbers_of a) (numbers_of c)) (sym (both_none first))
+          (gives_within (numbers_of a) (numbers_of b) (numbers_of a) (numbers_of c) (omega arith) (omega arith) (omega arith) k.resources (more_nodes b c k) k.stamps (Under p) first given_first))
 
   -- what joins is the same by the names of both
   brought_both : brought_at mk tree ≡ brought_at (tree_maker (names_of v) p) tree
   brought_both = go (is_instance_entity x) refl
     where
-      go : (e : Bool) → is_instance_entity x ≡ e → brought_at (tree_maker (names_of (both_given w.names v)) p) tree ≡ brought_at (tree_maker (names_of v) p) tree
-      go true e = ap (λ (n : GivenNames). brought_at (tree_maker (names_of (both_given n v)) p) tree) (w.instance e)
-      go false e = as_it_is_at b (tree_maker (names_of (both_given w.names v)) p) x w.stands e ∙ sym (as_it_is_at b (tree_maker (names_of v) p) x w.stands e)
+      go : (e : Bool) → is_instance_entity x ≡ e → brought_at (tree_maker (names_of (both_given first v)) p) tree ≡ brought_at (tree_maker (names_of v) p) tree
+      go true e = ap (λ (n : GivenNames). brought_at (tree_maker (names_of (both_given n v)) p) tree) (instance e)
+      go false e = as_it_is_at b (tree_maker (names_of (both_given first v)) p) x stands e ∙ sym (as_it_is_at b (tree_maker (names_of v) p) x stands e)
 
-  found_both : written mk (context_of a s) r ≡ Some (brought_at (tree_maker (names_of v) p) tree)
-  found_both = w.brings v ∙ ap Some brought_both
+-- the entity of an exported item, and then its entry, are the export
+pub export_by_both : (a b c : Arena) (outer : List Tree_context) (p : Place) (s t s' : Contents) (e : ComponentExport) (x : ComponentEntityType) → StateStands a s → Extends a b → Extends b c → Exported a b p s e x → marks_aside t ≡ marks_aside s → Entered true b c outer p t s' e.name x → Grew a c outer p s s' (export_item e)
+export_by_both a b c outer p s t s' e x h g k w same v =
+    let y : Tree_context = context_of a s in
+    let brought : Brought tree_reader = brought_at (tree_maker (names_of v.names) p) (entity_tree (trees b.nodes) x) in
+    let all_names : GivenNames = both_given w.names v.names in
+    let of_item : Checks = exported_checks a.core (tree_maker (names_of all_names) p) y e in
+    let looked = free_built (is_built_item e) of_item (w.free v.names) in
+    let of_entity : Checks = entity_checks s.features exporting (extern_name e.name) y brought.entity in
+    let room : Checks = full_side true exporting (counts y) in
+    let met = free_built (is_built_entity x) (join_checks true t.features exporting (extern_name e.name) (context_of b t) brought.entity) v.free in
+    let features : t.features ≡ s.features = ap (λ (z : Contents). z.features) same in
+    let here : join_checks true t.features exporting (extern_name e.name) (context_of b t) brought.entity ≡ room ++ of_entity =
+    λ j. join_checks true (features j) exporting (extern_name e.name) (context_same a b outer s t h g w.core same j) brought.entity in
+    let joined : IsFree (room ++ of_entity) = subst IsFree here met.1 in
+    let all : IsFree (room ++ (of_item ++ of_entity)) = free_both room (of_item ++ of_entity) (free_left room of_entity joined) (free_both of_item of_entity looked.1 (free_right room of_entity joined)) in
+    let found : exported (tree_maker (names_of all_names) p) y e ≡ Some brought = w.brings v.names ∙ ap Some (brought_both a b c p x g k w.names w.given w.instance w.stands v.names v.given v.bare) in
+    record {
+      names = all_names;
+      given = both_given_at a b c p x g k w.names w.given w.instance w.stands v.names v.given v.bare;
+      grown = ap (λ o. option_map (λ q. apply q (stack_of a s outer)) (option_map (enters exporting (extern_name e.name)) o)) found ∙
+          (λ j. Some (apply (enters exporting (extern_name e.name) brought) (sym (stack_same a b outer s t h g w.core same) j))) ∙ ap Some (sym v.entered);
+      free = built_free (is_built_item e) _ looked.0 (subst (λ (o : Option (Brought tree_reader)). IsFree (entries.entry_checks s.features exporting (extern_name e.name) y of_item o)) (sym found) all);
+      live = v.live;
+    }
+
+-- what a written type gives, by the names of both
+written_both : (a b c : Arena) (p : Place) (s : Contents) (r : ComponentTypeRef) (x : ComponentEntityType) → Extends a b → Extends b c → (w : WrittenEntity a b p s r x) (v : GivenNames) → GivesAt (Under p) (numbers_of b) (numbers_of c) v → (is_instance_entity x ≡ false → v ≡ none_given) →
+    written (tree_maker (names_of (both_given w.names v)) p) (context_of a s) r ≡ Some (brought_at (tree_maker (names_of v) p) (entity_tree (trees b.nodes) x))
+written_both a b c p s r x g k w v given bare = w.brings v ∙ ap Some (brought_both a b c p x g k w.names w.given w.instance w.stands v given bare)
 
 -- so of a written type
 pub written_by_both : (a b c : Arena) (outer : List Tree_context) (p : Place) (s s' : Contents) (r : ComponentTypeRef) (n : ComponentExternName) (x : ComponentEntityType) → StateStands a s → Extends a b → Extends b c → WrittenEntity a b p s r x →
@@ -163,10 +165,10 @@ written_by_both a b c outer p s s' r n x h g k w v =
     let room : Checks = full_side true exporting (counts t) in
     let joined : IsFree (room ++ of_entity) = subst (λ (y : Tree_context). IsFree (join_checks true s.features exporting (extern_name n) y brought.entity)) (same_context a b g s h) met.1 in
     let all : IsFree (room ++ (written_checks t r ++ of_entity)) = free_both room (written_checks t r ++ of_entity) (free_left room of_entity joined) (free_both (written_checks t r) of_entity looked.1 (free_right room of_entity joined)) in
-    let found = found_both a b c p s r x h g k w v.names v.given v.bare in
+    let found = written_both a b c p s r x g k w v.names v.given v.bare in
     record {
       names = both_given w.names v.names;
-      given = both_given_at a b c p s r x h g k w v.names v.given v.bare;
+      given = both_given_at a b c p x g k w.names w.given w.instance w.stands v.names v.given v.bare;
       read = ap (λ o. option_map (λ q. apply q (stack_of a s outer)) (option_map (enters exporting (extern_name n)) o)) found ∙
           (λ j. Some (apply (enters exporting (extern_name n) brought) (sym (stack_same a b outer s s h g w.core refl) j))) ∙ ap Some (sym v.entered);
       free = subst (λ (o : Option (Brought tree_reader)). IsFree (entries.entry_checks s.features exporting (extern_name n) t (written_checks t r) o)) (sym found) all;
@@ -198,10 +200,10 @@ export_entry_caused a b c p s r n x offset e h g k w v =
     let met : MemoryOrCausedBy (room ++ of_entity) offset e =
     subst (λ (y : Tree_context). MemoryOrCausedBy (join_checks true s.features exporting (extern_name n) y brought.entity) offset e) (same_context a b g s h)
     (subst (λ (y : Bool). MemoryOrCausedBy (if_built y (join_checks true s.features exporting (extern_name n) (context_of b s) brought.entity)) offset e) w.built v.caused) in
-    let found = found_both a b c p s r x h g k w v.names v.given v.bare in
+    let found = written_both a b c p s r x g k w v.names v.given v.bare in
     record {
       names = both_given w.names v.names;
-      given = both_given_at a b c p s r x h g k w v.names v.given v.bare;
+      given = both_given_at a b c p x g k w.names w.given w.instance w.stands v.names v.given v.bare;
       caused = subst (λ (o : Option (Brought tree_reader)). MemoryOrCausedBy (entries.entry_checks s.features exporting (extern_name n) t (written_checks t r) o) offset e) (sym found)
           (caused_more (room ++ of_entity) (room ++ (written_checks t r ++ of_entity)) offset e
           (λ q. ⊎_elim (λ l. cause_left room (written_checks t r ++ of_entity) (error_kind e) l) (λ l. cause_right room (written_checks t r ++ of_entity) (error_kind e) (cause_right (written_checks t r) of_entity (error_kind e) l)) (cause_either room of_entity (error_kind e) q)) met);

@@ -23,18 +23,11 @@ use Rattle.wcv_lower.specs.Trees.{tree_reader, introduced_by, own_resources}
 use Rattle.wcv_state.specs.Bringing.{brought_new}
 use Rattle.wcv_state.specs.Looking.{introduced_id, introduced_in}
 use Rattle.wcv_state.specs.Looking as looking
+use Rattle.wcv_state.specs.Looking.{entity_sort}
 use Rattle.wcv_state.specs.Promises.{is_instance_entity}
 use Rattle.wcv_state.specs.declared.bringing.NewEntity.{NewEntity}
 
 -- ## Sorts
-
-abbrev pub entity_sort : ComponentEntityType → Sort
-entity_sort (entity.Module i) = is_module
-entity_sort (entity.Func i) = is_func
-entity_sort (entity.Value v) = is_value
-entity_sort (entity.Ty c r) = is_type
-entity_sort (entity.Instance i) = is_instance
-entity_sort (entity.Component i) = is_component
 
 pub entity_sorted : (a : Arena) (x : ComponentEntityType) → EntityStands a x → sort (entity_tree (trees a.nodes) x) ≡ entity_sort x
 entity_sorted a (entity.Module i) h = sort_stands a (part.Module i) h

@@ -1,5 +1,5 @@
 -- Aliases of what core instances export: what is looked up in a state is what its context says.
-use Rattle.std.proofs.Common.{◌≡◌, ℕ, List, [], ◌∷◌, ◌++◌, refl, sym, ◌∙◌, ap, subst, Bool, true, false, not, cond, Some, None, inl, inr, bytes_eq}
+use Rattle.std.proofs.Common.{◌≡◌, ℕ, List, [], ◌∷◌, ◌++◌, refl, sym, ◌∙◌, ap, subst, Bool, true, false, not, cond, Some, None, bytes_eq}
 use Rattle.std.specs.Prelude.{Option, slice_get}
 use Rattle.std.specs.Option.{option_map, option_and_then}
 use Rattle.std.specs.Map.{lookup}
@@ -9,10 +9,8 @@ use Rattle.wcv_core.specs.declared.error.Error.{Error}
 use Rattle.wcv_core.specs.declared.error.ErrorKind.TheVariants as error
 use Rattle.wcv_core.specs.declared.features.WasmFeatures.{WasmFeatures}
 use Rattle.wcv_core.proofs.Causes.{cause_left, cause_right, free_both}
-use Rattle.wcv_syntax.specs.Model.{Form, alias_item}
+use Rattle.wcv_syntax.specs.Model.{alias_item}
 use Rattle.wcv_syntax.specs.declared.core_section.ExternalKind.{ExternalKind}
-use Rattle.wcv_syntax.specs.Built.{is_built_alias}
-use Rattle.wcv_syntax.specs.declared.instance.ComponentAlias.{ComponentAlias}
 use Rattle.wcv_syntax.specs.declared.instance.ComponentAlias.TheVariants as alias
 use Rattle.wcv_types.specs.Arena.{Arena}
 use Rattle.wcv_types.specs.Standing.{Stands}
@@ -23,16 +21,16 @@ use Rattle.wcv_types.specs.declared.ids.Part.TheVariants as part
 use Rattle.wcv_matching.specs.ModuleItems.{instance_exports}
 use Rattle.wcv_lower.specs.Checks.{Checks, Cause, IsFree, if_found, missing}
 use Rattle.wcv_lower.specs.Context.{core_instances, is_concrete, counts}
-use Rattle.wcv_lower.specs.CoreInstances.{space_of, is_of, sort_needs, no_item_room, core_instance_at, core_export_of, if_of, item_joins, export_checks, core_alias_step, core_alias_checks}
-use Rattle.wcv_lower.specs.Given.{names_of, none_given}
+use Rattle.wcv_lower.specs.CoreInstances.{is_of, sort_needs, no_item_room, core_instance_at, core_export_of, if_of, item_joins, export_checks, core_alias_step, core_alias_checks}
+use Rattle.wcv_lower.specs.Given.{none_given}
 use Rattle.wcv_lower.specs.Step.{Step, apply}
-use Rattle.wcv_lower.specs.Trees.{Tree_context, Tree_stack, tree_reader}
-use Rattle.wcv_state.specs.Contents.{Contents, kind_of, core_tree, context_of, stack_of, with_core_item, CoreIdStands, StateStands}
+use Rattle.wcv_lower.specs.Trees.{Tree_context, tree_reader}
+use Rattle.wcv_state.specs.Contents.{Contents, kind_of, core_tree, context_of, stack_of, with_core_item, StateStands}
 use Rattle.wcv_state.specs.Entering.{room_counts}
 use Rattle.wcv_state.specs.Looking.{AliasFinds}
-use Rattle.wcv_state.specs.Promises.{MemoryOrCausedBy, CausedBy, Grew}
+use Rattle.wcv_state.specs.Promises.{MemoryOrCausedBy, Grew}
 use Rattle.wcv_state.proofs.Calls.{caused_more}
-use Rattle.wcv_state.proofs.CoreItems.{item_tree, item_room, item_live, item_context, missing_mapped}
+use Rattle.wcv_state.proofs.CoreItems.{item_room, item_live, item_context, missing_mapped}
 use Rattle.wcv_state.proofs.Found.{core_same, core_stands_at}
 
 -- ## What is found
@@ -120,12 +118,6 @@ module _ (a : Arena) (s : Contents) (h : StateStands a s) (k : ExternalKind) (i 
       room_caused t = behind_sort room (λ c. cause_right there (found ++ room) e.kind (cause_right found room e.kind c)) (subst (λ cs. MemoryOrCausedBy cs offset e) (item_room a s k) t)
 
 -- ## The item
-
--- an alias of another form is not built
-pub unbuilt_alias : (a : ComponentAlias) → ((k : ExternalKind) (i : ℕ) (n : Text) → a ≡ alias.CoreInstanceExport k i n → ⊥) → is_built_alias a ≡ false
-unbuilt_alias (alias.InstanceExport w i n) h = refl
-unbuilt_alias (alias.CoreInstanceExport k i n) h = absurd (h k i n refl)
-unbuilt_alias (alias.Outer w n i) h = refl
 
 module _ (a : Arena) (s s' : Contents) (h : StateStands a s) (live : s.spent ≡ false) (k : ExternalKind) (i : ℕ) (n : Text) (e : EntityType) (w : AliasFinds a s.spaces k i n e) (is : s' ≡ with_core_item e s) where
   pub alias_grew : IsFree (core_alias_checks s.features (context_of a s) k i n) → (outer : List Tree_context) (p : Place) → Grew a a outer p s s' (alias_item (alias.CoreInstanceExport k i n))

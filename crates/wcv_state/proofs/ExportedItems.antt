@@ -23,7 +23,7 @@ use Rattle.wcv_types.specs.declared.ids.ResourceId.{ResourceId}
 use Rattle.wcv_types.specs.declared.shapes.ComponentEntityType.{ComponentEntityType}
 use Rattle.wcv_types.specs.declared.shapes.ComponentEntityType.TheVariants as entity
 use Rattle.wcv_lower.specs.Checks.{Checks, IsFree, if_found, missing}
-use Rattle.wcv_lower.specs.Context.{in_types}
+use Rattle.wcv_lower.specs.Context.{in_types, in_instances}
 use Rattle.wcv_lower.specs.Defined.{is_empty}
 use Rattle.wcv_lower.specs.Entries.{written, written_checks, items_of, exported_at, exported_as, exported_by, exported, mismatch, ascribed_checks, exported_checks}
 use Rattle.wcv_lower.specs.Given.{names_of, both_given}
@@ -35,14 +35,16 @@ use Rattle.wcv_lower.specs.Step.{Brought, bare, brought_at}
 use Rattle.wcv_lower.specs.Trees.{Type_tree, type_entry, tree_reader, tree_maker}
 use Rattle.wcv_lower.proofs.Causes.{free_both}
 use Rattle.wcv_state.specs.Contents.{Contents, context_of, id_tree, StateStands}
+use Rattle.wcv_state.specs.Instances.{MayOpenItem, EntityMayOpen}
 use Rattle.wcv_state.specs.Looking.{item_id, introduced_id, introduced_in, created_reference, brings_own, ascribed_id_checks, CreatesAgain, GivesExported, GivesItem}
 use Rattle.wcv_state.specs.Promises.{is_instance_entity, EntityAlone}
 use Rattle.wcv_state.proofs.Brought.{as_it_is_at, instance_at, brought_same}
-use Rattle.wcv_state.proofs.Found.{Brings, Looked, LookedUp, found_same, get_same, written_found}
+use Rattle.wcv_state.proofs.Found.{Brings, Looked, LookedUp, found_same, found_instance, get_same, stands_at, written_found}
 use Rattle.wcv_state.proofs.Found as found
 use Rattle.wcv_state.proofs.ItemsAt.{IsItem, read_as, item_there, is_item}
 use Rattle.wcv_state.proofs.Keeping.{same_slot}
 use Rattle.wcv_state.proofs.MadeAlone.{stays_at}
+use Rattle.wcv_state.proofs.Opened.{alone_opens}
 
 -- ## What brings resources of its own
 
@@ -120,9 +122,9 @@ module _ (a : Arena) (s : Contents) (h : StateStands a s) where
   abbrev kind_brings : ComponentExternalKind → ℕ → Brings
   kind_brings w i m = option_map (exported_as m w) (slice_get (items_of (context_of a s) w) i)
 
-  -- it makes no type
+  -- it makes no type, and is no instance
   abbrev IsBare : ComponentEntityType → Type 0
-  IsBare x = (introduced_id x ≡ None) × (created_reference x ≡ [])
+  IsBare x = (introduced_id x ≡ None) × (created_reference x ≡ []) × EntityAlone a x
 
   bare_found : (b : Arena) (w : ComponentExternalKind) (i : ℕ) (x : ComponentEntityType) → (b ≡ a) × (item_id s.spaces w i ≡ Some x) → IsBare x →
       LookedUp a b x (missing (slice_get (items_of (context_of a s) w) i)) (λ m. option_map (bare tree_reader) (slice_get (items_of (context_of a s) w) i))
@@ -131,31 +133,26 @@ module _ (a : Arena) (s : Contents) (h : StateStands a s) where
       let is : o ≡ Some (entity_tree (trees a.nodes) x) = item_there a s h w i x e.1 in
       let k : IsItem a x = is_item a s h w i x e.1 in
       subst (λ (y : Arena). LookedUp a y x (missing o) (λ m. option_map (bare tree_reader) o)) (sym e.0)
-      (found_same a x (missing o) o is (subst (λ (q : Option Type_tree). IsFree (missing q)) (sym is) (refl, tt)) k.built k.alone k.stands n.0 n.1)
+      (found_same a x (missing o) o is (subst (λ (q : Option Type_tree). IsFree (missing q)) (sym is) (refl, tt)) k.built n.2 k.stands n.0 n.1)
 
   kind_found : (b : Arena) (w : ComponentExternalKind) (i : ℕ) (x : ComponentEntityType) → GivesExported a b s.spaces w i x → LookedUp a b x (missing (slice_get (items_of (context_of a s) w) i)) (kind_brings w i)
-  kind_found b kind.Module i x e = bare_found b kind.Module i x e (read_as IsBare entity.Module (slice_get s.spaces.core_modules i) x (λ j f. (refl, refl)) e.1)
-  kind_found b kind.Func i x e = bare_found b kind.Func i x e (read_as IsBare entity.Func (slice_get s.spaces.funcs i) x (λ j f. (refl, refl)) e.1)
-  kind_found b kind.Instance i x e = bare_found b kind.Instance i x e (read_as IsBare entity.Instance (slice_get s.spaces.instances i) x (λ j f. (refl, refl)) e.1)
-  kind_found b kind.Component i x e = bare_found b kind.Component i x e (read_as IsBare entity.Component (slice_get s.spaces.components i) x (λ j f. (refl, refl)) e.1)
+  kind_found b kind.Module i x e = bare_found b kind.Module i x e (read_as IsBare entity.Module (slice_get s.spaces.core_modules i) x (λ j f. (refl, refl, λ v. absurd (false≢true v))) e.1)
+  kind_found b kind.Func i x e = bare_found b kind.Func i x e (read_as IsBare entity.Func (slice_get s.spaces.funcs i) x (λ j f. (refl, refl, λ v. absurd (false≢true v))) e.1)
+  kind_found b kind.Instance i x e =
+      let o : Option Type_tree = slice_get (items_of (context_of a s) kind.Instance) i in
+      subst (λ (y : Arena). LookedUp a y x (missing o) (λ m. option_map m.instance_of o)) (sym e.0)
+      (read_as (λ (y : ComponentEntityType). LookedUp a a y (missing o) (λ m. option_map m.instance_of o)) entity.Instance (slice_get s.spaces.instances i) x
+      (λ j f.
+      let is : o ≡ Some (entity_tree (trees a.nodes) (entity.Instance j)) = item_there a s h kind.Instance i (entity.Instance j) (ap (option_map entity.Instance) f) in
+      found_instance a j (missing o) o is (subst (λ (q : Option Type_tree). IsFree (missing q)) (sym is) (refl, tt)) (stands_at a s h in_instances i j f))
+      e.1)
+  kind_found b kind.Component i x e = bare_found b kind.Component i x e (read_as IsBare entity.Component (slice_get s.spaces.components i) x (λ j f. (refl, refl, λ v. absurd (false≢true v))) e.1)
   kind_found b kind.Value i x e = absurd (cc)
   kind_found b kind.Ty i x w =
       let look : Option Type_tree = slice_get ((context_of a s).space in_types) i in
       found.again a s h b i x (missing look) (kind_brings kind.Ty i) w (λ r e.
       let is : look ≡ Some (type_entry (tree_at a (any_part r))) = get_same a s h in_types i ∙ ap (option_map (id_tree (trees a.nodes) in_types)) e in
       ((λ m. ap (option_map (exported_as m kind.Ty)) is), subst (λ (o : Option Type_tree). IsFree (missing o)) (sym is) (refl, tt)))
-
-  kind_alone : (b : Arena) (w : ComponentExternalKind) (k : ℕ) (x : ComponentEntityType) → GivesExported a b s.spaces w k x → EntityAlone b x
-  kind_alone b kind.Module k x e = subst (λ (c : Arena). EntityAlone c x) (sym e.0) (is_item a s h kind.Module k x e.1).alone
-  kind_alone b kind.Func k x e = subst (λ (c : Arena). EntityAlone c x) (sym e.0) (is_item a s h kind.Func k x e.1).alone
-  kind_alone b kind.Instance k x e = subst (λ (c : Arena). EntityAlone c x) (sym e.0) (is_item a s h kind.Instance k x e.1).alone
-  kind_alone b kind.Component k x e = subst (λ (c : Arena). EntityAlone c x) (sym e.0) (is_item a s h kind.Component k x e.1).alone
-  kind_alone b kind.Value k x e = absurd (cc)
-  kind_alone b kind.Ty k x e = go (slice_get s.spaces.types k) e
-    where
-      go : (o : Option ComponentAnyTypeId) → CreatesAgain a b o x → EntityAlone b x
-      go None f = absurd f
-      go (Some r) f = λ v. absurd (false≢true (sym (ap is_instance_entity f.2) ∙ v))
 
   -- the causes of an item with a written type, by names under which that gives what joins of the entity
   pub ascribed_same : (b : Arena) (e : ComponentExport) (r : ComponentTypeRef) (y x : ComponentEntityType) → Extends a b → b.core ≡ a.core → item_id s.spaces e.kind e.index ≡ Some y → EntityStands b x →
@@ -196,7 +193,22 @@ module _ (a : Arena) (s : Contents) (h : StateStands a s) where
   pub exported_found : (b : Arena) (e : ComponentExport) (x : ComponentEntityType) → GivesItem a b s.spaces e e.ty x → Looked a b x (λ k. exported_checks a.core k (context_of a s) e) (λ k. exported k (context_of a s) e)
   exported_found b e x w = item_found b e e.ty x w
 
-  -- it owns nothing
-  pub item_alone : (b : Arena) (e : ComponentExport) (o : Option ComponentTypeRef) (x : ComponentEntityType) → GivesItem a b s.spaces e o x → EntityAlone b x
-  item_alone b e None x w = kind_alone b e.kind e.index x w
-  item_alone b e (Some r) x w = brings_none b x (without (brings_own b x) (fits b.core (entity_tree (trees b.nodes) w.item) (entity_tree (trees b.nodes) x)) w.free.0)
+  -- an instance may be made of it, if it is one
+  kind_opens : (b : Arena) (w : ComponentExternalKind) (k : ℕ) (x : ComponentEntityType) → GivesExported a b s.spaces w k x → MayOpenItem a s.spaces.instances w k None → EntityMayOpen b x
+  kind_opens b kind.Instance k x e m =
+      subst (λ (y : Arena). EntityMayOpen y x) (sym e.0)
+      (read_as (EntityMayOpen a) entity.Instance (slice_get s.spaces.instances k) x (λ i f. m i f) e.1)
+  kind_opens b kind.Module k x e m = read_as (EntityMayOpen b) entity.Module (slice_get s.spaces.core_modules k) x (λ i f. tt) e.1
+  kind_opens b kind.Func k x e m = read_as (EntityMayOpen b) entity.Func (slice_get s.spaces.funcs k) x (λ i f. tt) e.1
+  kind_opens b kind.Component k x e m = read_as (EntityMayOpen b) entity.Component (slice_get s.spaces.components k) x (λ i f. tt) e.1
+  kind_opens b kind.Value k x e m = absurd (cc)
+  kind_opens b kind.Ty k x e m = go (slice_get s.spaces.types k) e
+    where
+      go : (o : Option ComponentAnyTypeId) → CreatesAgain a b o x → EntityMayOpen b x
+      go None f = absurd f
+      go (Some r) f = subst (EntityMayOpen b) (sym f.2) tt
+
+  pub item_opens : (b : Arena) (e : ComponentExport) (o : Option ComponentTypeRef) (x : ComponentEntityType) → GivesItem a b s.spaces e o x → EntityStands b x → MayOpenItem a s.spaces.instances e.kind e.index o → EntityMayOpen b x
+  item_opens b e None x w st m = kind_opens b e.kind e.index x w m
+  item_opens b e (Some r) x w st m =
+      alone_opens b x st (brings_none b x (without (brings_own b x) (fits b.core (entity_tree (trees b.nodes) w.item) (entity_tree (trees b.nodes) x)) w.free.0))

@@ -1,12 +1,12 @@
 -- An instance joins a state, and what is new in it is defined.
-use Rattle.std.proofs.Common.{◌≡◌, ℕ, List, [], ◌∷◌, ◌++◌, refl, sym, ◌∙◌, ap, Bool, inl, ◌⊎◌, take, map, None, All}
+use Rattle.std.proofs.Common.{◌≡◌, ℕ, List, [], ◌++◌, refl, ◌∙◌, ap, Bool, inl, ◌⊎◌, take, map, None, All}
 use Rattle.wcv_core.specs.declared.core_types.ValType.{ValType}
 use Rattle.std.specs.Prelude.{Option}
 use Rattle.wcv_types.specs.Arena.{Arena}
 use Rattle.wcv_types.specs.ComponentTrees.{ResourceStands}
 use Rattle.wcv_types.specs.Standing.{Stands}
-use Rattle.wcv_types.specs.Tree.{Text, owned}
-use Rattle.wcv_types.specs.Unfold.{tree_at, trees}
+use Rattle.wcv_types.specs.Tree.{Text}
+use Rattle.wcv_types.specs.Unfold.{trees}
 use Rattle.wcv_types.specs.declared.ids.ComponentInstanceTypeId.{ComponentInstanceTypeId}
 use Rattle.wcv_types.specs.declared.ids.Part.TheVariants as p
 use Rattle.wcv_types.specs.declared.ids.ResourceId.{ResourceId}
@@ -17,7 +17,7 @@ use Rattle.wcv_lower.specs.Instances.{instance_joins}
 use Rattle.wcv_lower.specs.Step.{apply}
 use Rattle.wcv_lower.specs.Trees.{Tree_context}
 use Rattle.wcv_state.specs.Bringing.{Paths}
-use Rattle.wcv_state.specs.Contents.{Contents, SpaceLists, context_of, core_ids, core_tree, names, push_id, stack_of, StateStands}
+use Rattle.wcv_state.specs.Contents.{Contents, SpaceLists, context_of, core_tree, names, push_id, stack_of, StateStands}
 use Rattle.wcv_state.specs.Instantiations.{brought_of}
 use Rattle.wcv_state.specs.Promises.{Keeps}
 use Rattle.wcv_state.specs.declared.instances.NewInstance.{NewInstance}
@@ -38,11 +38,11 @@ instance_entry i = ([], record { ty = entity.Instance i; implements = None; vers
 abbrev pub joined_state : Contents → SpaceLists → Defined → Bool → Contents
 joined_state z sp ds b = record z { spaces = sp; defined_resources = ds; spent = b }
 
-pub instance_keeps : (a : Arena) (s z : Contents) (sp : SpaceLists) (ds : Defined) (b : Bool) (i : ComponentInstanceTypeId) (new : Paths) (k : ℕ) → z ≡ s → StateStands a s → Stands a (p.Instance i) → owned (tree_at a (p.Instance i)) ≡ [] →
+pub instance_keeps : (a : Arena) (s z : Contents) (sp : SpaceLists) (ds : Defined) (b : Bool) (i : ComponentInstanceTypeId) (new : Paths) (k : ℕ) → z ≡ s → StateStands a s → Stands a (p.Instance i) →
     All (λ (r : ResourceId × List ℕ). ResourceStands a r.0) new → (sp ≡ z.spaces) ⊎ (sp ≡ push_id in_instances i z.spaces) → ds ≡ z.defined_resources ++ unknown (take k new) → Keeps a a s (joined_state z sp ds b)
-instance_keeps a s z sp ds b i new k e h st own rs spaces made =
+instance_keeps a s z sp ds b i new k e h st rs spaces made =
     let s' : Contents = joined_state z sp ds b in
-    keeps_entry a s z s' (instance_entry i) e h refl st (λ q. own) spaces (each_side _ (inl refl) (inl refl)) (λ kept. same_imported a z kept _ _ (instance_entry i) refl (inl refl))
+    keeps_entry a s z s' (instance_entry i) e h refl st spaces (each_side _ (inl refl) (inl refl)) (λ kept. same_imported a z kept _ _ (instance_entry i) refl (inl refl))
     (λ kept. brought_defined a z kept (instance_entry i) new rs ds k made) (λ kept d. (no_more (names z d), kept.named d)) (λ kept. same_sized (trees a.nodes) z s' refl (each_side _ refl refl) kept) refl refl refl
 
 pub instance_joined : (a : Arena) (s z : Contents) (sp : SpaceLists) (m : NewInstance) (ds : Defined) (b : Bool) → z ≡ s → sp ≡ push_id in_instances m.ty z.spaces → ds ≡ z.defined_resources ++ unknown m.resources → (outer : List Tree_context) →

@@ -17,12 +17,10 @@ use Rattle.wcv_lower.specs.Checks.{missing}
 use Rattle.wcv_lower.specs.Context.{in_types, in_funcs, in_instances, in_components, core_modules}
 use Rattle.wcv_lower.specs.Entries.{items_of}
 use Rattle.wcv_lower.specs.Trees.{Type_tree}
-use Rattle.wcv_state.specs.Contents.{Contents, context_of, id_tree, core_tree, OwnsNone, StateStands}
+use Rattle.wcv_state.specs.Contents.{Contents, context_of, id_tree, core_tree, StateStands}
 use Rattle.wcv_state.specs.Looking.{item_id, item_id_checks, is_built_entity}
-use Rattle.wcv_state.specs.Promises.{EntityAlone}
 use Rattle.wcv_state.proofs.CoreItems.{missing_mapped}
 use Rattle.wcv_state.proofs.Found.{get_same, stands_at, core_same, core_stands_at}
-use Rattle.wcv_state.proofs.Keeping.{all_at}
 
 -- an entity that was read from a list has what each of the list gives
 pub read_as : {I : Type 0} (P : ComponentEntityType → Type 0) (to : I → ComponentEntityType) (o : Option I) (x : ComponentEntityType) → ((i : I) → o ≡ Some i → P (to i)) → option_map to o ≡ Some x → P x
@@ -33,7 +31,6 @@ read_as P to (Some i) x f e = subst P (some-inj e) (f i refl)
 pub record IsItem (a : Arena) (x : ComponentEntityType) : Type 0 where
   pub stands : EntityStands a x
   pub built : is_built_entity x ≡ true
-  pub alone : EntityAlone a x
 
 module _ (a : Arena) (s : Contents) (h : StateStands a s) where
   abbrev ts : List Type_tree
@@ -72,9 +69,9 @@ module _ (a : Arena) (s : Contents) (h : StateStands a s) where
   item_there w k x e = items_same w k (sort_built w k x e) ∙ ap (option_map (entity_tree ts)) e
 
   pub is_item : (w : ComponentExternalKind) (k : ℕ) (x : ComponentEntityType) → item_id s.spaces w k ≡ Some x → IsItem a x
-  is_item kind.Module k x e = read_as (IsItem a) entity.Module (slice_get s.spaces.core_modules k) x (λ i f. record { stands = core_stands_at a s h core_modules k i f; built = refl; alone = λ v. absurd (false≢true v) }) e
-  is_item kind.Func k x e = read_as (IsItem a) entity.Func (slice_get s.spaces.funcs k) x (λ i f. record { stands = stands_at a s h in_funcs k i f; built = refl; alone = λ v. absurd (false≢true v) }) e
-  is_item kind.Ty k x e = read_as (IsItem a) (λ (r : ComponentAnyTypeId). entity.Ty r r) (slice_get s.spaces.types k) x (λ i f. record { stands = stands_at a s h in_types k i f; built = refl; alone = λ v. absurd (false≢true v) }) e
-  is_item kind.Instance k x e = read_as (IsItem a) entity.Instance (slice_get s.spaces.instances k) x (λ i f. record { stands = stands_at a s h in_instances k i f; built = refl; alone = λ v. all_at (OwnsNone a) s.spaces.instances k i h.alone f }) e
-  is_item kind.Component k x e = read_as (IsItem a) entity.Component (slice_get s.spaces.components k) x (λ i f. record { stands = stands_at a s h in_components k i f; built = refl; alone = λ v. absurd (false≢true v) }) e
+  is_item kind.Module k x e = read_as (IsItem a) entity.Module (slice_get s.spaces.core_modules k) x (λ i f. record { stands = core_stands_at a s h core_modules k i f; built = refl }) e
+  is_item kind.Func k x e = read_as (IsItem a) entity.Func (slice_get s.spaces.funcs k) x (λ i f. record { stands = stands_at a s h in_funcs k i f; built = refl }) e
+  is_item kind.Ty k x e = read_as (IsItem a) (λ (r : ComponentAnyTypeId). entity.Ty r r) (slice_get s.spaces.types k) x (λ i f. record { stands = stands_at a s h in_types k i f; built = refl }) e
+  is_item kind.Instance k x e = read_as (IsItem a) entity.Instance (slice_get s.spaces.instances k) x (λ i f. record { stands = stands_at a s h in_instances k i f; built = refl }) e
+  is_item kind.Component k x e = read_as (IsItem a) entity.Component (slice_get s.spaces.components k) x (λ i f. record { stands = stands_at a s h in_components k i f; built = refl }) e
   is_item kind.Value k x e = absurd (cc)

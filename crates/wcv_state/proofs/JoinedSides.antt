@@ -88,6 +88,7 @@ introduce_is exporting rs c = refl
 -- what a call did to the state for an entry of a side
 pub record Joined_state (a : Arena) (d : Side) (z s' : Contents) (n : ComponentExternName) (x : NewEntity) : Type 0 where
   pub kinds : s'.kind ≡ z.kind
+  pub aliased : s'.aliased ≡ z.aliased
   pub slots : s'.context_type ≡ z.context_type
   pub spaces : s'.spaces ≡ entered x.ty z.spaces
   pub info : s'.info ≡ with_entry z.info (entity_tree (trees a.nodes) x.ty)
@@ -115,7 +116,7 @@ joined_stack a outer d z s' n x m w =
       named = λ e. w.named e j;
       size = (w.info j).size;
       depth = (w.info j).depth;
-      aliased = 0;
+      aliased = w.aliased j;
       context_type = w.slots j;
     }) in
     let whole : apply (joins tree_reader (sort t) t) (on a outer (name_types d (creates t) (enlist d (extern_name n) t (introduce d (brought_new a x).resources before)))) ≡ apply (joins tree_reader (sort t) t) (on a outer c) =

@@ -15,7 +15,7 @@ use Rattle.wcv_types.specs.Paths.{PathLeadsTo}
 use Rattle.wcv_types.specs.Replacing.{Replacement, given_at, moved, moves, given_elsewhere, changed, changed_in, replaced, GivesSame, GivesSameIn}
 use Rattle.wcv_types.specs.Sets.{same_resource}
 use Rattle.wcv_types.specs.Standing.{Stands}
-use Rattle.wcv_types.specs.Tree.{Sort, Head, resource, instance, node, Parts, none, part, head, exports, firsts, owned, owned_at}
+use Rattle.wcv_types.specs.Tree.{Sort, Head, resource, instance, node, Parts, none, part, head, exports, firsts, owned, owned_at, nothing, primitive, defined, func, component, type_entity, core_module, core_instance, core_type, core_item}
 use Rattle.wcv_types.specs.Unfold.{Type_tree, tree_at, trees, head_of}
 use Rattle.wcv_types.specs.Entities.{entity_tree, EntityStands}
 use Rattle.wcv_types.specs.declared.arena.Node.TheVariants as n
@@ -75,6 +75,21 @@ module _ (names : Names) (q : Place) where
 
   tree_stays : (t : Type_tree) (k : Name) (own : List Name) → head t ≡ instance k own → own ≡ [] → instance_tree names q t ≡ t
   tree_stays (node h ps) k own e f = with_head h ps k own e f
+
+-- so what owns nothing, of whatever sort
+pub tree_alone : (names : Names) (q : Place) (t : Type_tree) → owned t ≡ [] → instance_tree names q t ≡ t
+tree_alone names q (node (instance k own) ps) e = tree_stays names q (node (instance k own) ps) k own refl e
+tree_alone names q (node nothing ps) e = refl
+tree_alone names q (node (primitive x) ps) e = refl
+tree_alone names q (node (resource x y) ps) e = refl
+tree_alone names q (node (defined i k) ps) e = refl
+tree_alone names q (node (func i b) ps) e = refl
+tree_alone names q (node (component i ins outs) ps) e = refl
+tree_alone names q (node type_entity ps) e = refl
+tree_alone names q (node (core_module i x) ps) e = refl
+tree_alone names q (node (core_instance i x) ps) e = refl
+tree_alone names q (node (core_type i) ps) e = refl
+tree_alone names q (node (core_item x) ps) e = refl
 
 -- an entity that is no type of resources joins as it is
 pub stays_at : (a : Arena) (names : Names) (q : Place) (x : ComponentEntityType) → EntityStands a x → EntityAlone a x → brought_at (tree_maker names q) (entity_tree (trees a.nodes) x) ≡ brought_by tree_reader (entity_tree (trees a.nodes) x)

@@ -40,7 +40,8 @@ use Rattle.wcv_state.specs.declared.naming.NamedTypes.{NamedTypes}
 use Rattle.wcv_state.proofs.Keeping.{no_more, prefix_trans}
 use Rattle.wcv_state.proofs.NamedMore.{Named_sets, named_append, more_after, settled_more}
 use Rattle.wcv_state.proofs.NamedSets.{in_set, pushed_grows, names_none}
-use Rattle.wcv_state.proofs.Brought.{entity_sort, entity_sorted}
+use Rattle.wcv_state.specs.Looking.{entity_sort}
+use Rattle.wcv_state.proofs.Brought.{entity_sorted}
 
 -- ## By sorts
 

@@ -16,10 +16,11 @@ use Rattle.wcv_types.specs.Entities.{entry_trees}
 use Rattle.wcv_types.specs.Tree.{Text, Extern_name}
 use Rattle.wcv_types.specs.Unfold.{Type_tree}
 use Rattle.wcv_types.specs.declared.item_map.ComponentItem.{ComponentItem}
-use Rattle.wcv_names.specs.Externs.{conflicts, has_key, name_checks}
+use Rattle.wcv_names.specs.Externs.{entry_names, has_key, name_checks}
 use Rattle.wcv_names.specs.FuncTrees.{names_in}
 use Rattle.wcv_names.specs.KeySet.{key_text_of, keys_in, with_key}
 use Rattle.wcv_names.specs.ResourceNames.{Resource_names}
+use Rattle.wcv_names.specs.Rules.{Entries}
 use Rattle.wcv_names.proofs.Entering.{names_same}
 use Rattle.wcv_lower.specs.Checks.{IsFree}
 
@@ -48,12 +49,15 @@ formed : (o : Option Form) (b : Bool) → (is_none o || b) ≡ false → (f : Fo
 formed None b h = absurd (false≢true (sym h))
 formed (Some f) b h = (f, refl)
 
--- so of a name that may join
-pub may_join : (ts : List Type_tree) (es : List (Text × ComponentItem)) (ns : Resource_names) (fs : WasmFeatures) (n : Extern_name) (t : Type_tree) → IsFree (name_checks ns fs (entry_trees ts es) n t) → list_any (bytes_eq n.name) (names_in es) ≡ false
-may_join ts es ns fs n t h =
+-- so of a name that may join entries
+pub new_name : (ns : Resource_names) (fs : WasmFeatures) (es : Entries) (n : Extern_name) (t : Type_tree) → IsFree (name_checks ns fs es n t) → list_any (bytes_eq n.name) (entry_names es) ≡ false
+new_name ns fs es n t h =
     let w : (f : Form) × (form_of n.name ≡ Some f) = formed (form_of n.name) _ h.0 in
-    is_new (names_in es) n.name w.0 w.1
-    (ap (λ (o : Option Form). has_key o (keys_in (names_in es))) (sym w.1) ∙ ap (λ (l : List Text). conflicts l n.name) (sym (names_same ts es)) ∙ h.1.1.1.0)
+    is_new (entry_names es) n.name w.0 w.1 (ap (λ (o : Option Form). has_key o (keys_in (entry_names es))) (sym w.1) ∙ h.1.1.1.0)
+
+-- of an arena
+pub may_join : (ts : List Type_tree) (es : List (Text × ComponentItem)) (ns : Resource_names) (fs : WasmFeatures) (n : Extern_name) (t : Type_tree) → IsFree (name_checks ns fs (entry_trees ts es) n t) → list_any (bytes_eq n.name) (names_in es) ≡ false
+may_join ts es ns fs n t h = ap (λ (l : List Text). list_any (bytes_eq n.name) l) (sym (names_same ts es)) ∙ new_name ns fs (entry_trees ts es) n t h
 
 -- one more entry under a new name
 pub joined_apart : (es es' : List (Text × ComponentItem)) (e : Text × ComponentItem) → es' ≡ es ++ e ∷ [] → NamesDiffer es → list_any (bytes_eq e.0) (names_in es) ≡ false → NamesDiffer es'

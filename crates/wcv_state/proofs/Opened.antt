@@ -11,7 +11,7 @@ use Rattle.wcv_types.specs.Paths.{PathLeadsTo}
 use Rattle.wcv_types.specs.Replacing.{changed_in, new_head, replaced_in}
 use Rattle.wcv_types.specs.Resources.{owns}
 use Rattle.wcv_types.specs.Standing.{Extends}
-use Rattle.wcv_types.specs.Tree.{nothing, primitive, resource, defined, func, instance, component, type_entity, core_module, core_instance, core_type, core_item, node, sort, is_instance, head, exports}
+use Rattle.wcv_types.specs.Tree.{nothing, primitive, resource, defined, func, instance, component, type_entity, core_module, core_instance, core_type, core_item, node, sort, is_instance, head, exports, owned}
 use Rattle.wcv_types.specs.Unfold.{Type_tree, tree_at, trees}
 use Rattle.wcv_types.specs.declared.ids.ComponentInstanceTypeId.{ComponentInstanceTypeId}
 use Rattle.wcv_types.specs.declared.ids.Part.TheVariants as part
@@ -24,11 +24,12 @@ use Rattle.wcv_lower.specs.Checks.{Checks, IsFree}
 use Rattle.wcv_lower.specs.Given.{GivenNames, names_of, none_given, both_given, GivesAt}
 use Rattle.wcv_lower.specs.Names.{Names, Under}
 use Rattle.wcv_lower.specs.NewTypes.{owned_anew, instance_tree}
+use Rattle.wcv_lower.specs.Owned.{OwnsApart}
 use Rattle.wcv_lower.specs.Readers.{Maker}
 use Rattle.wcv_lower.specs.Step.{Brought, brought_at}
 use Rattle.wcv_lower.specs.Trees.{tree_reader, tree_maker}
 use Rattle.wcv_state.specs.Bringing.{LeadsWithin, EntityOpened, Found}
-use Rattle.wcv_state.specs.Instances.{InstanceMade}
+use Rattle.wcv_state.specs.Instances.{InstanceMade, EntityMayOpen}
 use Rattle.wcv_state.specs.Looking.{is_built_entity, introduced_id, introduced_in, created_reference}
 use Rattle.wcv_state.specs.Promises.{numbers_of, is_instance_entity, EntityAlone}
 use Rattle.wcv_state.specs.declared.bringing.NewEntity.{NewEntity}
@@ -60,7 +61,7 @@ module _ (a : Arena) (x : ComponentEntityType) (b : is_built_entity x ≡ true) 
         given = λ p. record { resources = tt; identities = tt };
         brought = λ p. stays_at a (names_of none_given) p x h e ∙ brought_same a x h;
         bare = λ k. (refl, λ p. refl);
-        may_join = record { built = b; stands = h; resources = w.0; lead = w.1; alone = e };
+        may_join = record { built = b; stands = h; resources = w.0; lead = w.1 };
         fresh = w.2;
         created = refl;
       }
@@ -70,6 +71,29 @@ module _ (a : Arena) (x : ComponentEntityType) (b : is_built_entity x ≡ true) 
   bare_opened n e t r =
       let is : n ≡ as_new x = λ j. record { ty = t j; resources = r j } in
       subst (EntityOpened a a x) (sym is) (new_opened e)
+
+-- what owns nothing may be opened
+alone_apart : (t : Type_tree) → sort t ≡ is_instance → owned t ≡ [] → OwnsApart t
+alone_apart (node (instance i own) ps) s e = λ r k. absurd (false≢true (ap (λ (rs : List Name). owns (instance i rs) r) (sym e) ∙ k))
+alone_apart (node nothing ps) s e = absurd (cc)
+alone_apart (node (primitive q) ps) s e = absurd (cc)
+alone_apart (node (resource q n) ps) s e = absurd (cc)
+alone_apart (node (defined i k) ps) s e = absurd (cc)
+alone_apart (node (func i b) ps) s e = absurd (cc)
+alone_apart (node (component i ins outs) ps) s e = absurd (cc)
+alone_apart (node type_entity ps) s e = absurd (cc)
+alone_apart (node (core_module i n) ps) s e = absurd (cc)
+alone_apart (node (core_instance i n) ps) s e = absurd (cc)
+alone_apart (node (core_type i) ps) s e = absurd (cc)
+alone_apart (node (core_item x) ps) s e = absurd (cc)
+
+pub alone_opens : (b : Arena) (x : ComponentEntityType) → EntityStands b x → EntityAlone b x → EntityMayOpen b x
+alone_opens b (entity.Instance i) h o = alone_apart (tree_at b (part.Instance i)) (sort_stands b (part.Instance i) h) (o refl)
+alone_opens b (entity.Module i) h o = tt
+alone_opens b (entity.Func i) h o = tt
+alone_opens b (entity.Value v) h o = tt
+alone_opens b (entity.Ty c r) h o = tt
+alone_opens b (entity.Component i) h o = tt
 
 -- ## An instance
 
@@ -117,7 +141,6 @@ module _ (a b : Arena) (i : ComponentInstanceTypeId) (m : NewInstance) (g : Exte
       stands = w.stands;
       resources = w.below;
       lead = All-weaker (λ (r : ResourceId × List ℕ). PathLeadsTo r.1 (number r.0.index) (exports made)) (λ (r : ResourceId × List ℕ). LeadsWithin r.1 (number r.0.index) made) (λ r k. within r.1 (number r.0.index) k) m.resources w.lead;
-      alone = λ e. w.alone;
     };
     fresh = All-weaker (λ (r : ResourceId × List ℕ). a.resources ≤ r.0.index) (λ (r : ResourceId × List ℕ). (introduced_id (entity.Instance i) ≡ Some r.0) ⊎ (a.resources ≤ r.0.index)) (λ r k. inr k) m.resources w.fresh;
     created = refl;

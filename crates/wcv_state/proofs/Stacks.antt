@@ -1,5 +1,5 @@
 -- The innermost of the states that are open.
-use Rattle.std.proofs.Common.{◌≡◌, ℕ, zero, suc, ◌<◌, ◌-◌, List, [], ◌∷◌, ◌++◌, length, map, refl, ap, subst, sym, ◌∙◌, arith, slice_set, slice_index_or, All, true}
+use Rattle.std.proofs.Common.{◌≡◌, ℕ, zero, suc, ◌<◌, ◌-◌, List, [], ◌∷◌, ◌++◌, length, refl, ap, subst, sym, ◌∙◌, arith, slice_set, slice_index_or, All, true}
 use Rattle.std.specs.Prelude.{reverse}
 use Rattle.std.proofs.lemmas.List.{map-append}
 use Rattle.std.proofs.lemmas.List.Elements.{All-nil, All-cons, All-head, All-tail, AllZip-push}
@@ -8,14 +8,43 @@ use Rattle.wcv_core.specs.declared.error.Error.{Error}
 use Rattle.wcv_syntax.specs.Model.{Form}
 use Rattle.wcv_types.specs.Arena.{Arena}
 use Rattle.wcv_types.specs.Standing.{Extends}
+use Rattle.wcv_types.proofs.Grown.{extends_refl}
 use Rattle.wcv_lower.specs.Given.{names_of, none_given, GivesAt}
 use Rattle.wcv_lower.specs.Growth.{call_checks}
 use Rattle.wcv_lower.specs.Names.{Under}
 use Rattle.wcv_lower.specs.Trees.{tree_maker}
 use Rattle.wcv_state.specs.Contents.{Contents, spent, context_of, StateStands}
 use Rattle.wcv_state.specs.Promises.{numbers_of, MemoryOrCausedBy, Keeps, Grew}
-use Rattle.wcv_state.specs.Stack.{IsOpen, all_spent, GrewOn, RefusedOn, KeepsOn, contexts_around, stack_on}
+use Rattle.wcv_state.specs.Stack.{IsOpen, stay, all_spent, ChangesLast, GrewOn, RefusedOn, KeepsOn, innermost, around, contexts_around, stack_on}
 use Rattle.wcv_state.proofs.Keeping.{same_mapped, same_context, keeps_grown, keeps_marked, keeps_trans}
+
+-- ## The innermost and those around it
+
+pub innermost_at : (outer : List Contents) (s : Contents) → innermost (outer ++ s ∷ []) ≡ s
+innermost_at [] s = refl
+innermost_at (x ∷ []) s = refl
+innermost_at (x ∷ y ∷ xs) s = innermost_at (y ∷ xs) s
+
+pub around_at : (outer : List Contents) (s : Contents) → around (outer ++ s ∷ []) ≡ outer
+around_at [] s = refl
+around_at (x ∷ []) s = refl
+around_at (x ∷ y ∷ xs) s = ap (λ (zs : List Contents). x ∷ zs) (around_at (y ∷ xs) s)
+
+pub parted : (ss : List Contents) → 0 < length ss → ss ≡ around ss ++ innermost ss ∷ []
+parted [] h = absurd (omega (arith, h))
+parted (s ∷ []) h = refl
+parted (s ∷ t ∷ ss) h = ap (λ (zs : List Contents). s ∷ zs) (parted (t ∷ ss) (omega arith))
+
+pub some_at : (outer : List Contents) (s : Contents) → 0 < length (outer ++ s ∷ [])
+some_at [] s = omega arith
+some_at (x ∷ xs) s = omega arith
+
+pub indexed : (ss : List Contents) (k : ℕ) (d : Contents) → 0 < length ss → k ≡ length ss - 1 → slice_index_or ss k d ≡ innermost ss
+indexed [] k d h e = absurd (omega (arith, h))
+indexed (s ∷ []) k d h e = let z : k ≡ 0 = omega (arith, e) in ap (λ (i : ℕ). slice_index_or (s ∷ []) i d) z
+indexed (s ∷ t ∷ ss) k d h e =
+    let z : k ≡ suc (length (t ∷ ss) - 1) = omega (arith, e) in
+    ap (λ (i : ℕ). slice_index_or (s ∷ t ∷ ss) i d) z ∙ indexed (t ∷ ss) (length (t ∷ ss) - 1) d (omega arith) refl
 
 -- the states, of which the last is the innermost
 pub open_split : (a : Arena) (outer : List Contents) (s : Contents) → All (IsOpen a) (outer ++ s ∷ []) → All (IsOpen a) outer × IsOpen a s
@@ -66,6 +95,27 @@ module _ (a b : Arena) where
   kept_marked (s ∷ ss) [] h = elim h [ ]
   kept_marked (s ∷ ss) (t ∷ ts) h = (keeps_trans a b b s t (spent t) h.0 (keeps_marked b t t true refl h.0.stands), kept_marked ss ts h.1)
 
+-- states that stayed
+stay_kept : (a : Arena) (ss : List Contents) → All (StateStands a) ss → KeepsOn a a ss ss
+stay_kept a [] h = tt
+stay_kept a (s ∷ ss) h = (keeps_grown a a s (extends_refl a) (All-head (StateStands a) s ss h), stay_kept a ss (All-tail (StateStands a) s ss h))
+
+-- after one call and then another
+pub kept_both : (a b c : Arena) (ss ts us : List Contents) → KeepsOn a b ss ts → KeepsOn b c ts us → KeepsOn a c ss us
+kept_both a b c [] [] [] h k = tt
+kept_both a b c [] [] (u ∷ us) h k = elim k [ ]
+kept_both a b c [] (t ∷ ts) us h k = elim h [ ]
+kept_both a b c (s ∷ ss) [] us h k = elim h [ ]
+kept_both a b c (s ∷ ss) (t ∷ ts) [] h k = elim k [ ]
+kept_both a b c (s ∷ ss) (t ∷ ts) (u ∷ us) h k = (keeps_trans a b c s t u h.0 k.0, kept_both a b c ss ts us h.1 k.1)
+
+-- where one of them became another
+pub kept_set : (a : Arena) (ss : List Contents) (k : ℕ) (s t : Contents) → All (StateStands a) ss → s ≡ slice_index_or ss k s → Keeps a a s t → KeepsOn a a ss (slice_set ss k t)
+kept_set a [] zero s t h e w = tt
+kept_set a [] (suc k) s t h e w = tt
+kept_set a (x ∷ xs) zero s t h e w = (subst (λ (z : Contents). Keeps a a z t) e w, stay_kept a xs (All-tail (StateStands a) x xs h))
+kept_set a (x ∷ xs) (suc k) s t h e w = (keeps_grown a a x (extends_refl a) (All-head (StateStands a) x xs h), kept_set a xs k s t (All-tail (StateStands a) x xs h) e w)
+
 -- ## The states before and after a call on the innermost
 
 module _ (ss : List Contents) (k : ℕ) (s s' : Contents) (e : k ≡ length ss - 1) (h : 0 < length ss) (i : s ≡ slice_index_or ss k s) where
@@ -97,3 +147,25 @@ module _ (ss : List Contents) (k : ℕ) (s s' : Contents) (e : k ≡ length ss -
     last = record { outer = r.front; old = s; new = spent s'; was = r.was; becomes = marked s' r.front (slice_set ss k s') r.becomes };
     refused = (refl, record { names = none_given; given = none_made a a' p; caused = g r.front r.was });
   }
+
+-- the innermost became another
+pub last_becomes : (ss : List Contents) (k : ℕ) (s s' : Contents) → k ≡ length ss - 1 → 0 < length ss → s ≡ slice_index_or ss k s → ChangesLast stay ss (slice_set ss k s')
+last_becomes ss k s s' e h i = let r = last_set ss k s s' e h i in record { outer = r.front; old = s; new = s'; was = r.was; becomes = r.becomes }
+
+-- where it may have, and is refused
+pub refused_alone : {M : Type 0} (a : Arena) (p : Place) (ss ts : List Contents) (f : Form) (offset : ℕ) (x : Error M) → ChangesLast stay ss ts →
+    MemoryOrCausedBy (call_checks (innermost ss).features (tree_maker (names_of none_given) p) (stack_on a (around ss) (innermost ss)) f) offset x → RefusedOn a a p ss (all_spent ts) f offset x
+refused_alone a p ss ts f offset x l w =
+    let s : innermost ss ≡ l.old = ap innermost l.was ∙ innermost_at l.outer l.old in
+    let o : around ss ≡ l.outer = ap around l.was ∙ around_at l.outer l.old in
+    record {
+      last = record { outer = l.outer; old = l.old; new = spent l.new; was = l.was; becomes = marked l.new l.outer ts l.becomes };
+      refused = (
+        refl,
+        record {
+          names = none_given;
+          given = none_made a a p;
+          caused = subst (λ (y : Contents × List Contents). MemoryOrCausedBy (call_checks y.0.features (tree_maker (names_of none_given) p) (stack_on a y.1 y.0) f) offset x) (λ j. (s j, o j)) w;
+        },
+      );
+    }

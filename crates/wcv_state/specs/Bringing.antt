@@ -21,7 +21,7 @@ use Rattle.wcv_lower.specs.Step.{brought_at, apply, enters}
 use Rattle.wcv_lower.specs.Trees.{Tree_context, tree_reader, tree_maker}
 use Rattle.wcv_state.specs.Contents.{Contents, context_of, stack_of}
 use Rattle.wcv_state.specs.Looking.{is_built_entity, introduced_id, has_resource, created_reference}
-use Rattle.wcv_state.specs.Promises.{numbers_of, is_instance_entity, EntityAlone}
+use Rattle.wcv_state.specs.Promises.{numbers_of, is_instance_entity}
 use Rattle.wcv_state.specs.declared.bringing.NewEntity.{NewEntity}
 
 -- resources, each with a path
@@ -43,7 +43,6 @@ pub record MayJoin (a : Arena) (n : NewEntity) : Type 0 where
   pub stands : EntityStands a n.ty
   pub resources : All (λ (r : ResourceId × List ℕ). ResourceStands a r.0) n.resources
   pub lead : All (λ (r : ResourceId × List ℕ). LeadsWithin r.1 (number r.0.index) (entity_tree (trees a.nodes) n.ty)) n.resources
-  pub alone : EntityAlone a n.ty
 
 -- none of the resources is in that list
 abbrev pub AreNewIn : {X : Type 0} → List (ResourceId × X) → Paths → Type 0

@@ -4,6 +4,9 @@ use Rattle.std.specs.List.{IsDistinct}
 use Rattle.wcv_core.specs.Names.{Place, number}
 use Rattle.wcv_syntax.specs.declared.component_type.ComponentTypeRef.{ComponentTypeRef}
 use Rattle.wcv_syntax.specs.declared.component_type.ComponentTypeRef.TheVariants as ref
+use Rattle.wcv_syntax.specs.declared.instance.ComponentExternalKind.{ComponentExternalKind}
+use Rattle.wcv_syntax.specs.declared.instance.ComponentExternalKind.TheVariants as kind
+use Rattle.wcv_syntax.specs.declared.name.ComponentExport.{ComponentExport}
 use Rattle.wcv_types.specs.Arena.{Arena}
 use Rattle.wcv_types.specs.ComponentTrees.{resource_path}
 use Rattle.wcv_types.specs.Paths.{PathLeadsTo}
@@ -17,7 +20,7 @@ use Rattle.wcv_types.specs.declared.ids.ComponentInstanceTypeId.{ComponentInstan
 use Rattle.wcv_types.specs.declared.ids.Part.TheVariants as part
 use Rattle.wcv_types.specs.declared.shapes.ComponentEntityType.{ComponentEntityType}
 use Rattle.wcv_types.specs.declared.shapes.ComponentEntityType.TheVariants as entity
-use Rattle.std.specs.Prelude.{Some, slice_get}
+use Rattle.std.specs.Prelude.{ℕ, Option, Some, None, slice_get}
 use Rattle.wcv_lower.specs.Given.{GivenNames, names_of, none_given, GivesAt}
 use Rattle.wcv_lower.specs.Names.{Under}
 use Rattle.wcv_lower.specs.Owned.{OwnsApart}
@@ -47,6 +50,14 @@ pub record InstanceMade (a b : Arena) (i : ComponentInstanceTypeId) (m : NewInst
 abbrev pub MayOpen : Arena → List ComponentAnyTypeId → ComponentTypeRef → Type 0
 MayOpen a types (ref.Instance k) = (i : ComponentInstanceTypeId) → slice_get types k ≡ Some (any.Instance i) → OwnsApart (tree_at a (part.Instance i))
 MayOpen a types r = Unit {0}
+
+-- so of an instance that is exported without a written type
+abbrev pub MayOpenItem : Arena → List ComponentInstanceTypeId → ComponentExternalKind → ℕ → Option ComponentTypeRef → Type 0
+MayOpenItem a instances kind.Instance k None = (i : ComponentInstanceTypeId) → slice_get instances k ≡ Some i → OwnsApart (tree_at a (part.Instance i))
+MayOpenItem a instances w k o = Unit {0}
+
+abbrev pub ItemMayOpen : Arena → List ComponentInstanceTypeId → ComponentExport → Type 0
+ItemMayOpen a instances e = MayOpenItem a instances e.kind e.index e.ty
 
 -- so of an entity
 abbrev pub EntityMayOpen : Arena → ComponentEntityType → Type 0

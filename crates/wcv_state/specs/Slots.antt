@@ -25,7 +25,7 @@ slots_of a s = record {
   named = λ d. identities (names s d);
   size = s.info.size;
   depth = s.info.depth;
-  aliased = 0;
+  aliased = s.aliased;
   context_type = s.context_type;
 }
 

@@ -1,10 +1,11 @@
-// Aliases of what core instances export.
-ghost use Rattle.std.specs.Prelude.{◌≡◌, ◌∷◌, ◌<◌, [], true, false, not, length, List, All, Some, bytes_eq, OnOk, IfOk, IfErr};
+// Aliases, and those of what core instances export.
+ghost use Rattle.std.specs.Prelude.{◌≡◌, ◌∷◌, ◌<◌, [], true, false, not, length, List, All, Some, bytes_eq, OnOk, OnErr, IfOk, IfErr};
 ghost use Rattle.std.specs.Map.{lookup};
 ghost use Rattle.wcv_core.specs.CoreGroups.{total};
 ghost use Rattle.wcv_core.specs.CoreSizes.{IsEntityWithin};
 ghost use Rattle.wcv_core.specs.Names.{Place};
 ghost use Rattle.wcv_core.specs.declared.error.ErrorKind.TheVariants as kinds;
+ghost use Rattle.wcv_syntax.specs.Built.{is_built_alias as is_alias_built};
 ghost use Rattle.wcv_syntax.specs.Model.{alias_item};
 ghost use Rattle.wcv_types.specs.Standing.{Stands};
 ghost use Rattle.wcv_types.specs.Unfold.{tree_at};
@@ -17,19 +18,21 @@ ghost use Rattle.wcv_lower.specs.CoreInstances.{is_of as is_sort_of};
 ghost use Rattle.wcv_lower.specs.Growth.{call_checks};
 ghost use Rattle.wcv_lower.specs.Names.{Names};
 ghost use Rattle.wcv_lower.specs.Trees.{Tree_context, tree_maker};
+ghost use Rattle.wcv_state.specs.Aliasing.{is_outer, AliasedOn};
 ghost use Rattle.wcv_state.specs.Contents.{kind_of, context_of, stack_of, StateStands};
 ghost use Rattle.wcv_state.specs.Looking.{AliasFinds};
 ghost use Rattle.wcv_state.specs.Promises.{CausedBy, MemoryOrCausedBy, Keeps, Grew};
-ghost use Rattle.wcv_state.specs.Stack.{IsOpen, GrewOn, RefusedOn, KeepsOn};
+ghost use Rattle.wcv_state.specs.Stack.{IsOpen, ChangesLast, RefusedOn, KeepsOn, around, innermost, stack_on, stay};
 
 use crate::core_items::{check_core_sort, check_item_room, is_of, sort_name};
 use crate::forms::unbuilt;
 use crate::kind::ComponentKind;
 use crate::marks::mark_all_spent;
+use crate::outer_aliases::add_outer_alias;
 use crate::state::ComponentState;
 use wcv_core::{EntityType, Error, ErrorKind, Refusal, Text, Why};
 use wcv_matching::core_exports;
-use wcv_syntax::{ComponentAlias, ExternalKind};
+use wcv_syntax::{ComponentAlias, ExternalKind, is_built_alias};
 use wcv_types::{ComponentCoreInstanceTypeId, TypeAlloc};
 
 /// Whether what a core instance exports may be aliased where the item stands.
@@ -120,7 +123,7 @@ impl ComponentState {
         Ok(())
     }
 
-    /// An alias in this state, where it is built.
+    /// An alias of what an instance or a core instance in this state exports.
     fn add_alias_here(
         &mut self,
         alias: ComponentAlias,
@@ -129,25 +132,35 @@ impl ComponentState {
     ) -> Result<(), Error>
         requires live { self.old.spent ≡ false }
         requires stands { StateStands types.now self.old }
+        requires built { is_alias_built alias ≡ true }
+        requires here { is_outer alias ≡ false }
         ensures ok { OnOk result ((outer : List Tree_context) (p : Place) → Grew types.now types.now outer p self.old self.new (alias_item alias)) }
         ensures err { IfErr result (λ e. (outer : List Tree_context) (n : Names) (p : Place) → MemoryOrCausedBy (call_checks self.old.features (tree_maker n p) (stack_of types.now self.old outer) (alias_item alias)) offset e) }
         ensures keeps { Keeps types.now types.now self.old self.new }
     {
         match alias {
+            ComponentAlias::InstanceExport {
+                kind,
+                instance_index,
+                name,
+            } => self.add_export_alias(kind, instance_index, name, types, offset),
             ComponentAlias::CoreInstanceExport {
                 kind,
                 instance_index,
                 name,
             } => self.add_core_alias(kind, instance_index, name, types, offset),
-            _ => Err(Error::from(unbuilt(offset))),
+            ComponentAlias::Outer { .. } => unreachable!(),
         }
     }
 
-    /// Reads an alias: what a core instance exports under a name joins the space of its sort in the innermost state.
-    /// Refuses an index of a core instance that is not below the length as `OutOfBounds`, a name that the core instance
-    /// lacks as `UnknownExport`, an export of another sort as `WrongSort`, a tag without its feature as `Feature`, an
-    /// alias in a declared type as `AliasKind`, more items than there may be as `Limit`, and an alias that is not built
-    /// yet as `Unbuilt`. After an error the states are spent. The length of the name is left to the caller.
+    /// Reads an alias into the innermost state: what an instance or a core instance exports under a name, or what stands
+    /// in a state further out, joins the space of its sort. Refuses an index that is not below the length of its space,
+    /// and a count of states that is not below their number, as `OutOfBounds`, a name that the instance lacks as
+    /// `UnknownExport`, an export of another sort as `WrongSort`, a tag without its feature as `Feature`, an alias that a
+    /// declared type may not have as `AliasKind`, a type or a component in which a resource is free and that would cross
+    /// into a component as `ResourceScope`, more items than there may be, or more that crosses, as `Limit`, and an alias
+    /// that is not built yet as `Unbuilt`. What crosses is charged to the state right after the one that it stands in,
+    /// where that is a component. After an error the states are spent. The length of the name is left to the caller.
     pub fn add_alias(
         components: &mut [ComponentState],
         alias: ComponentAlias,
@@ -156,17 +169,44 @@ impl ComponentState {
     ) -> Result<(), Error>
         requires some { 0 < length components.old }
         requires open { All (IsOpen types.old) components.old }
-        ensures ok { OnOk result ((p : Place) → GrewOn types.old types.new p components.old components.new (alias_item alias)) }
+        ensures ok { OnOk result (AliasedOn types.old types.new components.old components.new alias) }
         ensures err { IfErr result (λ e. (p : Place) → RefusedOn types.old types.new p components.old components.new (alias_item alias) offset e) }
         ensures keeps { KeepsOn types.old types.new components.old components.new }
     {
-        let last = components.len() - 1;
-        match components[last].add_alias_here(alias, types, offset) {
+        match add_alias_on(components, alias, types, offset) {
             Ok(()) => Ok(()),
             Err(error) => {
                 mark_all_spent(components);
                 Err(error)
             }
+        }
+    }
+}
+
+/// An alias in the innermost of the states. After an error the others are as they were.
+fn add_alias_on(
+    components: &mut [ComponentState],
+    alias: ComponentAlias,
+    types: &TypeAlloc,
+    offset: u64,
+) -> Result<(), Error>
+    requires some { 0 < length components.old }
+    requires open { All (IsOpen types.now) components.old }
+    ensures ok { OnOk result (AliasedOn types.now types.now components.old components.new alias) }
+    ensures err { IfErr result (λ e. (n : Names) (p : Place) → MemoryOrCausedBy (call_checks (innermost components.old).features (tree_maker n p) (stack_on types.now (around components.old) (innermost components.old)) (alias_item alias)) offset e) }
+    ensures last { OnErr result (ChangesLast stay components.old components.new) }
+    ensures keeps { KeepsOn types.now types.now components.old components.new }
+{
+    if !is_built_alias(&alias) {
+        return Err(Error::from(unbuilt(offset)));
+    }
+    match alias {
+        ComponentAlias::Outer { kind, count, index } => {
+            add_outer_alias(components, kind, count, index, types, offset)
+        }
+        inside => {
+            let last = components.len() - 1;
+            components[last].add_alias_here(inside, types, offset)
         }
     }
 }

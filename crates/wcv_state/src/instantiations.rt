@@ -137,7 +137,6 @@ impl ComponentState {
         requires live { self.old.spent ≡ false }
         requires stands { StateStands types.now self.old }
         requires instance { Stands types.now (part.Instance new.now.ty) }
-        requires alone { owned (tree_at types.now (part.Instance new.now.ty)) ≡ [] }
         requires resources { All (λ r. r.0.index < types.now.resources) new.now.resources }
         requires fresh { AreNewIn self.old.defined_resources new.now.resources }
         ensures ok { OnOk result (InstanceJoined types.now self.old self.new new.now) }

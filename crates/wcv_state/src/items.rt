@@ -10,12 +10,12 @@ ghost use Rattle.wcv_lower.specs.Entries.{written_checks, exported_checks};
 ghost use Rattle.wcv_lower.specs.Trees.{Tree_context};
 ghost use Rattle.wcv_state.specs.Bringing.{EntityOpened, Found};
 ghost use Rattle.wcv_state.specs.Contents.{marks_aside, context_of, StateStands};
-ghost use Rattle.wcv_state.specs.Instances.{MayOpen, EntityMayOpen};
+ghost use Rattle.wcv_state.specs.Instances.{MayOpen, ItemMayOpen, EntityMayOpen};
 ghost use Rattle.wcv_state.specs.Looking.{is_built_entity as built_entity, GivesItem};
 ghost use Rattle.wcv_state.specs.Promises.{MemoryOrCausedBy, Keeps, Grew, Refuses, RefusesBy, if_built, WrittenEntity, ref_checks, Exported, ItemCaused, Entered, EntryCaused, is_instance_entity, MayJoinExports};
 
 use crate::ascribing::check_ascribed;
-use crate::bringing::{NewEntity, as_it_is, open_entity};
+use crate::bringing::{NewEntity, open_entity};
 use crate::entries::is_built_entity;
 use crate::forms::{exported, item_at, unbuilt, written};
 use crate::state::ComponentState;
@@ -170,6 +170,7 @@ impl ComponentState {
         requires stands { StateStands types.old self.old }
         ensures ok { IfOk result (λ x. (p : Place) → Exported types.old types.new p self.old export.now x) }
         ensures joins { IfOk result (MayJoinExports types.new self.new) }
+        ensures opens { IfOk result (λ x. ItemMayOpen types.old self.old.spaces.instances export.now → EntityMayOpen types.new x) }
         ensures same { OnOk result (marks_aside self.new ≡ marks_aside self.old) }
         ensures spent { OnErr result (self.new.spent ≡ true) }
         ensures err { IfErr result (λ e. (p : Place) → ItemCaused types.old types.new p self.old export.now offset e) }
@@ -227,7 +228,8 @@ impl ComponentState {
         types: &mut TypeAlloc,
         offset: u64,
     ) -> Result<NewEntity, Error>
-        requires { StateStands types.old self.now }
+        requires stands { StateStands types.old self.now }
+        requires opens { ItemMayOpen types.old self.now.spaces.instances export.now }
         ensures built { OnOk result (is_built_item export.now ≡ true) }
         ensures ok { IfOk result (λ n. Found types.old types.new n (λ k. exported_checks types.old.core k (context_of types.old self.now) export.now) (λ k. rules.exported k (context_of types.old self.now) export.now)) }
         ensures grown { Extends types.old types.new }
@@ -235,7 +237,7 @@ impl ComponentState {
     {
         match self.exported_entity(export, types, offset) {
             Ok(entity) => {
-                let new = as_it_is(entity, types.allocator())?;
+                let new = open_entity(types, entity)?;
                 Ok(new)
             }
             Err(error) => Err(error),
@@ -252,6 +254,7 @@ impl ComponentState {
     ) -> Result<(), Error>
         requires live { self.old.spent ≡ false }
         requires stands { StateStands types.old self.old }
+        requires opens { ItemMayOpen types.old self.old.spaces.instances export }
         ensures ok { OnOk result ((outer : List Tree_context) (p : Place) → Grew types.old types.new outer p self.old self.new (export_item export)) }
         ensures err { IfErr result (λ e. (outer : List Tree_context) (p : Place) → Refuses types.old types.new outer p self.old self.new (export_item export) offset e) }
         ensures keeps { Keeps types.old types.new self.old self.new }

@@ -60,8 +60,8 @@ pub fn an_arena_makes_what_trees_say()
 /// The entity of an exported item, and then its entry, are together the export, whatever was marked as used between.
 /// So with a written type: together they are a declared export.
 pub fn two_calls_are_an_export()
-    ensures item { (a b : Arena) (outer : List Tree_context) (p : Place) (s t s' : Contents) (e : ComponentExport) (x : ComponentEntityType) → StateStands a s → Extends a b → Exported a b p s e x → marks_aside t ≡ marks_aside s →
-        Entered true b b outer p t s' e.name x → Grew a b outer p s s' (export_item e) }
+    ensures item { (a b c : Arena) (outer : List Tree_context) (p : Place) (s t s' : Contents) (e : ComponentExport) (x : ComponentEntityType) → StateStands a s → Extends a b → Extends b c → Exported a b p s e x → marks_aside t ≡ marks_aside s →
+        Entered true b c outer p t s' e.name x → Grew a c outer p s s' (export_item e) }
     ensures entity { (a b c : Arena) (outer : List Tree_context) (p : Place) (s s' : Contents) (r : ComponentTypeRef) (n : ComponentExternName) (x : ComponentEntityType) → StateStands a s → Extends a b → Extends b c → WrittenEntity a b p s r x →
         Entered true b c outer p s s' n x → ExportDeclared a c outer p s s' n r }
 {}

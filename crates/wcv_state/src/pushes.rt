@@ -1,15 +1,17 @@
 // One more entry in a space, or one more resource that is defined.
-ghost use Rattle.std.specs.Prelude.{◌≡◌, false, OnOk, OnErr};
-ghost use Rattle.wcv_lower.specs.Context.{in_types, in_funcs, in_instances, core_types, core_funcs, core_tags, core_modules, core_instances, core_memories, core_tables, core_globals};
+ghost use Rattle.std.specs.Prelude.{◌≡◌, true, false, OnOk, OnErr};
+ghost use Rattle.wcv_lower.specs.Context.{in_types, in_funcs, in_instances, in_components, core_types, core_funcs, core_tags, core_modules, core_instances, core_memories, core_tables, core_globals};
+ghost use Rattle.wcv_state.specs.Aliasing.{with_entity};
 ghost use Rattle.wcv_state.specs.Contents.{with_id, with_core, with_defined, spent};
-ghost use Rattle.wcv_state.specs.Looking.{has_resource};
+ghost use Rattle.wcv_state.specs.Looking.{has_resource, is_built_entity};
 
 use crate::spaces::append;
 use crate::state::ComponentState;
 use wcv_core::{CoreTypeId, GlobalType, MemoryType, OutOfMemory, TableType, ValType};
 use wcv_types::{
     ComponentAnyTypeId, ComponentCoreInstanceTypeId, ComponentCoreModuleTypeId,
-    ComponentCoreTypeId, ComponentFuncTypeId, ComponentInstanceTypeId, ResourceId,
+    ComponentCoreTypeId, ComponentEntityType, ComponentFuncTypeId, ComponentInstanceTypeId,
+    ComponentTypeId, ResourceId,
 };
 
 impl ComponentState {
@@ -176,6 +178,39 @@ impl ComponentState {
                 self.spent = true;
                 Err(error)
             }
+        }
+    }
+
+    /// Appends a component of that type, whatever the number of components.
+    pub fn push_component(&mut self, ty: ComponentTypeId) -> Result<(), OutOfMemory>
+        requires live { self.old.spent ≡ false }
+        ensures ok { OnOk result (self.new ≡ with_id in_components ty self.old) }
+        ensures err { OnErr result (self.new ≡ spent self.old) }
+    {
+        match append(&mut self.spaces.components, ty) {
+            Ok(()) => Ok(()),
+            Err(error) => {
+                self.spent = true;
+                Err(error)
+            }
+        }
+    }
+
+    /// Appends an entity to the space of its sort, whatever the number of those there: of a type the created one. It
+    /// is no value.
+    pub(crate) fn push_entity(&mut self, ty: ComponentEntityType) -> Result<(), OutOfMemory>
+        requires live { self.old.spent ≡ false }
+        requires built { is_built_entity ty ≡ true }
+        ensures ok { OnOk result (self.new ≡ with_entity ty self.old) }
+        ensures err { OnErr result (self.new ≡ spent self.old) }
+    {
+        match ty {
+            ComponentEntityType::Module(id) => self.push_core_module(id),
+            ComponentEntityType::Func(id) => self.push_func(id),
+            ComponentEntityType::Ty { created, .. } => self.push_type(created),
+            ComponentEntityType::Instance(id) => self.push_instance(id),
+            ComponentEntityType::Component(id) => self.push_component(id),
+            ComponentEntityType::Value(_) => unreachable!(),
         }
     }
 

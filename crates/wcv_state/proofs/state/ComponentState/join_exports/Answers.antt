@@ -31,7 +31,7 @@ returns-in_err-name_entry-clause-err c =
 
 pub returns-in_err-name_entry-clause-keeps : goal.returns-in_err-name_entry-clause-keeps
 returns-in_err-name_entry-clause-keeps c =
-    keeps_entry c.args.types.now c.args.self.now (contents_of c.self.inside) _ (entry_of c.args.name c.args.new.now.ty) c.self.view_is c.requires.stands c.requires.may_join.built c.requires.may_join.stands c.requires.may_join.alone (inl refl)
+    keeps_entry c.args.types.now c.args.self.now (contents_of c.self.inside) _ (entry_of c.args.name c.args.new.now.ty) c.self.view_is c.requires.stands c.requires.may_join.built c.requires.may_join.stands (inl refl)
     (each_side _ (inl refl) (inl refl)) (λ k. same_imported c.args.types.now (contents_of c.self.inside) k _ _ (entry_of c.args.name c.args.new.now.ty) refl (inl refl)) (λ k. same_defined c.args.types.now (contents_of c.self.inside) k _ refl) (λ k d. (c.in_err-name_entry.ensures.grew.more d, c.in_err-name_entry.ensures.grew.stand d)) (λ k. same_sized (trees c.args.types.now.nodes) (contents_of c.self.inside) _ refl (each_side _ refl refl) k) refl refl refl
 
 pub enter-requires-clause-entity : goal.enter-requires-clause-entity
@@ -53,7 +53,7 @@ returns-in_err-enter-clause-err c =
 
 pub returns-in_err-enter-clause-keeps : goal.returns-in_err-enter-clause-keeps
 returns-in_err-enter-clause-keeps c =
-    rw c.in_err-enter.ensures.types (keeps_entry c.args.types.now c.args.self.now (contents_of c.self.inside) _ (entry_of c.args.name c.args.new.now.ty) c.self.view_is c.requires.stands c.requires.may_join.built c.requires.may_join.stands c.requires.may_join.alone c.in_err-enter.ensures.kept
+    rw c.in_err-enter.ensures.types (keeps_entry c.args.types.now c.args.self.now (contents_of c.self.inside) _ (entry_of c.args.name c.args.new.now.ty) c.self.view_is c.requires.stands c.requires.may_join.built c.requires.may_join.stands c.in_err-enter.ensures.kept
     (each_side _ (inl refl) (inl c.in_err-enter.ensures.items)) (λ k. same_imported c.args.types.now (contents_of c.self.inside) k _ _ (entry_of c.args.name c.args.new.now.ty) refl (inl refl)) (λ k. same_defined c.args.types.now (contents_of c.self.inside) k _ refl) (λ k d. (c.in_ok-name_entry.ensures.grew.more d, c.in_ok-name_entry.ensures.grew.stand d)) (λ k. same_sized (trees c.args.types.now.nodes) (contents_of c.self.inside) _ c.in_err-enter.ensures.info (each_side _ refl c.in_err-enter.ensures.items) k) refl refl refl)
 
 pub export_resources-requires : goal.export_resources-requires
@@ -61,12 +61,12 @@ export_resources-requires c = subst (λ (z : Contents). AreNewIn z.defined_resou
 
 pub returns-in_err-export_resources-clause-keeps : goal.returns-in_err-export_resources-clause-keeps
 returns-in_err-export_resources-clause-keeps c =
-    rw c.in_ok-enter.ensures.types (keeps_entry c.args.types.now c.args.self.now (contents_of c.self.inside) _ (entry_of c.args.name c.args.new.now.ty) c.self.view_is c.requires.stands c.requires.may_join.built c.requires.may_join.stands c.requires.may_join.alone (inr c.in_ok-enter.ensures.joined.spaces)
+    rw c.in_ok-enter.ensures.types (keeps_entry c.args.types.now c.args.self.now (contents_of c.self.inside) _ (entry_of c.args.name c.args.new.now.ty) c.self.view_is c.requires.stands c.requires.may_join.built c.requires.may_join.stands (inr c.in_ok-enter.ensures.joined.spaces)
     (each_side _ (inl refl) (inr c.in_ok-enter.ensures.joined.items)) (λ k. same_imported c.args.types.now (contents_of c.self.inside) k _ _ (entry_of c.args.name c.args.new.now.ty) refl (inl refl)) (λ k. brought_defined c.args.types.now (contents_of c.self.inside) k (entry_of c.args.name c.args.new.now.ty) c.args.new.now.resources c.requires.may_join.resources _ c.in_err-export_resources.ensures.err.0 c.in_err-export_resources.ensures.err.1) (λ k d. (c.in_ok-name_entry.ensures.grew.more d, c.in_ok-name_entry.ensures.grew.stand d)) (λ k. joined_sized (trees c.args.types.now.nodes) (contents_of c.self.inside) (entry_of c.args.name c.args.new.now.ty) exporting _ c.in_ok-enter.ensures.joined.info (each_side _ refl c.in_ok-enter.ensures.joined.items) k) refl refl refl)
 
 pub returns-clause-keeps : goal.returns-clause-keeps
 returns-clause-keeps c =
-    rw c.in_ok-enter.ensures.types (keeps_entry c.args.types.now c.args.self.now (contents_of c.self.inside) _ (entry_of c.args.name c.args.new.now.ty) c.self.view_is c.requires.stands c.requires.may_join.built c.requires.may_join.stands c.requires.may_join.alone (inr c.in_ok-enter.ensures.joined.spaces)
+    rw c.in_ok-enter.ensures.types (keeps_entry c.args.types.now c.args.self.now (contents_of c.self.inside) _ (entry_of c.args.name c.args.new.now.ty) c.self.view_is c.requires.stands c.requires.may_join.built c.requires.may_join.stands (inr c.in_ok-enter.ensures.joined.spaces)
     (each_side _ (inl refl) (inr c.in_ok-enter.ensures.joined.items)) (λ k. same_imported c.args.types.now (contents_of c.self.inside) k _ _ (entry_of c.args.name c.args.new.now.ty) refl (inl refl)) (λ k. brought_defined c.args.types.now (contents_of c.self.inside) k (entry_of c.args.name c.args.new.now.ty) c.args.new.now.resources c.requires.may_join.resources _ (length c.args.new.now.resources) (c.in_ok-export_resources.ensures.ok ∙ ap (λ (l : Paths). c.self.inside.defined_resources ++ unknown l) (all_taken c.args.new.now.resources))) (λ k d. (c.in_ok-name_entry.ensures.grew.more d, c.in_ok-name_entry.ensures.grew.stand d)) (λ k. joined_sized (trees c.args.types.now.nodes) (contents_of c.self.inside) (entry_of c.args.name c.args.new.now.ty) exporting _ c.in_ok-enter.ensures.joined.info (each_side _ refl c.in_ok-enter.ensures.joined.items) k) refl refl refl)
 
 pub returns-clause-ok : goal.returns-clause-ok
@@ -74,6 +74,7 @@ returns-clause-ok c =
     has_joined c.args.limited exporting c.args.types.now c.args.self.now (contents_of c.self.inside) c.args.name c.args.new.now c.self.view_is _ c.requires.may_join
     (record {
       kinds = refl;
+      aliased = refl;
       slots = refl;
       spaces = c.in_ok-enter.ensures.joined.spaces;
       info = c.in_ok-enter.ensures.joined.info;

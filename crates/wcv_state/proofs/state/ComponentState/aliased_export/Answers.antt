@@ -1,0 +1,48 @@
+use Rattle.std.proofs.Common.{◌∙◌, [], ◌∷◌, ap, not, ◌&&◌, subst, inr}
+use Rattle.std.specs.Prelude.{Option}
+use Rattle.std.specs.Option.{option_map}
+use Rattle.std.proofs.lemmas.Result.{err_from_is_err_and}
+use Rattle.wcv_core.specs.declared.error.ErrorKind.TheVariants as kind
+use Rattle.wcv_core.proofs.Closing.{caused_same}
+use Rattle.wcv_types.specs.Entities.{entity_tree}
+use Rattle.wcv_types.specs.Unfold.{trees}
+use Rattle.wcv_types.specs.declared.shapes.ComponentEntityType.{ComponentEntityType}
+use Rattle.wcv_lower.specs.Aliases.{is_admitted, sort_named}
+use Rattle.wcv_lower.specs.Checks.{IsFree, no_room}
+use Rattle.wcv_lower.specs.Context.{is_concrete}
+use Rattle.wcv_state.specs.Contents.{Contents, kind_of}
+use Rattle.wcv_state.specs.Entering.{room_counts}
+use Rattle.wcv_state.specs.Promises.{MemoryOrCausedBy}
+use Rattle.wcv_state.proofs.ExportAliases.{instance_stands, export_same, export_stands, export_free, name_caused, room_caused}
+use Rattle.wcv_state.proofs.state.ComponentState.aliased_export.Goals as goal
+
+pub exports_of-requires : goal.exports_of-requires
+exports_of-requires c = instance_stands c.args.types.now c.args.self.now c.requires.stands c.args.kind c.args.index c.args.name.now c.in_ok-id.id c.in_ok-id.ensures.ok
+
+pub returns-in_err-item-clause-err : goal.returns-in_err-item-clause-err
+returns-in_err-item-clause-err c =
+    let q = err_from_is_err_and c.from_residual-in_err-item.result c.from_residual-in_err-item.ensures.1 in
+    rw (q.1, q.2)
+    (name_caused c.args.types.now c.args.self.now c.requires.stands c.args.kind c.args.index c.args.name.now c.args.offset c.in_err-item.field-0.0 c.in_ok-id.id c.in_ok-id.ensures.ok c.exports_of.result.now c.exports_of.ensures.trees c.exports_of.ensures.stand
+    (inr c.in_err-item.ensures.err))
+
+pub returns-in_err-check_sort_room-clause-err : goal.returns-in_err-check_sort_room-clause-err
+returns-in_err-check_sort_room-clause-err c =
+    let q = err_from_is_err_and c.from_residual-in_err-check_sort_room.result c.from_residual-in_err-check_sort_room.ensures.1 in
+    rw q.1 (room_caused c.args.types.now c.args.self.now c.requires.stands c.args.kind c.args.index c.args.name.now c.args.offset q.0 (caused_same _ c.args.offset c.in_err-check_sort_room.field-0.0 q.0 q.2.0 q.2.1
+    (subst (λ (z : Contents). MemoryOrCausedBy (no_room (room_counts z.spaces) (sort_named c.args.kind)) c.args.offset c.in_err-check_sort_room.field-0.0) c.self.view_is c.in_err-check_sort_room.ensures.err)))
+
+pub returns-clause-ok : goal.returns-clause-ok
+returns-clause-ok c = record {
+  instance = c.in_ok-id.id;
+  at = c.in_ok-id.ensures.ok;
+  export = export_same c.args.types.now c.in_ok-id.id c.args.name.now c.exports_of.result.now c.exports_of.ensures.trees ∙ ap (λ (o : Option ComponentEntityType). option_map (entity_tree (trees c.args.types.now.nodes)) o) c.in_ok-item.ensures.ok;
+  sort = c.in_ok-item.ensures.sort;
+  stands = export_stands c.args.types.now c.args.name.now c.exports_of.result.now c.exports_of.ensures.stand c.in_ok-item.item c.in_ok-item.ensures.ok;
+}
+
+pub returns-clause-free : goal.returns-clause-free
+returns-clause-free c =
+    export_free c.args.types.now c.args.self.now c.requires.stands c.args.kind c.args.index c.args.name.now c.in_ok-item.item (returns-clause-ok c)
+    (subst (λ (z : Contents). IsFree ((kind.AliasKind, not (is_concrete (kind_of z.kind)) && not (is_admitted c.args.kind)) ∷ [])) c.self.view_is c.in_ok-check_sort.ensures.ok)
+    (subst (λ (z : Contents). IsFree (no_room (room_counts z.spaces) (sort_named c.args.kind))) c.self.view_is c.in_ok-check_sort_room.ensures.ok)
