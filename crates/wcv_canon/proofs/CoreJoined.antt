@@ -76,7 +76,7 @@ id_within i gs g h e = omega (arith, found_within 0 i gs g h e)
 slot_keeps : (a : Arena) (v : ValType) (s : Contents) → StateStands a s → Keeps a a s (with_slots v s)
 slot_keeps a v s h = record {
   arena = extends_refl a;
-  stands = record { space = h.space; core = h.core; alone = h.alone; side = h.side; imported = h.imported; defined = h.defined; numbers = h.numbers; named = h.named; lead = h.lead; sized = record { size = h.sized.size; depth = h.sized.depth } };
+  stands = record { space = h.space; core = h.core; side = h.side; imported = h.imported; defined = h.defined; numbers = h.numbers; named = h.named; lead = h.lead; sized = record { size = h.sized.size; depth = h.sized.depth } };
   entries = entries_refl s.spaces;
   sides = λ d. no_more (sides s d);
   imported = no_more s.imported_resources;

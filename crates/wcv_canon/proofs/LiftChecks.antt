@@ -185,7 +185,7 @@ module _ (a : Arena) (s : Contents) (h : StateStands a s) (outer : List Tree_con
         }
 
     pub lift_keeps : (b : Arena) (s' : Contents) → b ≡ a → s' ≡ with_id in_funcs id s → Keeps a b s s'
-    lift_keeps b s' eb es = subst (λ (c : Arena). Keeps a c s s') (sym eb) (subst (Keeps a a s) (sym es) (keeps_with_id a in_funcs id s h func_stands tt))
+    lift_keeps b s' eb es = subst (λ (c : Arena). Keeps a c s s') (sym eb) (subst (Keeps a a s) (sym es) (keeps_with_id a in_funcs id s h func_stands))
 
     module _ (core : CoreTypeId) (at : slice_get s.spaces.core_funcs k ≡ Some core) where
       abbrev found : Option EntityType

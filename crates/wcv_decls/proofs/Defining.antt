@@ -49,7 +49,6 @@ keeps_defined a r v s n h k = record {
   stands = record {
     space = h.space;
     core = h.core;
-    alone = h.alone;
     side = h.side;
     imported = h.imported;
     defined = All-push (λ (p : ResourceId × Option ValType). ResourceStands a p.0) s.defined_resources (r, v) h.defined k;
@@ -104,7 +103,7 @@ module _ (a b : Arena) (s : Contents) (id : AliasableResourceId) (h : StateStand
   pushed_keeps v n =
       let t : Contents = with_defined id.resource v s in
       let k : Keeps a b s t = defined_keeps v n in
-      keeps_trans a b b s t (with_id in_types (any.Resource id) t) k (keeps_with_id b in_types (any.Resource id) t k.stands (stands_there, stands_there) tt)
+      keeps_trans a b b s t (with_id in_types (any.Resource id) t) k (keeps_with_id b in_types (any.Resource id) t k.stands (stands_there, stands_there))
 
   pub spent_keeps : (t : Contents) → Keeps a b s t → Keeps a b s (spent t)
   spent_keeps t k = keeps_trans a b b s t (spent t) k (keeps_marked b t t true refl k.stands)

@@ -8,38 +8,11 @@ use Rattle.wcv_lower.specs.Owned.{IsCalm}
 use Rattle.wcv_lower.specs.Trees.{Tree_context, Tree_stack}
 use Rattle.wcv_state.specs.Contents.{Contents, context_of, stack_of}
 use Rattle.wcv_state.specs.Promises.{numbers_of, Keeps}
+pub use Rattle.wcv_state.proofs.Stacks.{innermost_at, around_at, parted, some_at, indexed}
 use Rattle.wcv_state.proofs.Stacks.{open_split, around_kept, around_same}
 use Rattle.wcv_decls.specs.Declaring.{innermost, around, features_in, stack_in, IsInstanceBody, DeclaresInstance, StayReady, SameAround}
-use Rattle.wcv_decls.specs.Stack.{IsOpen, stay, all_spent, ChangesLast, KeepsOn, AreCalm, contexts_around, stack_on}
+use Rattle.wcv_decls.specs.Stack.{IsOpen, stay, all_spent, all_uncharged, ChangesLast, KeepsOn, AreCalm, contexts_around, stack_on}
 use Rattle.wcv_state.proofs.Keeping.{state_stands}
-
--- ## Lists
-
-pub innermost_at : (outer : List Contents) (s : Contents) → innermost (outer ++ s ∷ []) ≡ s
-innermost_at [] s = refl
-innermost_at (x ∷ []) s = refl
-innermost_at (x ∷ y ∷ xs) s = innermost_at (y ∷ xs) s
-
-pub around_at : (outer : List Contents) (s : Contents) → around (outer ++ s ∷ []) ≡ outer
-around_at [] s = refl
-around_at (x ∷ []) s = refl
-around_at (x ∷ y ∷ xs) s = ap (λ (zs : List Contents). x ∷ zs) (around_at (y ∷ xs) s)
-
-pub parted : (ss : List Contents) → 0 < length ss → ss ≡ around ss ++ innermost ss ∷ []
-parted [] h = absurd (omega (arith, h))
-parted (s ∷ []) h = refl
-parted (s ∷ t ∷ ss) h = ap (λ (zs : List Contents). s ∷ zs) (parted (t ∷ ss) (omega arith))
-
-pub some_at : (outer : List Contents) (s : Contents) → 0 < length (outer ++ s ∷ [])
-some_at [] s = omega arith
-some_at (x ∷ xs) s = omega arith
-
-pub indexed : (ss : List Contents) (k : ℕ) (d : Contents) → 0 < length ss → k ≡ length ss - 1 → slice_index_or ss k d ≡ innermost ss
-indexed [] k d h e = absurd (omega (arith, h))
-indexed (s ∷ []) k d h e = let z : k ≡ 0 = omega (arith, e) in ap (λ (i : ℕ). slice_index_or (s ∷ []) i d) z
-indexed (s ∷ t ∷ ss) k d h e =
-    let z : k ≡ suc (length (t ∷ ss) - 1) = omega (arith, e) in
-    ap (λ (i : ℕ). slice_index_or (s ∷ t ∷ ss) i d) z ∙ indexed (t ∷ ss) (length (t ∷ ss) - 1) d (omega arith) refl
 
 -- ## Stacks
 
@@ -101,7 +74,7 @@ module _ (a b : Arena) (ss ss' : List Contents) (w : ChangesLast stay ss ss') wh
         each = subst (All (IsOpen b)) (sym w.becomes) (All-push (IsOpen b) w.outer w.new (still_open a b k.arena w.outer outer_open) (record { live = live; stands = k.stands }));
         calm = subst (IsCalm (numbers_of b)) (sym (stack_after k.arena)) c;
       };
-      around = around_stays ss ss' w;
+      around = ap all_uncharged (around_stays ss ss' w);
     }
 
     pub kept : Keeps a b w.old w.new → KeepsOn a b ss ss'
@@ -142,4 +115,4 @@ body_stays a b ss ss' w h g f d =
     subst (λ (t : Tree_stack). IsInstanceBody t.top) (sym (stack_after a b ss ss' w h g)) (f (subst (λ (t : Tree_stack). IsInstanceBody t.top) (stack_before a b ss ss' w) d))
 
 pub marks_same : (ss ss' : List Contents) → ChangesLast stay ss ss' → SameAround ss ss'
-marks_same ss ss' w = ap all_spent (around_stays ss ss' w)
+marks_same ss ss' w = ap (λ (xs : List Contents). all_spent (all_uncharged xs)) (around_stays ss ss' w)

@@ -23,6 +23,7 @@ pub mod CoreGroups
 pub mod CoreModules
 pub mod InnermostStates
 pub mod ReadingOn
+pub mod ChargedStates
 pub mod Plain
 pub mod SimpleDecls
 pub mod InstanceEnds
@@ -30,6 +31,7 @@ pub mod Closing
 pub mod PathKeys
 pub mod TypesOn
 pub mod OverInnermost
+pub mod AliasDecls
 pub mod Opening
 pub mod Whole
 pub mod InstanceNodes

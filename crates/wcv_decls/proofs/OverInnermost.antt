@@ -22,10 +22,11 @@ use Rattle.wcv_lower.specs.Trees.{Tree_context, Tree_stack, tree_maker}
 use Rattle.wcv_lower.specs.Types.{type_checks}
 use Rattle.wcv_state.specs.Contents.{Contents, spent, context_of, stack_of}
 use Rattle.wcv_state.specs.Instances.{MayOpen}
+use Rattle.wcv_state.specs.Stack.{uncharged}
 use Rattle.wcv_state.specs.Promises.{MemoryOrCausedBy, numbers_of, Keeps, Grew, CausedAt, ExportDeclared, ExportCaused}
 use Rattle.wcv_decls.specs.Declaring.{innermost, around, features_in, stack_in, AreReady, StayReady, SameAround, DeclaresInstance, MemoryOr, ReadsType, ReadsDecl, RefusesType, RefusesDecl}
 use Rattle.wcv_decls.specs.Items.{Declares}
-use Rattle.wcv_decls.specs.Stack.{stay, all_spent, ChangesLast, KeepsOn, GrewOn, RefusedOn, contexts_around}
+use Rattle.wcv_decls.specs.Stack.{stay, all_spent, all_uncharged, ChangesLast, KeepsOn, GrewOn, RefusedOn, contexts_around}
 use Rattle.wcv_decls.proofs.SimpleDecls.{Refused, core_read, core_refused, import_read, import_refused, export_read, export_refused, grown_calm, export_calm, may_open, core_sides, export_body}
 use Rattle.wcv_decls.proofs.InnermostStates.{innermost_at, around_at, stack_at, outer_contexts, old_open, old_calm, stays, over_stack, over_before, body_stays}
 use Rattle.wcv_decls.proofs.ReadingOn.{extends_on, innermost_kept}
@@ -103,6 +104,18 @@ changed_kept a b ss ss' w some k =
     subst (λ (s : Contents). Keeps a b s w.new) (ap innermost w.was ∙ innermost_at w.outer w.old)
     (subst (Keeps a b (innermost ss)) (ap innermost w.becomes ∙ innermost_at w.outer w.new) (innermost_kept a b ss ss' some k))
 
+-- those around that were marked
+pub refused_marks : (ss ss' : List Contents) → ChangesLast all_spent ss ss' → SameAround ss ss'
+refused_marks ss ss' w =
+    ap marked (ap around w.becomes ∙ around_at (all_spent w.outer) w.new) ∙ twice w.outer ∙ sym (ap marked (ap around w.was ∙ around_at w.outer w.old))
+  where
+    marked : List Contents → List Contents
+    marked xs = all_spent (all_uncharged xs)
+
+    twice : (xs : List Contents) → all_spent (all_uncharged (all_spent xs)) ≡ all_spent (all_uncharged xs)
+    twice [] = refl
+    twice (y ∷ ys) = ap (λ (zs : List Contents). spent (uncharged y) ∷ zs) (twice ys)
+
 module _ (a b : Arena) (ss ss' : List Contents) (h : AreReady a ss) (kept : KeepsOn a b ss ss') (t : Core_type_form) where
   module _ (f : (p : Place) → GrewOn a b p ss ss' (core_type_item t)) where
     own_kept : Keeps a b (f []).last.old (f []).last.new
@@ -129,10 +142,4 @@ module _ (a b : Arena) (ss ss' : List Contents) (h : AreReady a ss) (kept : Keep
         (subst (Refused a b (core_type_decl t) p offset x w.old.features) (sym (stack_at a ss w.outer w.old w.was)) (core_refused a b (contexts_around a w.outer) p w.old t offset x (f p).refused.1))
 
     pub core_marks : SameAround ss ss'
-    core_marks =
-        let w = (f []).last in
-        ap all_spent (ap around w.becomes ∙ around_at (all_spent w.outer) w.new) ∙ twice w.outer ∙ sym (ap all_spent (ap around w.was ∙ around_at w.outer w.old))
-      where
-        twice : (xs : List Contents) → all_spent (all_spent xs) ≡ all_spent xs
-        twice [] = refl
-        twice (y ∷ ys) = ap (λ (zs : List Contents). spent y ∷ zs) (twice ys)
+    core_marks = refused_marks ss ss' (f []).last

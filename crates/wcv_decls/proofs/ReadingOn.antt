@@ -22,7 +22,7 @@ use Rattle.wcv_lower.specs.Given.{names_of, Numbers, AtMost}
 use Rattle.wcv_lower.specs.Trees.{Tree_stack, tree_maker}
 use Rattle.wcv_state.specs.Contents.{Contents}
 use Rattle.wcv_state.specs.Promises.{numbers_of, Keeps}
-use Rattle.wcv_state.proofs.Keeping.{keeps_trans}
+pub use Rattle.wcv_state.proofs.Stacks.{kept_both}
 use Rattle.wcv_state.proofs.Stacks.{around_kept}
 use Rattle.wcv_decls.specs.Declaring.{innermost, around, features_in, stack_in, AreReady, StayReady, MemoryOr, ReadsDecl, ReadsDecls, RefusesDecl, RefusesDecls}
 use Rattle.wcv_decls.specs.Stack.{KeepsOn}
@@ -59,14 +59,6 @@ pub extends_on : (a b : Arena) (ss ss' : List Contents) → 0 < length ss → Ke
 extends_on a b [] ss' l h = absurd (omega (arith, l))
 extends_on a b (s ∷ ss) [] l h = elim h [ ]
 extends_on a b (s ∷ ss) (t ∷ ts) l h = h.0.arena
-
-pub kept_both : (a b c : Arena) (ss ts us : List Contents) → KeepsOn a b ss ts → KeepsOn b c ts us → KeepsOn a c ss us
-kept_both a b c [] [] [] h k = tt
-kept_both a b c [] [] (u ∷ us) h k = elim k [ ]
-kept_both a b c [] (t ∷ ts) us h k = elim h [ ]
-kept_both a b c (s ∷ ss) [] us h k = elim h [ ]
-kept_both a b c (s ∷ ss) (t ∷ ts) [] h k = elim k [ ]
-kept_both a b c (s ∷ ss) (t ∷ ts) (u ∷ us) h k = (keeps_trans a b c s t u h.0 k.0, kept_both a b c ss ts us h.1 k.1)
 
 -- the innermost keeps what it had
 pub innermost_kept : (a b : Arena) (ss ts : List Contents) → 0 < length ss → KeepsOn a b ss ts → Keeps a b (innermost ss) (innermost ts)

@@ -16,15 +16,18 @@ use Rattle.wcv_core.specs.CoreWritten.{closed_group}
 use Rattle.wcv_syntax.specs.ModuleTypes.{Made}
 use Rattle.wcv_syntax.specs.declared.component_type.ComponentTypeRef.{ComponentTypeRef}
 use Rattle.wcv_syntax.specs.declared.component_type.ComponentTypeRef.TheVariants as ref
+use Rattle.wcv_syntax.specs.declared.instance.ComponentExternalKind.{ComponentExternalKind}
+use Rattle.wcv_syntax.specs.declared.instance.ComponentExternalKind.TheVariants as kinds
+use Rattle.wcv_syntax.specs.declared.name.ComponentExport.{ComponentExport}
 use Rattle.wcv_syntax.specs.declared.name.ComponentExternName.{ComponentExternName}
 use Rattle.wcv_syntax.specs.declared.name.ComponentImport.{ComponentImport}
 use Rattle.wcv_types.specs.Arena.{Arena}
 use Rattle.wcv_types.specs.Tree.{Sort, is_nothing, is_value, is_resource, is_func, is_instance, is_component, is_type, is_module, is_core_instance, is_core_type, is_core_item}
-use Rattle.wcv_types.specs.Unfold.{Type_tree, tree_at}
+use Rattle.wcv_types.specs.Unfold.{Type_tree, tree_at, trees}
 use Rattle.wcv_types.specs.declared.ids.ComponentAnyTypeId.TheVariants as any
 use Rattle.wcv_types.specs.declared.ids.Part.TheVariants as part
 use Rattle.wcv_lower.specs.Checks.{Checks, Cause, IsFree}
-use Rattle.wcv_lower.specs.Context.{core_types, importing, exporting}
+use Rattle.wcv_lower.specs.Context.{core_types, in_instances, importing, exporting}
 use Rattle.wcv_lower.specs.CoreItems.{core_entries, is_closable, types_join, closed_step, module_joins, core_type_made}
 use Rattle.wcv_lower.specs.Declared.{applied, declared_export_step, declared_export_checks, decl_checks}
 use Rattle.wcv_lower.specs.DeclaredCalls.{DeclRead}
@@ -36,12 +39,12 @@ use Rattle.wcv_lower.specs.Owned.{ItemRegular, IsCalm, IsLed}
 use Rattle.wcv_lower.specs.Readers.{Maker}
 use Rattle.wcv_lower.specs.Step.{core_appends, interns, introduces, lists, creates, change, Step, Brought, apply, joins, enters}
 use Rattle.wcv_lower.specs.Trees.{Tree_context, Tree_stack, tree_reader, tree_maker}
-use Rattle.wcv_lower.proofs.Calm.{calm_opens}
+use Rattle.wcv_lower.proofs.Calm.{calm_opens, calm_instance}
 use Rattle.wcv_lower.proofs.CalmGrowth.{calm_grows, calm_exports}
-use Rattle.wcv_state.specs.Contents.{Contents, context_of, stack_of, StateStands}
-use Rattle.wcv_state.specs.Instances.{MayOpen}
+use Rattle.wcv_state.specs.Contents.{Contents, id_tree, context_of, stack_of, StateStands}
+use Rattle.wcv_state.specs.Instances.{MayOpen, MayOpenItem, ItemMayOpen}
 use Rattle.wcv_state.specs.Promises.{MemoryOrCausedBy, numbers_of, Keeps, Grew, CausedAt, ExportDeclared, ExportCaused}
-use Rattle.wcv_state.proofs.Found.{type_is}
+use Rattle.wcv_state.proofs.Found.{get_same, type_is}
 use Rattle.wcv_decls.specs.Declaring.{IsInstanceBody}
 use Rattle.wcv_decls.proofs.Plain.{own_given, SameSides}
 use Rattle.wcv_decls.proofs.ReadingOn.{grown_numbers}
@@ -112,6 +115,19 @@ may_open a outer s (ref.Value v) h c = tt
 may_open a outer s (ref.Ty t) h c = tt
 may_open a outer s (ref.Component k) h c = tt
 
+-- so may an instance that is exported
+pub item_may_open : (a : Arena) (outer : List Tree_context) (s : Contents) (e : ComponentExport) → StateStands a s → IsCalm (numbers_of a) (stack_of a s outer) → ItemMayOpen a s.spaces.instances e
+item_may_open a outer s e h c = go e.kind e.ty
+  where
+    go : (w : ComponentExternalKind) (o : Option ComponentTypeRef) → MayOpenItem a s.spaces.instances w e.index o
+    go kinds.Instance None = λ i f. calm_instance (numbers_of a) (stack_of a s outer) c e.index (tree_at a (part.Instance i)) (get_same a s h in_instances e.index ∙ ap (option_map (id_tree (trees a.nodes) in_instances)) f)
+    go kinds.Instance (Some r) = tt
+    go kinds.Module o = tt
+    go kinds.Func o = tt
+    go kinds.Value o = tt
+    go kinds.Ty o = tt
+    go kinds.Component o = tt
+
 -- ## An instance type that is read
 
 types_joined : (is : List ℕ) (s : Tree_stack) → SameSides s.top (apply (types_join tree_reader is) s).top
@@ -139,7 +155,7 @@ module _ (fs : WasmFeatures) (mk : Maker tree_reader) (s u : Tree_stack) where
   core_sides (core_module_type ds) e = module_sides (core_type_made fs s (core_module_type ds)) e
 
 -- an entity that joins its space changes neither
-joined_sides : (k : Sort) (x : Type_tree) (s : Tree_stack) → SameSides s.top (apply (joins tree_reader k x) s).top
+pub joined_sides : (k : Sort) (x : Type_tree) (s : Tree_stack) → SameSides s.top (apply (joins tree_reader k x) s).top
 joined_sides is_func x s = record { kind = refl; side = λ k. refl; defined = refl }
 joined_sides is_value x s = record { kind = refl; side = λ k. refl; defined = refl }
 joined_sides is_instance x s = record { kind = refl; side = λ k. refl; defined = refl }

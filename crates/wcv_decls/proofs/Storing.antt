@@ -39,5 +39,5 @@ module _ (a b : Arena) (s : Contents) (x : Node) (eb : b ≡ with_node a x) (h :
     nodes = ap (λ (y : Arena). length y.nodes) eb ∙ length-append a.nodes (x ∷ []) ∙ omega arith;
     core = ap (λ (y : Arena). y.core) eb;
     live = live;
-    keeps = keeps_trans a b b s s (with_id in_types id s) node_keeps (keeps_with_id b in_types id s node_stands (stands, stands) tt);
+    keeps = keeps_trans a b b s s (with_id in_types id s) node_keeps (keeps_with_id b in_types id s node_stands (stands, stands));
   })

@@ -1,6 +1,7 @@
 -- A declared type from the state that is opened for it to its end.
 use Rattle.std.proofs.Common.{◌≡◌, ℕ, ◌<◌, List, [], ◌∷◌, ◌++◌, length, refl, sym, ◌∙◌, ap, subst, Bool, inl, inr}
 use Rattle.std.specs.Prelude.{◌⊎◌, Option}
+use Rattle.std.proofs.lemmas.List.{length-map}
 use Rattle.std.proofs.lemmas.List.Elements.{All-nil}
 use Rattle.wcv_core.specs.Names.{Name, Place}
 use Rattle.wcv_core.specs.declared.core_types.ValType.{ValType}
@@ -23,12 +24,14 @@ use Rattle.wcv_lower.proofs.Causes.{cause_left, cause_right, cause_either}
 use Rattle.wcv_lower.proofs.DeclaredGlued.{instance_read, component_read, instance_refused, component_refused}
 use Rattle.wcv_state.specs.Contents.{Contents, spent, context_of}
 use Rattle.wcv_state.specs.Promises.{MemoryOrCausedBy, numbers_of}
+use Rattle.wcv_state.specs.Stack.{uncharged}
 use Rattle.wcv_state.proofs.Keeping.{same_context}
 use Rattle.wcv_state.proofs.Stacks.{none_made}
 use Rattle.wcv_decls.specs.Declaring.{innermost, around, features_in, stack_in, top_in, AreReady, StayReady, SameAround, IsInstanceBody, DeclaresInstance, Opened, ReadsType, ReadsDecls, MemoryOr, RefusesType, RefusesDecls, Ends}
-use Rattle.wcv_decls.specs.Stack.{all_spent, KeepsOn}
+use Rattle.wcv_decls.specs.Stack.{all_spent, all_uncharged, KeepsOn}
 use Rattle.wcv_decls.proofs.InnermostStates.{open_here}
 use Rattle.wcv_decls.proofs.Opening.{opened_stack}
+use Rattle.wcv_decls.proofs.Plain.{SameSides, same_body}
 use Rattle.wcv_decls.proofs.ReadingOn.{grown_numbers, extends_on, kept_both, around_of_kept, end_refused}
 
 -- those around, of states that were marked
@@ -36,6 +39,27 @@ pub around_spent : (ss : List Contents) → around (all_spent ss) ≡ all_spent 
 around_spent [] = refl
 around_spent (s ∷ []) = refl
 around_spent (s ∷ t ∷ ss) = ap (λ (xs : List Contents). spent s ∷ xs) (around_spent (t ∷ ss))
+
+-- so of the sizes of what was aliased into them
+around_uncharged : (ss : List Contents) → around (all_uncharged ss) ≡ all_uncharged (around ss)
+around_uncharged [] = refl
+around_uncharged (s ∷ []) = refl
+around_uncharged (s ∷ t ∷ ss) = ap (λ (xs : List Contents). uncharged s ∷ xs) (around_uncharged (t ∷ ss))
+
+around_marked : (ss : List Contents) → around (all_spent (all_uncharged ss)) ≡ all_spent (all_uncharged (around ss))
+around_marked ss = around_spent (all_uncharged ss) ∙ ap all_spent (around_uncharged ss)
+
+innermost_uncharged : (ss : List Contents) → innermost (all_uncharged ss) ≡ uncharged (innermost ss)
+innermost_uncharged [] = refl
+innermost_uncharged (s ∷ []) = refl
+innermost_uncharged (s ∷ t ∷ ss) = innermost_uncharged (t ∷ ss)
+
+-- the sides of a context do not tell these
+uncharged_sides : (a : Arena) (s : Contents) → SameSides (context_of a s) (context_of a (uncharged s))
+uncharged_sides a s = record { kind = refl; side = λ j. refl; defined = refl }
+
+charged_sides : (a : Arena) (s : Contents) → SameSides (context_of a (uncharged s)) (context_of a s)
+charged_sides a s = record { kind = refl; side = λ j. refl; defined = refl }
 
 -- ## No declaration was read
 
@@ -86,34 +110,47 @@ module _ (k : Kind) (a : Arena) (ss ts : List Contents) (h : AreReady a ss) (w :
     pub kept_around : KeepsOn a m ss (around us)
     kept_around = subst (λ (xs : List Contents). KeepsOn a m xs (around us)) w.around (around_of_kept a m ts us kept)
 
-    -- but for marks, those around these stay
+    -- but for marks and sizes, those around these stay
     pub marks_around : SameAround ts us → SameAround ss (around us)
     marks_around e =
-        let marked : all_spent (around us) ≡ all_spent ss = e ∙ ap all_spent w.around in
-        sym (around_spent (around us)) ∙ ap around marked ∙ around_spent ss
+        let marked : all_spent (all_uncharged (around us)) ≡ all_spent (all_uncharged ss) = e ∙ ap (λ (xs : List Contents). all_spent (all_uncharged xs)) w.around in
+        sym (around_marked (around us)) ∙ ap around marked ∙ around_marked ss
 
     module _ (stay : StayReady m ts us) where
-      pub same_states : around us ≡ ss
-      same_states = stay.around ∙ w.around
+      same_states : all_uncharged (around us) ≡ all_uncharged ss
+      same_states = stay.around ∙ ap all_uncharged w.around
+
+      -- and those around them
+      same_further : all_uncharged (around (around us)) ≡ all_uncharged (around ss)
+      same_further = sym (around_uncharged (around us)) ∙ ap around same_states ∙ around_uncharged ss
+
+      pub some_around : 0 < length (around us)
+      some_around = subst (λ (n : ℕ). 0 < n) (sym (length-map ss uncharged) ∙ sym (ap length same_states) ∙ length-map (around us) uncharged) h.some
+
+      -- a refusal at its end leaves them so
+      pub marks_further : (vs : List Contents) → SameAround (around us) vs → SameAround ss vs
+      marks_further vs e = e ∙ ap all_spent same_further
 
       -- what an instance type declares around it stays so
       pub body_around : DeclaresInstance a ss → DeclaresInstance m (around us)
       body_around i =
           let c : context_of m (innermost ss) ≡ context_of a (innermost ss) = same_context a m (extends_on a m ss (around us) h.some kept_around) (innermost ss) (open_here a ss h.some h.each).stands in
-          subst (DeclaresInstance m) (sym same_states) (subst (λ (x : Tree_context). IsInstanceBody x) (sym c) i)
+          let n : uncharged (innermost ss) ≡ uncharged (innermost (around us)) = sym (innermost_uncharged ss) ∙ ap innermost (sym same_states) ∙ innermost_uncharged (around us) in
+          let here : IsInstanceBody (context_of m (uncharged (innermost ss))) = same_body (context_of m (innermost ss)) (context_of m (uncharged (innermost ss))) (uncharged_sides m (innermost ss)) (subst (λ (x : Tree_context). IsInstanceBody x) (sym c) i) in
+          same_body (context_of m (uncharged (innermost (around us)))) (context_of m (innermost (around us))) (charged_sides m (innermost (around us))) (subst (λ (s : Contents). IsInstanceBody (context_of m s)) n here)
 
       module _ (b : Arena) (vs : List Contents) (z : Ends k m b us vs) (after : KeepsOn m b (around us) vs) where
         pub whole_kept : KeepsOn a b ss vs
         whole_kept = kept_both a m b ss (around us) vs kept_around after
 
         pub whole_stays : StayReady b ss vs
-        whole_stays = record { ready = z.ready.ready; around = z.ready.around ∙ ap around same_states }
+        whole_stays = record { ready = z.ready.ready; around = z.ready.around ∙ same_further }
 
         pub whole_declares : DeclaresInstance a ss → DeclaresInstance b vs
         whole_declares i = z.declares (body_around i)
 
         pub later : AtMost (numbers_of m) (numbers_of b)
-        later = grown_numbers m b (extends_on m b (around us) vs (subst (λ (xs : List Contents). 0 < length xs) (sym same_states) h.some) after)
+        later = grown_numbers m b (extends_on m b (around us) vs some_around after)
 
 -- ## The whole
 

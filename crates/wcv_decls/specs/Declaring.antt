@@ -1,6 +1,5 @@
 -- Types that are read over the states that are open, declaration by declaration.
-use Rattle.std.specs.Prelude.{ℕ, List, [], ◌∷◌, Bool, All, length, ◌≡◌, ◌<◌, ◌⊎◌, Some}
-use Rattle.wcv_core.specs.Features.{default_features}
+use Rattle.std.specs.Prelude.{ℕ, List, [], Bool, All, length, ◌≡◌, ◌<◌, ◌⊎◌, Some}
 use Rattle.wcv_core.specs.Names.{Place}
 use Rattle.wcv_core.specs.Refusal.{error_kind, error_offset}
 use Rattle.wcv_core.specs.declared.error.Error.{Error}
@@ -18,25 +17,13 @@ use Rattle.wcv_lower.specs.Given.{GivenNames, names_of, GivesAt}
 use Rattle.wcv_lower.specs.Names.{Under}
 use Rattle.wcv_lower.specs.Owned.{IsCalm, IsLed}
 use Rattle.wcv_lower.specs.Trees.{Tree_context, Tree_stack, tree_reader, tree_maker}
-use Rattle.wcv_state.specs.Contents.{Contents, empty_state}
+use Rattle.wcv_state.specs.Contents.{Contents}
 use Rattle.wcv_state.specs.Promises.{numbers_of}
-use Rattle.wcv_state.specs.declared.kind.ComponentKind.TheVariants as state_kind
+pub use Rattle.wcv_state.specs.Stack.{innermost, around}
 use Rattle.wcv_decls.specs.Items.{declare_checks}
-use Rattle.wcv_decls.specs.Stack.{IsOpen, stack_on, all_spent}
+use Rattle.wcv_decls.specs.Stack.{IsOpen, stack_on, all_spent, all_uncharged}
 
 -- ## The states
-
--- the innermost of them; of none, a state that is never looked at
-abbrev pub innermost : List Contents → Contents
-innermost [] = empty_state state_kind.Component default_features
-innermost (s ∷ []) = s
-innermost (s ∷ t ∷ ss) = innermost (t ∷ ss)
-
--- those around it
-abbrev pub around : List Contents → List Contents
-around [] = []
-around (s ∷ []) = []
-around (s ∷ t ∷ ss) = s ∷ around (t ∷ ss)
 
 abbrev pub features_in : List Contents → WasmFeatures
 features_in ss = (innermost ss).features
@@ -54,14 +41,14 @@ pub record AreReady (a : Arena) (ss : List Contents) : Type 0 where
   pub each : All (IsOpen a) ss
   pub calm : IsCalm (numbers_of a) (stack_in a ss)
 
--- so again, with the same states around
+-- so again, with the same states around, but for the sizes of what was aliased into them
 pub record StayReady (a : Arena) (ss ss' : List Contents) : Type 0 where
   pub ready : AreReady a ss'
-  pub around : around ss' ≡ around ss
+  pub around : all_uncharged (around ss') ≡ all_uncharged (around ss)
 
--- but for marks, those around the innermost stay
+-- but for marks and these sizes, those around the innermost stay
 abbrev pub SameAround : List Contents → List Contents → Type 0
-SameAround ss ss' = all_spent (around ss') ≡ all_spent (around ss)
+SameAround ss ss' = all_spent (all_uncharged (around ss')) ≡ all_spent (all_uncharged (around ss))
 
 -- the context of an instance type that is read: it has no imports, and a path leads to each defined resource in its exports
 pub record IsInstanceBody (c : Tree_context) : Type 0 where
@@ -122,6 +109,6 @@ pub record Ends (k : Kind) (a b : Arena) (ss ss' : List Contents) : Type 0 where
   pub given : (p : Place) → GivesAt (λ q. q ≡ p) (numbers_of a) (numbers_of b) (names p)
   pub ended : (p : Place) → ended k (tree_maker (names_of (names p)) p) (stack_in a ss) ≡ Some (stack_in b ss')
   pub free : IsFree (declared_end_checks k (top_in a ss))
-  -- the states around it stay
+  -- those around that stay
   pub ready : StayReady b (around ss) ss'
   pub declares : DeclaresInstance a (around ss) → DeclaresInstance b ss'

@@ -50,11 +50,12 @@ pub record Declares (a b : Arena) (s s' : Contents) (t : Type_form) : Type 0 whe
   pub live : s'.spent ≡ false
   pub keeps : Keeps a b s s'
 
--- the type item was read at that place, by names that the arena gave, in the contexts further out, and has no cause that is looked at
-pub record Declared (limited : Bool) (a a' : Arena) (outer : List Tree_context) (p : Place) (s s' : Contents) (t : Type_form) : Type 0 where
+-- the type item was read at that place, by names that the arena gave, in the contexts further out, which became others, and has no cause
+-- that is looked at
+pub record Declared (limited : Bool) (a a' : Arena) (outer outer' : List Tree_context) (p : Place) (s s' : Contents) (t : Type_form) : Type 0 where
   pub names : GivenNames
   pub given : GivesAt (Under p) (numbers_of a) (numbers_of a') names
-  pub read : read_type s.features (tree_maker (names_of names)) p (stack_of a s outer) t ≡ Some (stack_of a' s' outer)
+  pub read : read_type s.features (tree_maker (names_of names)) p (stack_of a s outer) t ≡ Some (stack_of a' s' outer')
   pub free : IsFree (declare_checks limited s.features (tree_maker (names_of names)) p (stack_of a s outer) t)
   pub live : s'.spent ≡ false
 

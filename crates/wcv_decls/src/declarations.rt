@@ -1,8 +1,8 @@
 // Declarations that hold no type, over the states that are open.
 ghost use Rattle.std.specs.Prelude.{◌≡◌, true, false, List, OnOk, OnErr, IfErr};
 ghost use Rattle.wcv_core.specs.Names.{Place};
-ghost use Rattle.wcv_syntax.specs.Built.{is_built_ref};
-ghost use Rattle.wcv_syntax.specs.Model.{core_type_decl, export_decl, import_decl};
+ghost use Rattle.wcv_syntax.specs.Built.{is_built_ref, is_built_alias};
+ghost use Rattle.wcv_syntax.specs.Model.{core_type_decl, alias_decl, export_decl, import_decl};
 ghost use Rattle.wcv_syntax.specs.View.{core_type_view};
 ghost use Rattle.wcv_lower.specs.Owned.{IsLed};
 ghost use Rattle.wcv_lower.specs.Trees.{Tree_context};
@@ -15,7 +15,9 @@ ghost use Rattle.wcv_decls.specs.Stack.{KeepsOn};
 use crate::core_type::add_core_type_on;
 use wcv_core::Error;
 use wcv_state::ComponentState;
-use wcv_syntax::{ComponentExternName, ComponentImport, ComponentTypeRef, CoreType};
+use wcv_syntax::{
+    ComponentAlias, ComponentExternName, ComponentImport, ComponentTypeRef, CoreType,
+};
 use wcv_types::TypeAlloc;
 
 /// A declared core type.
@@ -34,6 +36,25 @@ pub fn declare_core_type(
     ensures keeps { KeepsOn types.old types.new components.old.items components.new.items }
 {
     add_core_type_on(components.as_mut_slice(), ty, types, offset)
+}
+
+/// A declared alias.
+pub fn declare_alias(
+    alias: ComponentAlias,
+    components: &mut Vec<ComponentState>,
+    types: &mut TypeAlloc,
+    offset: u64,
+) -> Result<(), Error>
+    requires ready { AreReady types.old components.old.items }
+    requires built { is_built_alias alias ≡ true }
+    ensures ok { OnOk result (ReadsDecl types.old types.new components.old.items components.new.items (alias_decl alias)) }
+    ensures ready { OnOk result (StayReady types.new components.old.items components.new.items) }
+    ensures declares { OnOk result (DeclaresInstance types.old components.old.items → DeclaresInstance types.new components.new.items) }
+    ensures err { IfErr result (MemoryOr (RefusesDecl types.old types.new components.old.items (alias_decl alias)) offset) }
+    ensures around { OnErr result (SameAround components.old.items components.new.items) }
+    ensures keeps { KeepsOn types.old types.new components.old.items components.new.items }
+{
+    ComponentState::add_alias(components.as_mut_slice(), alias, types, offset)
 }
 
 /// A declared export of a state.

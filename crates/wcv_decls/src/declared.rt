@@ -9,7 +9,7 @@ ghost use Rattle.wcv_decls.specs.Declaring.{AreReady, StayReady, DeclaresInstanc
 ghost use Rattle.wcv_decls.specs.Stack.{KeepsOn};
 
 use crate::close::{end_component_type, end_instance_type, leave};
-use crate::declarations::{declare_core_type, declare_export, declare_import};
+use crate::declarations::{declare_alias, declare_core_type, declare_export, declare_import};
 use crate::declare::declare_plain;
 use crate::open::open_type;
 use wcv_core::Error;
@@ -208,7 +208,7 @@ fn read_component_decl(
         ComponentTypeDeclaration::Import(import) => {
             declare_import(import, components, types, offset)
         }
-        ComponentTypeDeclaration::Alias(_) => unreachable!(),
+        ComponentTypeDeclaration::Alias(alias) => declare_alias(alias, components, types, offset),
     }
 }
 
@@ -239,6 +239,6 @@ fn read_instance_decl(
         InstanceTypeDeclaration::Export { name, ty } => {
             declare_export(name, ty, components, types, offset)
         }
-        InstanceTypeDeclaration::Alias(_) => unreachable!(),
+        InstanceTypeDeclaration::Alias(alias) => declare_alias(alias, components, types, offset),
     }
 }

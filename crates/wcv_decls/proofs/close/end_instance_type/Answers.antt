@@ -7,7 +7,7 @@ use Rattle.wcv_lower.specs.Context.{declares_instance}
 use Rattle.wcv_state.specs.Contents.{Contents, context_of, StateStands}
 use Rattle.wcv_state.proofs.Stacks.{around_kept}
 use Rattle.wcv_decls.specs.Declaring.{innermost, around, SameAround, Ends}
-use Rattle.wcv_decls.specs.Stack.{IsOpen, all_spent, stay, ChangesLast, KeepsOn}
+use Rattle.wcv_decls.specs.Stack.{IsOpen, all_spent, all_uncharged, stay, ChangesLast, KeepsOn}
 use Rattle.wcv_decls.proofs.InnermostStates.{indexed, last_changed, open_here, open_around, kept, marks_same}
 use Rattle.wcv_decls.proofs.Closing.{type_ends}
 use Rattle.wcv_decls.proofs.InstanceNodes.{owned_led, instance_same, memory_alone}
@@ -16,7 +16,7 @@ use Rattle.wcv_decls.proofs.close.end_instance_type.Goals as goal
 pub returns-in_err-pop_type-clause-around : goal.returns-in_err-pop_type-clause-around
 returns-in_err-pop_type-clause-around c =
     let p = err_from_is_err_and c.from_residual.result c.from_residual.ensures.1 in
-    rw p.1 (ap (λ (xs : List Contents). all_spent (around xs)) c.pop_type.ensures.left)
+    rw p.1 (ap (λ (xs : List Contents). all_spent (all_uncharged (around xs))) c.pop_type.ensures.left)
 
 pub returns-in_err-pop_type-clause-keeps : goal.returns-in_err-pop_type-clause-keeps
 returns-in_err-pop_type-clause-keeps c =
@@ -127,7 +127,7 @@ store_instance-requires-clause-fits c =
 pub returns-in_err-ty-clause-around : goal.returns-in_err-ty-clause-around
 returns-in_err-ty-clause-around c =
     let p = err_from_is_err_and c.from_residual-in_err-ty.result c.from_residual-in_err-ty.ensures.1 in
-    rw p.1 (ap (λ (xs : List Contents). all_spent (around xs)) c.pop_type.ensures.left)
+    rw p.1 (ap (λ (xs : List Contents). all_spent (all_uncharged (around xs))) c.pop_type.ensures.left)
 
 pub returns-in_err-ty-clause-keeps : goal.returns-in_err-ty-clause-keeps
 returns-in_err-ty-clause-keeps c =

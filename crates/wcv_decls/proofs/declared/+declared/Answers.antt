@@ -1,24 +1,24 @@
 use Rattle.std.proofs.Common.{◌≡◌, ℕ, suc, ◌<◌, List, [], ◌∷◌, ◌++◌, length, map, sym, ◌∙◌, ap, subst, arith, inl, ◌≤◌}
-use Rattle.std.specs.Prelude.{OnOk, OnErr, IfErr}
+use Rattle.std.specs.Prelude.{OnOk, IfErr}
 use Rattle.std.specs.Vec.Iter.{into_iter_items}
 use Rattle.std.proofs.lemmas.List.{length-append}
-use Rattle.std.proofs.lemmas.Result.{err_from_is_err_and, on_ok_weaker, IfErr-weaker}
+use Rattle.std.proofs.lemmas.Result.{err_from_is_err_and, on_ok_weaker, on_err_weaker, IfErr-weaker}
 use Rattle.wcv_syntax.specs.Built.{is_built_type, is_built_decl}
-use Rattle.wcv_syntax.specs.Model.{Type_form, Decl, Decls, no_decls, declare, component_type, instance_type, type_decl}
+use Rattle.wcv_syntax.specs.Model.{Type_form, Decl, Decls, no_decls, declare, component_type, instance_type, type_decl, alias_decl}
 use Rattle.wcv_syntax.specs.View.{decls_of, type_view, component_decl_view, instance_decl_view}
 use Rattle.wcv_syntax.specs.declared.component_type.ComponentTypeDeclaration.{ComponentTypeDeclaration}
 use Rattle.wcv_syntax.specs.declared.component_type.InstanceTypeDeclaration.{InstanceTypeDeclaration}
-use Rattle.wcv_syntax.proofs.Views.{type_view-Component, type_view-Instance, component_of_core_type, component_of_type, component_of_export, component_of_import, instance_of_core_type, instance_of_type, instance_of_export}
+use Rattle.wcv_syntax.proofs.Views.{type_view-Component, type_view-Instance, component_of_core_type, component_of_type, component_of_alias, component_of_export, component_of_import, instance_of_core_type, instance_of_type, instance_of_alias, instance_of_export}
 use Rattle.wcv_types.proofs.Grown.{extends_refl}
 use Rattle.wcv_lower.specs.Context.{declares_instance, declares_component}
 use Rattle.wcv_lower.proofs.DeclaredDoes.{inside_built}
 use Rattle.wcv_state.specs.Contents.{Contents}
 use Rattle.wcv_state.proofs.Stacks.{around_kept}
 use Rattle.wcv_decls.specs.Declaring.{around, SameAround, MemoryOr, ReadsType, ReadsDecl, RefusesType, RefusesDecl, RefusesDecls}
-use Rattle.wcv_decls.specs.Stack.{all_spent, KeepsOn}
+use Rattle.wcv_decls.specs.Stack.{all_spent, all_uncharged, KeepsOn}
 use Rattle.wcv_decls.proofs.FormSizes.{type_size, decl_size, decls_size, first_smaller, rest_smaller}
 use Rattle.wcv_decls.proofs.ReadingOn.{SoFar, so_far_start, so_far_next, so_far_all, so_far_refused, built_first, nothing_left, refused_same, kept_both, extends_on, grown_numbers}
-use Rattle.wcv_decls.proofs.Whole.{component_barred, instance_barred, same_states, marks_around, kept_around, whole_stays, whole_declares, component_whole, instance_whole, component_inside_refused, instance_inside_refused, component_end_refused, opened_body}
+use Rattle.wcv_decls.proofs.Whole.{component_barred, instance_barred, some_around, marks_further, marks_around, kept_around, whole_stays, whole_declares, component_whole, instance_whole, component_inside_refused, instance_inside_refused, component_end_refused, opened_body}
 use Rattle.wcv_decls.proofs.declared.+declared.Goals as goal
 
 -- ## A type by its form
@@ -68,7 +68,7 @@ declare_component_type-returns-in_err-open_type-clause-err t c =
 pub declare_component_type-returns-in_err-open_type-clause-around : goal.declare_component_type-returns-in_err-open_type-clause-around
 declare_component_type-returns-in_err-open_type-clause-around t c =
     let p = err_from_is_err_and c.from_residual.result c.from_residual.ensures.1 in
-    rw p.1 (ap (λ (xs : List Contents). all_spent (around xs)) c.in_err-open_type.ensures.same)
+    rw p.1 (ap (λ (xs : List Contents). all_spent (all_uncharged (around xs))) c.in_err-open_type.ensures.same)
 
 pub declare_component_type-returns-in_err-open_type-clause-keeps : goal.declare_component_type-returns-in_err-open_type-clause-keeps
 declare_component_type-returns-in_err-open_type-clause-keeps t c =
@@ -92,7 +92,7 @@ declare_component_type-end_component_type-requires-clause-inside t c =
     let ts : List Contents = c.open_type.new.components.items in
     let m = c.read_component_decls.new.types in
     let us : List Contents = c.read_component_decls.new.components.items in
-    subst (λ (xs : List Contents). 0 < length xs) (sym (same_states declares_component a ss ts c.requires.ready c.in_ok-open_type.ensures.ok m us c.read_component_decls.ensures.keeps c.in-Ok.ensures.ready)) c.requires.ready.some
+    some_around declares_component a ss ts c.requires.ready c.in_ok-open_type.ensures.ok m us c.read_component_decls.ensures.keeps c.in-Ok.ensures.ready
 
 pub declare_component_type-returns-in-Ok-clause-ok : goal.declare_component_type-returns-in-Ok-clause-ok
 declare_component_type-returns-in-Ok-clause-ok t c =
@@ -140,7 +140,7 @@ declare_component_type-returns-in-Ok-clause-err t c =
     let us : List Contents = c.read_component_decls.new.components.items in
     let b = c.end_component_type.new.types in
     let vs : List Contents = c.end_component_type.new.components.items in
-    let some : 0 < length (around us) = subst (λ (xs : List Contents). 0 < length xs) (sym (same_states declares_component a ss ts c.requires.ready c.in_ok-open_type.ensures.ok m us c.read_component_decls.ensures.keeps c.in-Ok.ensures.ready)) c.requires.ready.some in
+    let some : 0 < length (around us) = some_around declares_component a ss ts c.requires.ready c.in_ok-open_type.ensures.ok m us c.read_component_decls.ensures.keeps c.in-Ok.ensures.ready in
     IfErr-weaker c.end_component_type.result _ _ (λ e x. component_end_refused c.args.check_limit a ss ts c.requires.ready c.in_ok-open_type.ensures.full c.in_ok-open_type.ensures.room m us ds c.in_ok-open_type.ensures.ok b c.args.offset e (grown_numbers m b (extends_on m b (around us) vs some c.end_component_type.ensures.keeps)) c.in-Ok.ensures.ok x) c.end_component_type.ensures.err
 
 pub declare_component_type-returns-in-Ok-clause-around : goal.declare_component_type-returns-in-Ok-clause-around
@@ -153,7 +153,7 @@ declare_component_type-returns-in-Ok-clause-around t c =
     let us : List Contents = c.read_component_decls.new.components.items in
     let b = c.end_component_type.new.types in
     let vs : List Contents = c.end_component_type.new.components.items in
-    subst (λ (xs : List Contents). OnErr c.end_component_type.result (SameAround xs vs)) (same_states declares_component a ss ts c.requires.ready c.in_ok-open_type.ensures.ok m us c.read_component_decls.ensures.keeps c.in-Ok.ensures.ready) c.end_component_type.ensures.around
+    on_err_weaker c.end_component_type.result (marks_further declares_component a ss ts c.requires.ready c.in_ok-open_type.ensures.ok m us c.read_component_decls.ensures.keeps c.in-Ok.ensures.ready vs) c.end_component_type.ensures.around
 
 pub declare_component_type-returns-in-Ok-clause-keeps : goal.declare_component_type-returns-in-Ok-clause-keeps
 declare_component_type-returns-in-Ok-clause-keeps t c =
@@ -208,7 +208,7 @@ declare_instance_type-returns-in_err-open_type-clause-err t c =
 pub declare_instance_type-returns-in_err-open_type-clause-around : goal.declare_instance_type-returns-in_err-open_type-clause-around
 declare_instance_type-returns-in_err-open_type-clause-around t c =
     let p = err_from_is_err_and c.from_residual.result c.from_residual.ensures.1 in
-    rw p.1 (ap (λ (xs : List Contents). all_spent (around xs)) c.in_err-open_type.ensures.same)
+    rw p.1 (ap (λ (xs : List Contents). all_spent (all_uncharged (around xs))) c.in_err-open_type.ensures.same)
 
 pub declare_instance_type-returns-in_err-open_type-clause-keeps : goal.declare_instance_type-returns-in_err-open_type-clause-keeps
 declare_instance_type-returns-in_err-open_type-clause-keeps t c =
@@ -232,7 +232,7 @@ declare_instance_type-end_instance_type-requires-clause-inside t c =
     let ts : List Contents = c.open_type.new.components.items in
     let m = c.read_instance_decls.new.types in
     let us : List Contents = c.read_instance_decls.new.components.items in
-    subst (λ (xs : List Contents). 0 < length xs) (sym (same_states declares_instance a ss ts c.requires.ready c.in_ok-open_type.ensures.ok m us c.read_instance_decls.ensures.keeps c.in-Ok.ensures.ready)) c.requires.ready.some
+    some_around declares_instance a ss ts c.requires.ready c.in_ok-open_type.ensures.ok m us c.read_instance_decls.ensures.keeps c.in-Ok.ensures.ready
 
 pub declare_instance_type-end_instance_type-requires-clause-declares : goal.declare_instance_type-end_instance_type-requires-clause-declares
 declare_instance_type-end_instance_type-requires-clause-declares t c =
@@ -288,7 +288,7 @@ declare_instance_type-returns-in-Ok-clause-around t c =
     let us : List Contents = c.read_instance_decls.new.components.items in
     let b = c.end_instance_type.new.types in
     let vs : List Contents = c.end_instance_type.new.components.items in
-    subst (λ (xs : List Contents). OnErr c.end_instance_type.result (SameAround xs vs)) (same_states declares_instance a ss ts c.requires.ready c.in_ok-open_type.ensures.ok m us c.read_instance_decls.ensures.keeps c.in-Ok.ensures.ready) c.end_instance_type.ensures.around
+    on_err_weaker c.end_instance_type.result (marks_further declares_instance a ss ts c.requires.ready c.in_ok-open_type.ensures.ok m us c.read_instance_decls.ensures.keeps c.in-Ok.ensures.ready vs) c.end_instance_type.ensures.around
 
 pub declare_instance_type-returns-in-Ok-clause-keeps : goal.declare_instance_type-returns-in-Ok-clause-keeps
 declare_instance_type-returns-in-Ok-clause-keeps t c =
@@ -586,3 +586,33 @@ pub read_instance_decl-returns-in-Export-clause-ok : goal.read_instance_decl-ret
 read_instance_decl-returns-in-Export-clause-ok t c =
     let e = ap instance_decl_view c.in-Export.is ∙ instance_of_export c.in-Export.name c.in-Export.ty in
     subst (λ (d : Decl). OnOk c.declare_export.result (ReadsDecl c.args.types.now c.declare_export.new.types c.args.components.now.items c.declare_export.new.components.items d)) (sym e) c.declare_export.ensures.ok
+
+pub read_component_decl-declare_alias-requires : goal.read_component_decl-declare_alias-requires
+read_component_decl-declare_alias-requires t c =
+    let e : component_decl_view c.args.decl ≡ alias_decl c.in-Alias.alias = ap component_decl_view c.in-Alias.is ∙ component_of_alias c.in-Alias.alias in
+    record { ready = c.requires.ready; built = sym (ap is_built_decl e) ∙ c.requires.built }
+
+pub read_component_decl-returns-in-Alias-clause-ok : goal.read_component_decl-returns-in-Alias-clause-ok
+read_component_decl-returns-in-Alias-clause-ok t c =
+    let e = ap component_decl_view c.in-Alias.is ∙ component_of_alias c.in-Alias.alias in
+    subst (λ (d : Decl). OnOk c.declare_alias.result (ReadsDecl c.args.types.now c.declare_alias.new.types c.args.components.now.items c.declare_alias.new.components.items d)) (sym e) c.declare_alias.ensures.ok
+
+pub read_component_decl-returns-in-Alias-clause-err : goal.read_component_decl-returns-in-Alias-clause-err
+read_component_decl-returns-in-Alias-clause-err t c =
+    let e = ap component_decl_view c.in-Alias.is ∙ component_of_alias c.in-Alias.alias in
+    subst (λ (d : Decl). IfErr c.declare_alias.result (MemoryOr (RefusesDecl c.args.types.now c.declare_alias.new.types c.args.components.now.items d) c.args.offset)) (sym e) c.declare_alias.ensures.err
+
+pub read_instance_decl-declare_alias-requires : goal.read_instance_decl-declare_alias-requires
+read_instance_decl-declare_alias-requires t c =
+    let e : instance_decl_view c.args.decl ≡ alias_decl c.in-Alias.alias = ap instance_decl_view c.in-Alias.is ∙ instance_of_alias c.in-Alias.alias in
+    record { ready = c.requires.ready; built = sym (ap is_built_decl e) ∙ c.requires.built }
+
+pub read_instance_decl-returns-in-Alias-clause-ok : goal.read_instance_decl-returns-in-Alias-clause-ok
+read_instance_decl-returns-in-Alias-clause-ok t c =
+    let e = ap instance_decl_view c.in-Alias.is ∙ instance_of_alias c.in-Alias.alias in
+    subst (λ (d : Decl). OnOk c.declare_alias.result (ReadsDecl c.args.types.now c.declare_alias.new.types c.args.components.now.items c.declare_alias.new.components.items d)) (sym e) c.declare_alias.ensures.ok
+
+pub read_instance_decl-returns-in-Alias-clause-err : goal.read_instance_decl-returns-in-Alias-clause-err
+read_instance_decl-returns-in-Alias-clause-err t c =
+    let e = ap instance_decl_view c.in-Alias.is ∙ instance_of_alias c.in-Alias.alias in
+    subst (λ (d : Decl). IfErr c.declare_alias.result (MemoryOr (RefusesDecl c.args.types.now c.declare_alias.new.types c.args.components.now.items d) c.args.offset)) (sym e) c.declare_alias.ensures.err

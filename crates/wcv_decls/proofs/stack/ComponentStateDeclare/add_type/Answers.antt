@@ -21,7 +21,7 @@ returns-in-Ok-clause-ok c =
     let ts : List Contents = c.declare_item.new.components.items in
     let ready : AreReady a ss = states_ready a ss c.requires.some c.requires.open c.requires.calm in
     λ p. both_mapped (λ xs ys. DeclaresOn c.args.check_limit a b p xs ys (type_view c.args.ty)) ss ts
-    (declares_on c.args.check_limit a b p ss ts (type_view c.args.ty) ready c.in-Ok.ensures.built c.in-Ok.ensures.ok c.in-Ok.ensures.ready c.declare_item.ensures.keeps)
+    (declares_on c.args.check_limit a b p ss ts (type_view c.args.ty) ready c.in-Ok.ensures.built c.in-Ok.ensures.ok c.in-Ok.ensures.ready)
 
 pub returns-in-Ok-clause-calm : goal.returns-in-Ok-clause-calm
 returns-in-Ok-clause-calm c =
