@@ -16,7 +16,7 @@ use Rattle.wcv_state.specs.Contents.{Contents, context_of, empty_state, finished
 use Rattle.wcv_state.specs.Promises.{numbers_of, RefusesBy, Finished}
 use Rattle.wcv_state.specs.declared.kind.ComponentKind.TheVariants.{Component}
 use Rattle.wcv_state.proofs.Keeping.{empty_stands}
-use Rattle.wcv_decls.specs.Stack.{IsOpen, contexts_around, stack_on}
+use Rattle.wcv_decls.specs.Stack.{IsOpen, all_uncharged, contexts_around, stack_on}
 use Rattle.wcv_decls.proofs.InnermostStates.{calm_all}
 use Rattle.wcv_link.specs.Accepts.{AcceptsWith}
 use Rattle.wcv_link.specs.Progress.{IsReady, GrewAt, AcceptsItem, RefusesItem, ValidSoFar, MemoryOrRefused}
@@ -44,21 +44,28 @@ module _ (a : Arena) (features : WasmFeatures) (none : a.core ≡ []) where
 
 -- ## The next item
 
+none_around : (ss : List Contents) → all_uncharged ss ≡ [] → ss ≡ []
+none_around [] e = refl
+none_around (s ∷ ss) e = absurd (cc)
+
 module _ (a b : Arena) (ss : List Contents) (k : ℕ) (features : WasmFeatures) (is rest : Items) (at : ℕ) (f : Form) (h : ValidSoFar a ss k features is (next_item at f rest)) where
   -- it was read
   pub goes_on : (ss' : List Contents) → AcceptsItem a b ss ss' f → ValidSoFar b ss' (suc k) features is rest
   goes_on ss' w =
       let p : Place = deeper [] k in
       let t = w.taken p in
-      let r = same_end [] t.last.outer h.state t.last.old (sym h.alone ∙ t.last.was) in
-      let here : GrewAt a b [] h.state t.last.new f p =
-      subst (λ (s : Contents). GrewAt a b [] s t.last.new f p) (sym r.1) (subst (λ (os : List Contents). GrewAt a b (contexts_around a os) t.last.old t.last.new f p) (sym r.0) t.grew) in
-      let same : t.last.new.features ≡ h.state.features = t.features ∙ sym (ap (λ (s : Contents). s.features) r.1) in
+      let r = same_end [] t.outer h.state t.old (sym h.alone ∙ t.was) in
+      let none : t.outer' ≡ [] = none_around t.outer' (t.same ∙ ap all_uncharged (sym r.0)) in
+      let here : GrewAt a b [] [] h.state t.new f p =
+      subst (λ (s : Contents). GrewAt a b [] [] s t.new f p) (sym r.1)
+      (subst (λ (os : List Contents). GrewAt a b (contexts_around a os) [] t.old t.new f p) (sym r.0)
+      (subst (λ (os : List Contents). GrewAt a b (contexts_around a t.outer) (contexts_around b os) t.old t.new f p) none t.grew)) in
+      let same : t.new.features ≡ h.state.features = t.features ∙ sym (ap (λ (s : Contents). s.features) r.1) in
       record {
         ready = w.ready;
-        state = t.last.new;
-        alone = t.last.becomes ∙ ap (λ (os : List Contents). os ++ t.last.new ∷ []) (sym r.0);
-        valid = read_one a b h.state t.last.new k features is rest at f h.valid here w.arena same;
+        state = t.new;
+        alone = t.becomes ∙ ap (λ (os : List Contents). os ++ t.new ∷ []) none;
+        valid = read_one a b h.state t.new k features is rest at f h.valid here w.arena same;
       }
 
   -- it was refused

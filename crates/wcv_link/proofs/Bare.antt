@@ -1,17 +1,26 @@
 -- Types of entries in which instances own nothing: what is free inside such an instance is free in it.
-use Rattle.std.specs.Prelude.{[], ◌≡◌, All}
+use Rattle.std.specs.Prelude.{[], map, ◌≡◌, All}
 use Rattle.std.proofs.lemmas.List.Elements.{All-nil, All-cons}
-use Rattle.wcv_core.specs.Names.{Name}
-use Rattle.wcv_types.specs.Tree.{Text, Head, here, label, import, export, core_import, core_export, node, Parts, none, part, owned}
+use Rattle.wcv_core.specs.Names.{Name, Place}
+use Rattle.wcv_types.specs.FirstPath.{first_path}
+use Rattle.wcv_types.specs.Tree.{Text, Head, here, label, import, export, core_import, core_export, node, Parts, none, part, exports, owned}
 use Rattle.wcv_types.specs.Unfold.{Type_tree}
 use Rattle.wcv_matching.specs.Matching.{named_exports, named_imports, named_exports_in, named_imports_in}
 use Rattle.wcv_matching.specs.Orderly.{EachNode, EachNodeIn}
+use Rattle.wcv_lower.specs.Names.{Names, again}
+use Rattle.wcv_lower.specs.NewTypes.{path_or_none}
 use Rattle.wcv_lower.specs.Owned.{AllEntries}
-use Rattle.wcv_lower.specs.Trees.{Tree_context}
+use Rattle.wcv_lower.specs.Step.{bare}
+use Rattle.wcv_lower.specs.Trees.{Tree_context, tree_reader, tree_maker}
+use Rattle.wcv_state.proofs.MadeAlone.{tree_alone}
 
 -- it is no instance, or owns nothing
 abbrev pub OwnsNothing : Type_tree → Type 0
 OwnsNothing t = owned t ≡ []
+
+-- so it is the instance that is made of it
+pub bare-instance : (names : Names) (p : Place) (t : Type_tree) → OwnsNothing t → (tree_maker names p).instance_of t ≡ bare tree_reader t
+bare-instance names p t e = λ j. record { entity = tree_alone names p t e j; resources = map (λ r. (names.resource (again p r), path_or_none (first_path r (exports t)))) (e j) }
 
 -- so each import and each export among the parts
 abbrev pub EntriesOwnNothing : Parts Name Name → Type 0

@@ -1,5 +1,5 @@
 -- What canonical functions do to a context: they append a core function, or a function of a type that stands there, and list no resource.
-use Rattle.std.proofs.Common.{◌≡◌, ℕ, List, [], ◌∷◌, Bool, true, false, cond, refl, subst, Some, None}
+use Rattle.std.proofs.Common.{◌≡◌, ℕ, zero, List, [], ◌∷◌, Bool, true, false, cond, refl, subst, Some, None}
 use Rattle.std.specs.Prelude.{Option}
 use Rattle.std.specs.Option.{option_map, option_and_then}
 use Rattle.wcv_core.specs.CoreForm.{CompositeForm, Group}
@@ -21,10 +21,10 @@ use Rattle.wcv_lower.specs.Step.{Step, appends, core_appends, interns, types_slo
 use Rattle.wcv_lower.specs.Trees.{Type_tree, Tree_stack, tree_reader}
 use Rattle.wcv_lower.specs.Values.{type_of_sort}
 use Rattle.wcv_lower.proofs.Bringing.{AllBring, brings_one, brings_more}
-use Rattle.wcv_link.proofs.CoreGrowing.{item-closed, if-some}
+use Rattle.wcv_link.proofs.CoreGrowing.{item-fine, if-some}
 use Rattle.wcv_link.proofs.Growing.{Ready, Does, SameLists, same-does}
-use Rattle.wcv_link.proofs.Known.{mapped-some, then-some, Fine, In, Any, After, in-apply}
-use Rattle.wcv_link.proofs.Looking.{plain-fine}
+use Rattle.wcv_link.proofs.Known.{mapped-some, then-some, Fine, Listed, Any, After, listed-apply}
+use Rattle.wcv_link.proofs.Looking.{sorted-fine}
 
 -- what holds of its steps: of one that appends a core function, of one that appends a function of a type that stands there, and of each
 -- that says the type of slots before such a one
@@ -61,8 +61,8 @@ module _ (s : Tree_stack) (Q : Step tree_reader → Type 0) (slots : (v : ValTyp
       let m = mapped-some (slots_typed (canon_row f).asks) o x (if-some (is_free (canon_found s f)) (option_map (slots_typed (canon_row f).asks) o) x e) in
       subst Q m.2 (slots-hold (canon_row f).asks m.0 (row-holds f (canon_row f).appends m.0 m.1))
 
-module _ (p : Place) (s : Tree_stack) (h : Ready p s.top) where
-  module _ (P : Name → Type 0) (listed : (r : Name) → In s.top r → P r) where
+module _ (p : Place) (s : Tree_stack) (h : Ready p s) where
+  module _ (P : Name → Type 0) (listed : (r : Name) → Listed s r → P r) where
     -- what it brings is fine, and the lists stay
     abbrev Quiet : Step tree_reader → Type 0
     Quiet x = AllBring (Fine P) Any x × ((u : Tree_stack) → SameLists u.top (apply x u).top)
@@ -79,16 +79,16 @@ module _ (p : Place) (s : Tree_stack) (h : Ready p s.top) where
     core-quiet g =
         let e : EntityType = entity.Func (record { index = first_id s.groups g }) in
         let last : Step tree_reader = core_appends core_funcs (tree_reader.core_item e) ∷ [] in
-        (brings_more (Fine P) Any (interns (grown s.groups g)) last tt (brings_one (Fine P) Any (core_appends core_funcs (tree_reader.core_item e)) (item-closed P e, tt)), (λ u. record { imported = refl; defined = refl; imports = refl; exports = refl }))
+        (brings_more (Fine P) Any (interns (grown s.groups g)) last tt (brings_one (Fine P) Any (core_appends core_funcs (tree_reader.core_item e)) (item-fine P e)), (λ u. record { imported = refl; defined = refl; imports = refl; exports = refl }))
 
     typed-quiet : (k : ℕ) (t : Type_tree) → type_of_sort is_func s.top k ≡ Some t → Quiet (func_added t)
     typed-quiet k t e =
-        let w = plain-fine (In s.top) s.top h.fine is_func k t refl e in
+        let w = sorted-fine (Listed s) s.top (h.fine zero s.top refl) is_func k t e in
         (brings_one (Fine P) Any (appends in_funcs t) ((λ r f. listed r (w.0 r f)), w.1), (λ u. record { imported = refl; defined = refl; imports = refl; exports = refl }))
 
   pub canon-does : (f : Canon_form) (x : Step tree_reader) → canon_step s f ≡ Some x → Does exporting p s x
   canon-does f x e =
       let P : Name → Type 0 = After x s in
-      let i : (r : Name) → In s.top r → P r = in-apply x s in
+      let i : (r : Name) → Listed s r → P r = listed-apply x s in
       let w : Quiet P i x = canon-holds s (Quiet P i) (slots-quiet P i) (core-quiet P i) (typed-quiet P i) f x e in
       same-does p s h x w.0 (w.1 s)

@@ -1,9 +1,9 @@
--- The node at the end of a declared type: nothing is free in it, it is sound, and what it owns was introduced inside it.
-use Rattle.std.proofs.Common.{◌≡◌, ℕ, List, [], ◌∷◌, Bool, true, false, ◌||◌, cond, refl, sym, ◌∙◌, ap, subst, Some, None, ◌⊎◌, inl, inr}
+-- The node at the end of a declared type: what is free in it is listed further out, it is sound, and it owns what its context lists.
+use Rattle.std.proofs.Common.{◌≡◌, ℕ, zero, List, [], ◌∷◌, Bool, true, false, ◌||◌, cond, refl, sym, ◌∙◌, ap, subst, Some, None, ◌⊎◌, inl, inr}
 use Rattle.std.specs.Prelude.{All, Option}
 use Rattle.std.specs.Option.{option_map}
 use Rattle.std.proofs.lemmas.Bool.{false≢true, or_cases}
-use Rattle.std.proofs.lemmas.List.Elements.{All-head, All-tail, All-map}
+use Rattle.std.proofs.lemmas.List.Elements.{All-head, All-tail, All-map, All-weaker}
 use Rattle.wcv_core.specs.Names.{Name, Place, member}
 use Rattle.wcv_core.specs.declared.core_types.ValType.{ValType}
 use Rattle.wcv_types.specs.Led.{HasPath}
@@ -11,20 +11,22 @@ use Rattle.wcv_types.specs.Paths.{PathLeadsTo}
 use Rattle.wcv_types.specs.Resources.{is_free, Free, FreeIn}
 use Rattle.wcv_types.specs.Tree.{Extern_name, Role, import, export, Parts, none, entries, exports_in, imports_in, firsts}
 use Rattle.wcv_types.proofs.IsFree.{is_free-free, free-is_free}
+use Rattle.wcv_matching.specs.Orderly.{height}
 use Rattle.wcv_lower.specs.Context.{Side, importing, exporting, is_concrete}
 use Rattle.wcv_lower.specs.Ending.{is_free_among, any_free, kept, component_of, component_made, instance_made}
-use Rattle.wcv_lower.specs.Owned.{OwnsNot, AllEntries}
+use Rattle.wcv_lower.specs.Even.{IsBalanced}
+use Rattle.wcv_lower.specs.Owned.{OwnsNot, OwnApart, AllEntries}
 use Rattle.wcv_lower.specs.Readers.{New_node}
-use Rattle.wcv_lower.specs.Trees.{Type_tree, Entries, Tree_context, tree_reader, node_tree}
+use Rattle.wcv_lower.specs.Trees.{Type_tree, Entries, Tree_context, Tree_stack, tree_reader, node_tree}
+use Rattle.wcv_lower.proofs.EvenTypes.{balanced_inherited}
 use Rattle.wcv_lower.proofs.Given.{or_left, or_right, not_so}
 use Rattle.wcv_lower.proofs.Members.{firsts_map}
-use Rattle.wcv_lower.proofs.Owning.{owns_not_inherited, entries_have}
+use Rattle.wcv_lower.proofs.Owning.{Inherited, owns_not_inherited, own_apart_inherited, entries_have}
 use Rattle.wcv_link.proofs.Having.{Has, Once, names_in, member-has, has-member}
-use Rattle.wcv_link.proofs.Kept.{any-free, kept-has, kept-old, kept-once}
-use Rattle.wcv_link.proofs.Known.{mapped-some, Fine, In, IsFine}
-use Rattle.wcv_link.proofs.Placed.{PlacedUnder, in_list}
+use Rattle.wcv_link.proofs.Kept.{any-free, kept-has, kept-old, kept-once, kept-leads}
+use Rattle.wcv_link.proofs.Known.{mapped-some, Fine, In, ListedAmong, Listed, IsFine}
 use Rattle.wcv_link.proofs.Settled.{Settles}
-use Rattle.wcv_link.proofs.Sound.{Differ, IsSoundType}
+use Rattle.wcv_link.proofs.Sound.{Differ, IsSound, entries-sound}
 
 -- ## Entries
 
@@ -37,8 +39,8 @@ among-fine P (x ∷ es) r a e = go (is_free r x.1) refl e (λ w. among-fine P es
     go false f w later = later w
 
 -- what is free in an entry of a side is listed
-pub free-listed : (c : Tree_context) → IsFine c → (d : Side) (r : Name) → is_free_among tree_reader r (c.side d) ≡ true → In c r
-free-listed c h d r e = among-fine (In c) (c.side d) r (h.side d) e
+pub free-listed : (u : Tree_stack) → IsFine u → (d : Side) (r : Name) → is_free_among tree_reader r (u.top.side d) ≡ true → Listed u r
+free-listed u h d r e = among-fine (Listed u) (u.top.side d) r ((h zero u.top refl).side d) e
 
 -- what is free in parts that are entries is free in an entry
 free-among : (role : Extern_name → Role) (es : Entries) (rest : Parts Name Name) (r : Name) → FreeIn r (entries role es rest) → (is_free_among tree_reader r es ≡ true) ⊎ FreeIn r rest
@@ -62,6 +64,10 @@ all-imports : (es outs : Entries) → imports_in (entries import es (entries exp
 all-imports [] outs = no-imports outs
 all-imports (e ∷ es) outs = ap (λ (xs : Entries). e ∷ xs) (all-imports es outs)
 
+pub exports-behind : (es : Entries) (rest : Parts Name Name) → exports_in (entries import es rest) ≡ exports_in rest
+exports-behind [] rest = refl
+exports-behind (e ∷ es) rest = exports-behind es rest
+
 -- ## Names
 
 once-differ : {X : Type 0} (xs : List (Name × X)) → Once xs → Differ (names_in xs)
@@ -76,50 +82,64 @@ firsts-has rs r e = member-has rs r (subst (λ (xs : List Name). member r xs ≡
 
 -- ## The node
 
-pub record IsClosed (p : Place) (t : Type_tree) : Type 0 where
-  pub closed : (r : Name) → Free r t → ⊥
-  pub sound : IsSoundType t
-  pub owns : (r : Name) → (PlacedUnder p r → ⊥) → OwnsNot r t
+-- the type of declarations that leave the stack
+pub record IsClosed (u : Tree_stack) (t : Type_tree) : Type 0 where
+  -- what is free in it is listed further out
+  pub within : (r : Name) → Free r t → ListedAmong u.outer r
+  pub sound : IsSound t
+  -- it owns what its context lists, and what the entries of that own
+  pub owns : (r : Name) → (In u.top r → ⊥) → AllEntries (OwnsNot r) u.top → OwnsNot r t
+  pub apart : OwnApart t
+  pub balanced : (v : Name → ℕ) → AllEntries (IsBalanced v) u.top → ((r : Name) → In u.top r → height t ≡ v r) → IsBalanced v t
 
-module _ (p : Place) (k : ℕ) (i : Name) (c : Tree_context) (h : Settles p k c) where
+module _ (p : Place) (k : ℕ) (i : Name) (u : Tree_stack) (h : Settles p k u) where
+  abbrev c : Tree_context
+  c = u.top
+
   abbrev ins : Entries
   ins = c.side importing
 
   abbrev outs : Entries
   outs = c.side exporting
 
-  -- what is not introduced inside is not listed, and no entry owns it
-  foreign-imported : (r : Name) → (PlacedUnder p r → ⊥) → Has c.imported r → ⊥
-  foreign-imported r n x = n (in_list p k r (h.imported r x))
+  sides-sound : (d : Side) → All (λ (e : Extern_name × Type_tree). IsSound e.1) (c.side d)
+  sides-sound d = All-weaker (λ (e : Extern_name × Type_tree). Fine (Listed u) e.1) (λ (e : Extern_name × Type_tree). IsSound e.1) (λ e w. w.1) (c.side d) ((h.fine zero c refl).side d)
 
-  foreign-defined : (r : Name) → (PlacedUnder p r → ⊥) → Has c.defined r → ⊥
-  foreign-defined r n x = n (in_list p k r (h.defined r x))
+  -- parts that are exports, and imports before them
+  exports-have : {P : Type_tree → Type 0} {In : Parts Name Name → Type 0} (law : Inherited P In) → AllEntries P c → In (entries export outs none)
+  exports-have law all = entries_have law export outs none (all.side exporting) law.none_in
 
-  foreign-owned : (r : Name) → (PlacedUnder p r → ⊥) → AllEntries (OwnsNot r) c
-  foreign-owned r n = h.late r (λ b. n (in_list p k r b))
+  sides-have : {P : Type_tree → Type 0} {In : Parts Name Name → Type 0} (law : Inherited P In) → AllEntries P c → In (entries import ins (entries export outs none))
+  sides-have law all = entries_have law import ins (entries export outs none) (all.side importing) (exports-have law all)
 
   -- ## Of an instance type, which imports nothing
 
-  pub instance-closed : is_concrete c.kind ≡ false → c.imported ≡ [] → IsClosed p (node_tree i (instance_made c))
+  pub instance-closed : is_concrete c.kind ≡ false → c.imported ≡ [] → IsClosed u (node_tree i (instance_made c))
   instance-closed not_concrete no_imports = record {
-    closed = λ r f. free r f;
-    sound = (once-differ c.defined h.defined_once, subst (λ (es : Entries). All (HasPath es) (names_in c.defined)) (sym (all-exports outs)) (All-map (HasPath outs) (λ (x : Name × Option ValType). x.0) c.defined (h.led not_concrete)));
-    owns = λ r n. (
-      not_so (member r (names_in c.defined)) (λ e. foreign-defined r n (member-has c.defined r e)),
-      entries_have (owns_not_inherited r) export outs none ((foreign-owned r n).side exporting) tt,
-    );
+    within = λ r f. free r f;
+    sound = ((once-differ c.defined h.defined_once, led), entries-sound export outs none (sides-sound exporting) tt);
+    owns = λ r n all. (not_so (member r (names_in c.defined)) (λ e. n (owned r e)), exports-have (owns_not_inherited r) all);
+    apart = ((λ r e. exports-have (owns_not_inherited r) (h.spared r (inl (owned r e)) zero c refl)), exports-have own_apart_inherited (h.apart zero c refl));
+    balanced = λ v all high. ((tt, λ r e. high r (owned r e)), exports-have (balanced_inherited v) all);
   }
     where
-      is_owned : (r : Name) → In c r → member r (names_in c.defined) ≡ true
-      is_owned r (inl x) = absurd (subst (λ (rs : List (Name × List ℕ)). Has rs r) no_imports x)
-      is_owned r (inr x) = has-member c.defined r x
+      led : All (HasPath (exports_in (entries export outs none))) (names_in c.defined)
+      led = subst (λ (es : Entries). All (HasPath es) (names_in c.defined)) (sym (all-exports outs)) (All-map (HasPath outs) (λ (x : Name × Option ValType). x.0) c.defined (h.led not_concrete))
 
-      inside : (r : Name) → member r (names_in c.defined) ≡ false → (is_free_among tree_reader r outs ≡ true) ⊎ FreeIn {I = Name} r none → ⊥
-      inside r o (inl f) = false≢true (sym o ∙ is_owned r (free-listed c h.fine exporting r f))
-      inside r o (inr f) = f
+      owned : (r : Name) → member r (names_in c.defined) ≡ true → In c r
+      owned r e = inr (member-has c.defined r e)
 
-      free : (r : Name) → Free r (node_tree i (instance_made c)) → ⊥
-      free r (inl x) = x
+      foreign : (r : Name) → member r (names_in c.defined) ≡ false → Listed u r → ListedAmong u.outer r
+      foreign r o (inl (inl x)) = absurd (subst (λ (rs : List (Name × List ℕ)). Has rs r) no_imports x)
+      foreign r o (inl (inr x)) = absurd (false≢true (sym o ∙ has-member c.defined r x))
+      foreign r o (inr x) = x
+
+      inside : (r : Name) → member r (names_in c.defined) ≡ false → (is_free_among tree_reader r outs ≡ true) ⊎ FreeIn {I = Name} r none → ListedAmong u.outer r
+      inside r o (inl f) = foreign r o (free-listed u h.fine exporting r f)
+      inside r o (inr f) = absurd f
+
+      free : (r : Name) → Free r (node_tree i (instance_made c)) → ListedAmong u.outer r
+      free r (inl x) = absurd x
       free r (inr x) = inside r x.0 (free-among export outs none r x.1)
 
   -- ## Of a component type
@@ -128,48 +148,58 @@ module _ (p : Place) (k : ℕ) (i : Name) (c : Tree_context) (h : Settles p k c)
     abbrev is_own : Name → Bool
     is_own r = member r (firsts c.imported) || member r (firsts ks)
 
-    own-import : (r : Name) → is_free_among tree_reader r ins ≡ true → In c r → is_own r ≡ true
-    own-import r f (inl x) = or_left (member r (firsts c.imported)) (member r (firsts ks)) (has-firsts c.imported r x)
-    own-import r f (inr x) = absurd (false≢true (sym none_free ∙ any-free c.defined ins r x f))
+    imported-own : (r : Name) → Has c.imported r → is_own r ≡ true
+    imported-own r x = or_left (member r (firsts c.imported)) (member r (firsts ks)) (has-firsts c.imported r x)
 
-    own-export : (r : Name) → is_free_among tree_reader r outs ≡ true → In c r → is_own r ≡ true
-    own-export r f (inl x) = or_left (member r (firsts c.imported)) (member r (firsts ks)) (has-firsts c.imported r x)
-    own-export r f (inr x) = or_right (member r (firsts c.imported)) (member r (firsts ks)) (has-firsts ks r (kept-has outs c.defined ks r are_kept x f))
+    foreign-import : (r : Name) → is_own r ≡ false → is_free_among tree_reader r ins ≡ true → Listed u r → ListedAmong u.outer r
+    foreign-import r o f (inl (inl x)) = absurd (false≢true (sym o ∙ imported-own r x))
+    foreign-import r o f (inl (inr x)) = absurd (false≢true (sym none_free ∙ any-free c.defined ins r x f))
+    foreign-import r o f (inr x) = x
 
-    foreign-own : (r : Name) → (PlacedUnder p r → ⊥) → is_own r ≡ true → ⊥
-    foreign-own r n e = go (or_cases (member r (firsts c.imported)) (member r (firsts ks)) e)
+    foreign-export : (r : Name) → is_own r ≡ false → is_free_among tree_reader r outs ≡ true → Listed u r → ListedAmong u.outer r
+    foreign-export r o f (inl (inl x)) = absurd (false≢true (sym o ∙ imported-own r x))
+    foreign-export r o f (inl (inr x)) = absurd (false≢true (sym o ∙ or_right (member r (firsts c.imported)) (member r (firsts ks)) (has-firsts ks r (kept-has outs c.defined ks r are_kept x f))))
+    foreign-export r o f (inr x) = x
+
+    owned : (r : Name) → is_own r ≡ true → In c r
+    owned r e = go (or_cases (member r (firsts c.imported)) (member r (firsts ks)) e)
       where
-        go : (member r (firsts c.imported) ≡ true) ⊎ (member r (firsts ks) ≡ true) → ⊥
-        go (inl x) = foreign-imported r n (firsts-has c.imported r x)
-        go (inr x) = foreign-defined r n (kept-old outs c.defined ks r are_kept (firsts-has ks r x))
+        go : (member r (firsts c.imported) ≡ true) ⊎ (member r (firsts ks) ≡ true) → In c r
+        go (inl x) = inl (firsts-has c.imported r x)
+        go (inr x) = inr (kept-old outs c.defined ks r are_kept (firsts-has ks r x))
 
-    component-node : IsClosed p (node_tree i (component_of c ks))
+    component-node : IsClosed u (node_tree i (component_of c ks))
     component-node = record {
-      closed = λ r f. free r f;
-      sound = (kept-once outs c.defined ks are_kept h.defined_once, subst (λ (es : Entries). All (λ x. PathLeadsTo x.1 x.0 es) c.imported) (sym (all-imports ins outs)) h.leads);
-      owns = λ r n. (
-        not_so (is_own r) (foreign-own r n),
-        entries_have (owns_not_inherited r) import ins (entries export outs none) ((foreign-owned r n).side importing) (entries_have (owns_not_inherited r) export outs none ((foreign-owned r n).side exporting) tt),
-      );
+      within = λ r f. free r f;
+      sound = ((kept-once outs c.defined ks are_kept h.defined_once, (imports-lead, exports-lead)), entries-sound import ins (entries export outs none) (sides-sound importing) (entries-sound export outs none (sides-sound exporting) tt));
+      owns = λ r n all. (not_so (is_own r) (λ e. n (owned r e)), sides-have (owns_not_inherited r) all);
+      apart = ((λ r e. sides-have (owns_not_inherited r) (h.spared r (inl (owned r e)) zero c refl)), sides-have own_apart_inherited (h.apart zero c refl));
+      balanced = λ v all high. ((tt, λ r e. high r (owned r e)), sides-have (balanced_inherited v) all);
     }
       where
-        in_exports : (r : Name) → is_own r ≡ false → (is_free_among tree_reader r outs ≡ true) ⊎ FreeIn {I = Name} r none → ⊥
-        in_exports r o (inl f) = false≢true (sym o ∙ own-export r f (free-listed c h.fine exporting r f))
-        in_exports r o (inr f) = f
+        imports-lead : All (λ x. PathLeadsTo x.1 x.0 (imports_in (entries import ins (entries export outs none)))) c.imported
+        imports-lead = subst (λ (es : Entries). All (λ x. PathLeadsTo x.1 x.0 es) c.imported) (sym (all-imports ins outs)) h.leads
 
-        in_either : (r : Name) → is_own r ≡ false → (is_free_among tree_reader r ins ≡ true) ⊎ FreeIn r (entries export outs none) → ⊥
-        in_either r o (inl f) = false≢true (sym o ∙ own-import r f (free-listed c h.fine importing r f))
+        exports-lead : All (λ x. PathLeadsTo x.1 x.0 (exports_in (entries import ins (entries export outs none)))) ks
+        exports-lead = subst (λ (es : Entries). All (λ x. PathLeadsTo x.1 x.0 es) ks) (sym (exports-behind ins (entries export outs none) ∙ all-exports outs)) (kept-leads outs c.defined ks are_kept)
+
+        in_exports : (r : Name) → is_own r ≡ false → (is_free_among tree_reader r outs ≡ true) ⊎ FreeIn {I = Name} r none → ListedAmong u.outer r
+        in_exports r o (inl f) = foreign-export r o f (free-listed u h.fine exporting r f)
+        in_exports r o (inr f) = absurd f
+
+        in_either : (r : Name) → is_own r ≡ false → (is_free_among tree_reader r ins ≡ true) ⊎ FreeIn r (entries export outs none) → ListedAmong u.outer r
+        in_either r o (inl f) = foreign-import r o f (free-listed u h.fine importing r f)
         in_either r o (inr f) = in_exports r o (free-among export outs none r f)
 
-        free : (r : Name) → Free r (node_tree i (component_of c ks)) → ⊥
-        free r (inl x) = x
+        free : (r : Name) → Free r (node_tree i (component_of c ks)) → ListedAmong u.outer r
+        free r (inl x) = absurd x
         free r (inr x) = in_either r x.0 (free-among import ins (entries export outs none) r x.1)
 
-  pub component-closed : (n : New_node tree_reader) → component_made c ≡ Some n → IsClosed p (node_tree i n)
+  pub component-closed : (n : New_node tree_reader) → component_made c ≡ Some n → IsClosed u (node_tree i n)
   component-closed n e = go (any_free tree_reader c.defined ins) refl e
     where
-      go : (b : Bool) → any_free tree_reader c.defined ins ≡ b → cond b None (option_map (component_of c) (kept tree_reader c.defined outs)) ≡ Some n → IsClosed p (node_tree i n)
+      go : (b : Bool) → any_free tree_reader c.defined ins ≡ b → cond b None (option_map (component_of c) (kept tree_reader c.defined outs)) ≡ Some n → IsClosed u (node_tree i n)
       go true f w = cc
       go false f w =
           let m = mapped-some (component_of c) (kept tree_reader c.defined outs) n w in
-          subst (λ (x : New_node tree_reader). IsClosed p (node_tree i x)) m.2 (component-node m.0 f m.1)
+          subst (λ (x : New_node tree_reader). IsClosed u (node_tree i x)) m.2 (component-node m.0 f m.1)

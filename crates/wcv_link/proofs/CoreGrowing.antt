@@ -1,5 +1,5 @@
 -- What core items do to a context: they list no resource, and nothing is free in what they bring.
-use Rattle.std.proofs.Common.{◌≡◌, ℕ, List, [], ◌∷◌, Bool, true, false, not, refl, subst, Some, None, inl, inr}
+use Rattle.std.proofs.Common.{◌≡◌, ℕ, zero, suc, List, [], ◌∷◌, Bool, true, false, not, refl, subst, Some, None, inl, inr}
 use Rattle.std.specs.Prelude.{Option, cond}
 use Rattle.std.specs.Option.{option_map, option_and_then}
 use Rattle.std.specs.List.{list_all}
@@ -15,8 +15,10 @@ use Rattle.wcv_syntax.specs.declared.core_section.Export.{Export}
 use Rattle.wcv_syntax.specs.declared.core_section.ExternalKind.{ExternalKind}
 use Rattle.wcv_syntax.specs.declared.core_section.InstantiationArg.{InstantiationArg}
 use Rattle.wcv_syntax.specs.ModuleTypes.{Module_type, Made}
-use Rattle.wcv_types.specs.Resources.{FreeIn}
-use Rattle.wcv_types.specs.Tree.{Text, core_imports, core_exports, core_item, sub_type, node, none}
+use Rattle.wcv_types.specs.Measure.{size}
+use Rattle.wcv_types.specs.Resources.{RefersTo}
+use Rattle.wcv_types.specs.Tree.{Text, Head, here, core_imports, core_exports, core_module, core_instance, core_type, core_item, sub_type, node, none, part}
+use Rattle.wcv_types.specs.Unfold.{capped}
 use Rattle.wcv_types.proofs.Lists.{some-inj}
 use Rattle.wcv_lower.specs.Checks.{is_none}
 use Rattle.wcv_lower.specs.Context.{Core_space, core_types, core_modules, core_instances, exporting}
@@ -28,42 +30,54 @@ use Rattle.wcv_lower.specs.Readers.{New_node, core_instance_node, core_exports_n
 use Rattle.wcv_lower.specs.Trees.{Type_tree, Tree_stack, tree_reader, tree_maker, module_tree, node_tree, of_module, of_items}
 use Rattle.wcv_lower.proofs.Bringing.{Brings, AllBring, brings_one, brings_more}
 use Rattle.wcv_link.proofs.Growing.{Ready, Does, SameLists, same-does}
-use Rattle.wcv_link.proofs.Known.{mapped-some, all-get, Fine, Within, In, Any, After, in-apply}
+use Rattle.wcv_link.proofs.Known.{mapped-some, all-get, WithinParts, Fine, node-within, Listed, Any, After, later-fine}
+use Rattle.wcv_link.proofs.Sound.{IsSoundNode, AreSound}
 
--- nothing is free in what a core module imports and exports
-exports-closed : (r : Name) (es : List (Text × EntityType)) → FreeIn {I = Name} r (core_exports es none) → ⊥
-exports-closed r [] x = x
-exports-closed r (e ∷ es) (inl (inl x)) = x
-exports-closed r (e ∷ es) (inl (inr x)) = x.1
-exports-closed r (e ∷ es) (inr x) = exports-closed r es x
+-- nothing is free in core items, and they are sound
+exports-closed : (P : Name → Type 0) (es : List (Text × EntityType)) → WithinParts P (core_exports es none)
+exports-closed P [] r x = absurd x
+exports-closed P (e ∷ es) r (inl (inl x)) = absurd x
+exports-closed P (e ∷ es) r (inl (inr x)) = absurd x.1
+exports-closed P (e ∷ es) r (inr x) = exports-closed P es r x
 
-imports-closed : (r : Name) (is : List ((Text × Text) × EntityType)) (es : List (Text × EntityType)) → FreeIn {I = Name} r (core_imports is (core_exports es none)) → ⊥
-imports-closed r [] es x = exports-closed r es x
-imports-closed r (i ∷ is) es (inl (inl x)) = x
-imports-closed r (i ∷ is) es (inl (inr x)) = x.1
-imports-closed r (i ∷ is) es (inr x) = imports-closed r is es x
+imports-closed : (P : Name → Type 0) (is : List ((Text × Text) × EntityType)) (es : List (Text × EntityType)) → WithinParts P (core_imports is (core_exports es none))
+imports-closed P [] es r x = exports-closed P es r x
+imports-closed P (i ∷ is) es r (inl (inl x)) = absurd x
+imports-closed P (i ∷ is) es r (inl (inr x)) = absurd x.1
+imports-closed P (i ∷ is) es r (inr x) = imports-closed P is es r x
 
-module-closed : (P : Name → Type 0) (i : Name) (m : Module_type) → Within P (module_tree i m)
-module-closed P i m r (inl x) = absurd x
-module-closed P i m r (inr x) = absurd (imports-closed r m.imports m.exports x.1)
+exports-sound : (es : List (Text × EntityType)) → AreSound (core_exports es none)
+exports-sound [] = tt
+exports-sound (e ∷ es) = (((tt, tt), tt), exports-sound es)
 
-sub-closed : (P : Name → Type 0) (i : ℕ) → Within P (sub_type i)
-sub-closed P i r (inl x) = absurd x
-sub-closed P i r (inr x) = absurd x.1
+imports-sound : (is : List ((Text × Text) × EntityType)) (es : List (Text × EntityType)) → AreSound (core_imports is (core_exports es none))
+imports-sound [] es = exports-sound es
+imports-sound (i ∷ is) es = (((tt, tt), tt), imports-sound is es)
 
-pub item-closed : (P : Name → Type 0) (e : EntityType) → Within P (node (core_item e) none)
-item-closed P e r (inl x) = absurd x
-item-closed P e r (inr x) = absurd x.1
+module _ (P : Name → Type 0) where
+  leaf-fine : (h : Head Name Name) → ((r : Name) → RefersTo r h → ⊥) → IsSoundNode h none → Fine P (node h none)
+  leaf-fine h n w = (node-within P h none n (λ r x. absurd x), (w, tt))
 
--- so in a core instance that lists core items; in one of a core module, what is free in that
-listed-closed : (P : Name → Type 0) (i : Name) (n : ℕ) (es : List (Text × EntityType)) → Within P (of_items i n es)
-listed-closed P i n es r (inl x) = absurd x
-listed-closed P i n es r (inr x) = absurd (exports-closed r es x.1)
+  pub item-fine : (e : EntityType) → Fine P (node (core_item e) none)
+  item-fine e = leaf-fine (core_item e) (λ r x. x) (tt, tt)
 
-of_module-within : (P : Name → Type 0) (i : Name) (t : Type_tree) → Within P t → Within P (of_module i t)
-of_module-within P i t w r (inl x) = absurd x
-of_module-within P i t w r (inr (o, inl x)) = w r x
-of_module-within P i t w r (inr (o, inr x)) = absurd x
+  sub-fine : (i : ℕ) → Fine P (sub_type i)
+  sub-fine i = leaf-fine (core_type i) (λ r x. x) (tt, tt)
+
+  made-fine : (i : Name) (m : Module_type) → Fine P (module_tree i m)
+  made-fine i m =
+      (node-within P (core_module i (capped m.size)) (core_imports m.imports (core_exports m.exports none)) (λ r x. x) (imports-closed P m.imports m.exports), ((tt, tt), imports-sound m.imports m.exports))
+
+  -- so in a core instance that lists core items; in one of a core module, what is free in that
+  listed-fine : (i : Name) (n : ℕ) (es : List (Text × EntityType)) → Fine P (of_items i n es)
+  listed-fine i n es = (node-within P (core_instance i (capped n)) (core_exports es none) (λ r x. x) (exports-closed P es), ((tt, tt), exports-sound es))
+
+  of_module-fine : (i : Name) (t : Type_tree) → Fine P t → Fine P (of_module i t)
+  of_module-fine i t w = (node-within P (core_instance i (capped (suc (size t)))) (part here t none) (λ r x. x) one, ((tt, tt), (w.1, tt)))
+    where
+      one : WithinParts P (part here t none)
+      one r (inl x) = w.0 r x
+      one r (inr x) = absurd x
 
 pub if-some : {A : Type 0} (b : Bool) (o : Option A) (x : A) → cond b o None ≡ Some x → o ≡ Some x
 if-some true o x e = e
@@ -71,7 +85,7 @@ if-some false o x e = cc
 
 types-bring : (P : Name → Type 0) (is : List ℕ) → AllBring (Fine P) Any (types_join tree_reader is)
 types-bring P [] = All-nil (Brings (Fine P) Any)
-types-bring P (i ∷ is) = brings_more (Fine P) Any (core_appends core_types (sub_type i)) (types_join tree_reader is) (sub-closed P i, tt) (types-bring P is)
+types-bring P (i ∷ is) = brings_more (Fine P) Any (core_appends core_types (sub_type i)) (types_join tree_reader is) (sub-fine P i) (types-bring P is)
 
 -- core types change no list
 types-same : (is : List ℕ) (s : Tree_stack) → SameLists s.top (apply (types_join tree_reader is) s).top
@@ -80,7 +94,7 @@ types-same (i ∷ is) s =
     let h = types-same is (change (core_appends core_types (sub_type i)) s) in
     record { imported = h.imported; defined = h.defined; imports = h.imports; exports = h.exports }
 
-module _ (p : Place) (s : Tree_stack) (h : Ready p s.top) where
+module _ (p : Place) (s : Tree_stack) (h : Ready p s) where
   closed-does : (g : Group) → Does exporting p s (closed_step tree_reader s.groups g)
   closed-does g =
       let x : Step tree_reader = closed_step tree_reader s.groups g in
@@ -97,7 +111,7 @@ module _ (p : Place) (s : Tree_stack) (h : Ready p s.top) where
       joins m =
           let y : Step tree_reader = module_joins (tree_maker names_by_place p) k m in
           same-does p s h y
-          (brings_more (Fine (After y s)) Any (interns m.0) (core_appends k (module_tree (base p) m.1) ∷ []) tt (brings_one (Fine (After y s)) Any (core_appends k (module_tree (base p) m.1)) (module-closed (After y s) (base p) m.1, tt)))
+          (brings_more (Fine (After y s)) Any (interns m.0) (core_appends k (module_tree (base p) m.1) ∷ []) tt (brings_one (Fine (After y s)) Any (core_appends k (module_tree (base p) m.1)) (made-fine (After y s) (base p) m.1)))
           (record { imported = refl; defined = refl; imports = refl; exports = refl })
 
   pub core_type-does : (fs : WasmFeatures) (t : Core_type_form) (x : Step tree_reader) → core_type_step fs (tree_maker names_by_place p) s t ≡ Some x → Does exporting p s x
@@ -125,15 +139,15 @@ module _ (p : Place) (s : Tree_stack) (h : Ready p s.top) where
       let o = if-some (list_all (λ (a : InstantiationArg). not (is_none (core_instance_at s.top a.index))) args) (option_map core_instance_node (core_module_at s.top i)) m.0 m.1 in
       let t = mapped-some core_instance_node (core_module_at s.top i) m.0 o in
       let y : Step tree_reader = joins_as (core_instance_node t.0) in
-      let w : Within (After y s) t.0 = λ r f. in-apply y s r ((all-get (Fine (In s.top)) (s.top.core core_modules) i t.0 (h.fine.core core_modules) t.1).0 r f) in
-      subst (Does exporting p s) m.2 (subst (λ (n : New_node tree_reader). Does exporting p s (joins_as n)) t.2 (node-does (core_instance_node t.0) (of_module-within (After y s) (base p) t.0 w, tt)))
+      let w : Fine (After y s) t.0 = later-fine y s t.0 (all-get (Fine (Listed s)) (s.top.core core_modules) i t.0 ((h.fine zero s.top refl).core core_modules) t.1) in
+      subst (Does exporting p s) m.2 (subst (λ (n : New_node tree_reader). Does exporting p s (joins_as n)) t.2 (node-does (core_instance_node t.0) (of_module-fine (After y s) (base p) t.0 w)))
   core_instance-does (core_bag es) x e =
       let m = mapped-some joins_as (core_instance_made s (core_bag es)) x e in
       let k : ℕ = listed_size s.groups (items_listed s.top es) in
       let n : New_node tree_reader = core_exports_node k (items_listed s.top es) in
       let o = if-some (list_all (λ (e : Export). not (is_none (item_listed s.top e))) es) (Some n) m.0 m.1 in
       subst (Does exporting p s) m.2
-      (subst (λ (n : New_node tree_reader). Does exporting p s (joins_as n)) (some-inj o) (node-does n (listed-closed (After (joins_as n) s) (base p) k (items_listed s.top es), tt)))
+      (subst (λ (n : New_node tree_reader). Does exporting p s (joins_as n)) (some-inj o) (node-does n (listed-fine (After (joins_as n) s) (base p) k (items_listed s.top es))))
 
   -- ## Aliases
 
@@ -142,4 +156,4 @@ module _ (p : Place) (s : Tree_stack) (h : Ready p s.top) where
       let m = mapped-some (item_joins tree_reader k) (option_and_then (if_of k) (option_and_then (core_export_of tree_reader n) (core_instance_at s.top i))) x e in
       let y : Step tree_reader = item_joins tree_reader k m.0 in
       subst (Does exporting p s) m.2
-      (same-does p s h y (brings_one (Fine (After y s)) Any (core_appends (space_of k) (tree_reader.core_item m.0)) (item-closed (After y s) m.0, tt)) (record { imported = refl; defined = refl; imports = refl; exports = refl }))
+      (same-does p s h y (brings_one (Fine (After y s)) Any (core_appends (space_of k) (tree_reader.core_item m.0)) (item-fine (After y s) m.0)) (record { imported = refl; defined = refl; imports = refl; exports = refl }))

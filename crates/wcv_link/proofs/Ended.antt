@@ -18,8 +18,8 @@ use Rattle.wcv_lower.specs.Renamed.{Renaming, renaming}
 use Rattle.wcv_lower.specs.Trees.{Type_tree, Entries, Tree_context, Tree_stack, tree_reader, node_tree}
 use Rattle.wcv_lower.proofs.EndingLaws.{any_free-mapped}
 use Rattle.wcv_lower.proofs.Renamed.{renaming_commutes}
-use Rattle.wcv_link.proofs.AsFar.{root_as_far}
-use Rattle.wcv_link.proofs.Closed.{free-listed, all-exports}
+use Rattle.wcv_link.proofs.AsFar.{root_as_far, listed-root}
+use Rattle.wcv_link.proofs.Closed.{free-listed, all-exports, exports-behind}
 use Rattle.wcv_link.proofs.Going.{as_far_as_end}
 use Rattle.wcv_link.proofs.Growing.{Leads}
 use Rattle.wcv_link.proofs.Having.{Has, has-contains, contains-has, has-renamed, Once, once-both, once-renamed_back, distinct}
@@ -39,11 +39,11 @@ pub record Listing (c : Tree_context) : Type 0 where
   pub imported_once : Once c.imported
   pub defined_once : Once c.defined
 
-pub listing : (w : Place) (k : ℕ) (c : Tree_context) → Settles w k c → Listing c
-listing w k c h = record {
-  in_imports = free-listed c h.fine importing;
-  in_exports = free-listed c h.fine exporting;
-  apart = h.apart;
+pub listing : (w : Place) (k : ℕ) (s : Tree_stack) → Settles w k s → s.outer ≡ [] → Listing s.top
+listing w k s h alone = record {
+  in_imports = λ r e. listed-root s alone r (free-listed s h.fine importing r e);
+  in_exports = λ r e. listed-root s alone r (free-listed s h.fine exporting r e);
+  apart = h.none_twice;
   imported_once = h.imported_once;
   defined_once = h.defined_once;
 }
@@ -78,10 +78,6 @@ imports-before (e ∷ es) rest = ap (λ (xs : Entries). e ∷ xs) (imports-befor
 no-imports : (es : Entries) → imports_in (entries export es none) ≡ []
 no-imports [] = refl
 no-imports (e ∷ es) = no-imports es
-
-exports-behind : (es : Entries) (rest : Parts Name Name) → exports_in (entries import es rest) ≡ exports_in rest
-exports-behind [] rest = refl
-exports-behind (e ∷ es) rest = exports-behind es rest
 
 -- what is listed at paths that lead
 is-listed : (r : Name) (rs : List (Name × List ℕ)) (es : Entries) → All (λ p. PathLeadsTo p.1 p.0 es) rs → Has rs r → IsListed r rs es
@@ -138,4 +134,4 @@ pub valid_lists : (fs : WasmFeatures) (is : Items) (s : Tree_stack) (i : Name) (
 valid_lists fs is s i t v e =
     let n = as_far_as_end fs names_by_place [] 0 start is s v.0 in
     let r = root_as_far fs is n.0 s no_items n.1 in
-    lists i s.top (listing [] n.0 s.top r.0) r.0.leads t e
+    lists i s.top (listing [] n.0 s r.settles r.alone) r.settles.leads t e

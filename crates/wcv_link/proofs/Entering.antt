@@ -1,5 +1,5 @@
 -- What an import or an export does to a context: it lists the resources that the entry brings, each with a path that leads to it.
-use Rattle.std.proofs.Common.{◌≡◌, ℕ, zero, suc, List, [], ◌∷◌, ◌++◌, length, true, false, refl, sym, ap, subst, inl, inr, Some, None, ◌⊎◌}
+use Rattle.std.proofs.Common.{◌≡◌, ℕ, zero, suc, List, [], ◌∷◌, ◌++◌, length, true, false, refl, sym, ◌∙◌, ap, subst, inl, inr, Some, None, ◌⊎◌}
 use Rattle.std.specs.Prelude.{All, slice_get, Option}
 use Rattle.std.specs.Option.{option_map}
 use Rattle.std.proofs.lemmas.Bool.{false≢true}
@@ -23,23 +23,24 @@ use Rattle.wcv_lower.specs.Context.{Space, in_types, in_funcs, in_values, in_ins
 use Rattle.wcv_lower.specs.Entries.{module_type_at, again_brought, new_resource, written, items_of, exported_at, exported_as, exported_by}
 use Rattle.wcv_lower.specs.Names.{names_by_place}
 use Rattle.wcv_lower.specs.NewTypes.{new_reference, path_or_none}
-use Rattle.wcv_lower.specs.Owned.{OwnsNot, IsLed}
+use Rattle.wcv_lower.specs.Owned.{OwnsNot, OwnsApart, OwnApart, AllEntries, IsLed}
 use Rattle.wcv_lower.specs.Step.{lists, introduces, creates, change, apply, joins, enters, Brought, bare}
 use Rattle.wcv_lower.specs.Trees.{Type_tree, Entries, type_entry, referenced, Tree_context, Tree_stack, tree_reader, tree_maker}
 use Rattle.wcv_lower.specs.Values.{type_at, type_of_sort}
 use Rattle.wcv_lower.proofs.Bringing.{of_some, type_has}
-use Rattle.wcv_lower.proofs.Owning.{owns_not_inherited}
+use Rattle.wcv_lower.proofs.Owning.{apart_outside, owns_not_inherited, own_apart_inherited}
+use Rattle.wcv_link.proofs.Bare.{OwnsNothing, IsBare, AreBare, bare-instance}
 use Rattle.wcv_link.proofs.Growing.{Leads, Ready, AreNew, Adds, Does, SameLists, same-leads, same-led, nothing-new}
 use Rattle.wcv_link.proofs.Having.{Has, has-right, has-beside, has-beside_back, once-beside}
-use Rattle.wcv_link.proofs.Known.{mapped-some, then-some, all-get, Fine, created-fine, In, Any, After, enters-bring, in-apply}
-use Rattle.wcv_link.proofs.Looking.{FineType, sorted-here, again-fine, reference-fine, type-fine, sorted-fine, sorted-sort, plain-fine, module-fine}
+use Rattle.wcv_link.proofs.Known.{mapped-some, then-some, all-get, Fine, created-fine, Listed, Any, After, enters-bring, listed-apply, later-fine}
+use Rattle.wcv_link.proofs.Looking.{sorted-here, again-fine, reference-fine, type-fine, sorted-fine, sorted-sort, module-fine}
 use Rattle.wcv_link.proofs.OpenedInstances.{free-opened, brought-placed, opened-once, opened-leads}
-use Rattle.wcv_link.proofs.Placed.{PlacedAt}
+use Rattle.wcv_link.proofs.Placed.{PlacedAt, placed_here}
 use Rattle.wcv_link.proofs.Sound.{instance-sound}
 
 -- ## One more entry
 
-joins-same : (o : Sort) (t : Type_tree) (s : Tree_stack) → SameLists s.top (apply (joins tree_reader o t) s).top
+pub joins-same : (o : Sort) (t : Type_tree) (s : Tree_stack) → SameLists s.top (apply (joins tree_reader o t) s).top
 joins-same is_func t s = record { imported = refl; defined = refl; imports = refl; exports = refl }
 joins-same o t s = record { imported = refl; defined = refl; imports = refl; exports = refl }
 
@@ -81,7 +82,10 @@ some-paths es k (r ∷ rs) w =
 
 -- ## An entry with the resources that it brings
 
-module _ (p : Place) (s : Tree_stack) (h : Ready p s.top) where
+module _ (p : Place) (s : Tree_stack) (h : Ready p s) where
+  abbrev top-fine : AllEntries (Fine (Listed s)) s.top
+  top-fine = h.fine zero s.top refl
+
   entered-leads : (d : Side) (n : Extern_name) (b : Brought tree_reader) → NewLead d n b s.top → Leads (entered d n b s).top
   entered-leads importing n b new =
       All-append (λ p. PathLeadsTo p.1 p.0 (with_entry importing n b.entity s.top)) s.top.imported (placed (length (s.top.side importing)) b.resources)
@@ -118,10 +122,10 @@ module _ (p : Place) (s : Tree_stack) (h : Ready p s.top) where
   brought-in : (d : Side) (n : Extern_name) (b : Brought tree_reader) (r : Name) → Has b.resources r → After (enters d n b) s r
   brought-in importing n b r w =
       let same = enters-same importing n b s in
-      inl (subst (λ (rs : List (Name × List ℕ)). Has rs r) (sym same.imported) (has-right s.top.imported (placed (length (s.top.side importing)) b.resources) r (has-beside (λ x. length (s.top.side importing) ∷ x) b.resources r w)))
+      inl (inl (subst (λ (rs : List (Name × List ℕ)). Has rs r) (sym same.imported) (has-right s.top.imported (placed (length (s.top.side importing)) b.resources) r (has-beside (λ x. length (s.top.side importing) ∷ x) b.resources r w))))
   brought-in exporting n b r w =
       let same = enters-same exporting n b s in
-      inr (subst (λ rs. Has rs r) (sym same.defined) (has-right s.top.defined (unknown b.resources) r (has-beside (λ x. None) b.resources r w)))
+      inl (inr (subst (λ rs. Has rs r) (sym same.defined) (has-right s.top.defined (unknown b.resources) r (has-beside (λ x. None) b.resources r w))))
 
   brought-does : (d : Side) (n : Extern_name) (b : Brought tree_reader) → Fine (After (enters d n b) s) b.entity → AreNew p b.resources → NewLead d n b s.top → Does d p s (enters d n b)
   brought-does d n b w new leads = record {
@@ -132,8 +136,8 @@ module _ (p : Place) (s : Tree_stack) (h : Ready p s.top) where
   }
 
   -- one that introduces no resource
-  bare-does : (d : Side) (n : Extern_name) (t : Type_tree) → Fine (In s.top) t → Does d p s (enters d n (bare tree_reader t))
-  bare-does d n t w = brought-does d n (bare tree_reader t) ((λ r f. in-apply (enters d n (bare tree_reader t)) s r (w.0 r f)), w.1) (nothing-new p) (All-nil _)
+  bare-does : (d : Side) (n : Extern_name) (t : Type_tree) → Fine (Listed s) t → Does d p s (enters d n (bare tree_reader t))
+  bare-does d n t w = brought-does d n (bare tree_reader t) (later-fine (enters d n (bare tree_reader t)) s t w) (nothing-new p) (All-nil _)
 
   -- a resource that is new
   new_resource-does : (d : Side) (n : Extern_name) → Does d p s (enters d n (new_resource (tree_maker names_by_place p)))
@@ -155,11 +159,11 @@ module _ (p : Place) (s : Tree_stack) (h : Ready p s.top) where
   abbrev instance_of : Type_tree → Brought tree_reader
   instance_of t = (tree_maker names_by_place p).instance_of t
 
-  instance-does : (d : Side) (n : Extern_name) (t : Type_tree) → same_sort is_instance (sort t) ≡ true → FineType (In s.top) t → ((r : Name) → PlacedAt p r → OwnsNot r t) → Does d p s (enters d n (instance_of t))
-  instance-does d n (node (instance i own) ps) e w spares =
-      brought-does d n b (inside, instance-sound names_by_place p (node (instance i own) ps) e) (record { placed = brought-placed p i own ps; once = opened-once p i own ps w.1.0 })
+  instance-does : (d : Side) (n : Extern_name) (t : Type_tree) → same_sort is_instance (sort t) ≡ true → Fine (Listed s) t → OwnsApart t → ((r : Name) → PlacedAt p r → OwnsNot r t) → Does d p s (enters d n (instance_of t))
+  instance-does d n (node (instance i own) ps) e w apart spares =
+      brought-does d n b (inside, instance-sound names_by_place p (node (instance i own) ps) apart w.1) (record { placed = brought-placed p i own ps; once = opened-once p i own ps w.1.0.0 })
       (subst (All (λ q. PathLeadsTo q.1 q.0 (with_entry d n b.entity s.top))) (sym (map-map (λ (r : Name × List ℕ). (r.0, length (s.top.side d) ∷ r.1)) (λ r. (at p r, path_or_none (first_path r (exports_in ps)))) own))
-      (opened-leads p i own ps n (with_entry d n b.entity s.top) (length (s.top.side d)) (get-last (s.top.side d) (n, b.entity)) (λ r. (spares (at p r) (inr (r, refl))).1) w.1.1))
+      (opened-leads p i own ps n (with_entry d n b.entity s.top) (length (s.top.side d)) (get-last (s.top.side d) (n, b.entity)) (λ r. (spares (at p r) (inr (r, refl))).1) w.1.0.1))
     where
       b : Brought tree_reader
       b = instance_of (node (instance i own) ps)
@@ -168,9 +172,9 @@ module _ (p : Place) (s : Tree_stack) (h : Ready p s.top) where
       inside r f = go (free-opened p i own ps r f)
         where
           go : Free r (node (instance i own) ps) ⊎ Has b.resources r → After (enters d n b) s r
-          go (inl x) = in-apply (enters d n b) s r (w.0 r x)
+          go (inl x) = listed-apply (enters d n b) s r (w.0 r x)
           go (inr x) = brought-in d n b r x
-  instance-does d n (node g ps) e w spares = absurd (false≢true e)
+  instance-does d n (node g ps) e w apart spares = absurd (false≢true e)
 
   -- ## Written types
 
@@ -178,27 +182,30 @@ module _ (p : Place) (s : Tree_stack) (h : Ready p s.top) where
   abbrev Enters : Side → Extern_name → Brought tree_reader → Type 0
   Enters d n b = Does d p s (enters d n b)
 
-  -- what is given here, the type at an index does not own
+  -- what is given here, the type at an index does not own; it owns apart
   spared : (k : ℕ) (t : Type_tree) → type_of_sort is_instance s.top k ≡ Some t → (r : Name) → PlacedAt p r → OwnsNot r t
-  spared k t e r w = of_some (OwnsNot r) (type_at s.top k) t (type_has (owns_not_inherited r) Any s.top (h.fresh r w) k) (sorted-here is_instance (type_at s.top k) t e).0
+  spared k t e r w = of_some (OwnsNot r) (type_at s.top k) t (type_has (owns_not_inherited r) Any s.top (h.fresh r (placed_here p r w) zero s.top refl) k) (sorted-here is_instance (type_at s.top k) t e).0
+
+  owns-apart : (k : ℕ) (t : Type_tree) → type_of_sort is_instance s.top k ≡ Some t → OwnsApart t
+  owns-apart k t e = apart_outside t (of_some OwnApart (type_at s.top k) t (type_has own_apart_inherited Any s.top (h.apart zero s.top refl) k) (sorted-here is_instance (type_at s.top k) t e).0)
 
   pub written-does : (d : Side) (n : Extern_name) (x : ComponentTypeRef) (b : Brought tree_reader) → is_built_ref x ≡ true → written (tree_maker names_by_place p) s.top x ≡ Some b → Does d p s (enters d n b)
   written-does d n (ref.Func k) b i e =
       let m = mapped-some (bare tree_reader) (type_of_sort is_func s.top k) b e in
-      subst (Enters d n) m.2 (bare-does d n m.0 (plain-fine (In s.top) s.top h.fine is_func k m.0 refl m.1))
+      subst (Enters d n) m.2 (bare-does d n m.0 (sorted-fine (Listed s) s.top top-fine is_func k m.0 m.1))
   written-does d n (ref.Component k) b i e =
       let m = mapped-some (bare tree_reader) (type_of_sort is_component s.top k) b e in
-      subst (Enters d n) m.2 (bare-does d n m.0 (plain-fine (In s.top) s.top h.fine is_component k m.0 refl m.1))
+      subst (Enters d n) m.2 (bare-does d n m.0 (sorted-fine (Listed s) s.top top-fine is_component k m.0 m.1))
   written-does d n (ref.Instance k) b i e =
       let m = mapped-some instance_of (type_of_sort is_instance s.top k) b e in
-      subst (Enters d n) m.2 (instance-does d n m.0 (sorted-sort (In s.top) s.top h.fine is_instance k m.0 m.1) (sorted-fine (In s.top) s.top h.fine is_instance k m.0 m.1) (spared k m.0 m.1))
+      subst (Enters d n) m.2 (instance-does d n m.0 (sorted-sort (Listed s) s.top top-fine is_instance k m.0 m.1) (sorted-fine (Listed s) s.top top-fine is_instance k m.0 m.1) (owns-apart k m.0 m.1) (spared k m.0 m.1))
   written-does d n (ref.Ty (bounds.Eq k)) b i e =
       let m = mapped-some (again_brought (tree_maker names_by_place p)) (type_at s.top k) b e in
-      subst (Enters d n) m.2 (bare-does d n (again_brought (tree_maker names_by_place p) m.0).entity (again-fine (In s.top) names_by_place p m.0 (type-fine (In s.top) s.top h.fine k m.0 m.1)))
+      subst (Enters d n) m.2 (bare-does d n (again_brought (tree_maker names_by_place p) m.0).entity (again-fine (Listed s) names_by_place p m.0 (type-fine (Listed s) s.top top-fine k m.0 m.1)))
   written-does d n (ref.Ty bounds.SubResource) b i e = subst (Enters d n) (some-inj e) (new_resource-does d n)
   written-does d n (ref.Module k) b i e =
       let m = mapped-some (bare tree_reader) (module_type_at s.top k) b e in
-      subst (Enters d n) m.2 (bare-does d n m.0 (module-fine (In s.top) s.top h.fine k m.0 m.1))
+      subst (Enters d n) m.2 (bare-does d n m.0 (module-fine (Listed s) s.top top-fine k m.0 m.1))
   written-does d n (ref.Value v) b i e = absurd (false≢true i)
 
   -- ## Exported items
@@ -207,24 +214,31 @@ module _ (p : Place) (s : Tree_stack) (h : Ready p s.top) where
   item-does : (n : Extern_name) (k : Space) (i : ℕ) (b : Brought tree_reader) → option_map (bare tree_reader) (slice_get (s.top.space k) i) ≡ Some b → Enters exporting n b
   item-does n k i b e =
       let m = mapped-some (bare tree_reader) (slice_get (s.top.space k) i) b e in
-      subst (Enters exporting n) m.2 (bare-does exporting n m.0 (all-get (Fine (In s.top)) (s.top.space k) i m.0 (h.fine.space k) m.1))
+      subst (Enters exporting n) m.2 (bare-does exporting n m.0 (all-get (Fine (Listed s)) (s.top.space k) i m.0 (top-fine.space k) m.1))
 
-  export-does : (n : Extern_name) (x : ComponentExternalKind) (i : ℕ) (b : Brought tree_reader) → option_map (exported_as (tree_maker names_by_place p) x) (slice_get (items_of s.top x) i) ≡ Some b → Does exporting p s (enters exporting n b)
-  export-does n kind.Ty i b e =
+  -- an instance owns nothing, and so it is the instance that is made of it
+  exported_instance-does : AreBare s.top → (n : Extern_name) (i : ℕ) (b : Brought tree_reader) → option_map (tree_maker names_by_place p).instance_of (slice_get (s.top.space in_instances) i) ≡ Some b → Enters exporting n b
+  exported_instance-does alone n i b e =
+      let m = mapped-some (tree_maker names_by_place p).instance_of (slice_get (s.top.space in_instances) i) b e in
+      let own : OwnsNothing m.0 = (all-get IsBare (s.top.space in_instances) i m.0 (alone.space in_instances) m.1).0 in
+      subst (Enters exporting n) (sym (bare-instance names_by_place p m.0 own) ∙ m.2) (bare-does exporting n m.0 (all-get (Fine (Listed s)) (s.top.space in_instances) i m.0 (top-fine.space in_instances) m.1))
+
+  export-does : AreBare s.top → (n : Extern_name) (x : ComponentExternalKind) (i : ℕ) (b : Brought tree_reader) → option_map (exported_as (tree_maker names_by_place p) x) (slice_get (items_of s.top x) i) ≡ Some b → Does exporting p s (enters exporting n b)
+  export-does alone n kind.Ty i b e =
       let m = mapped-some (exported_as (tree_maker names_by_place p) kind.Ty) (slice_get (s.top.space in_types) i) b e in
       subst (Enters exporting n) m.2
-      (bare-does exporting n (again_brought (tree_maker names_by_place p) (referenced m.0)).entity (again-fine (In s.top) names_by_place p (referenced m.0) (type-fine (In s.top) s.top h.fine i (referenced m.0) (ap (option_map referenced) m.1))))
-  export-does n kind.Func i b e = item-does n in_funcs i b e
-  export-does n kind.Value i b e = item-does n in_values i b e
-  export-does n kind.Instance i b e = item-does n in_instances i b e
-  export-does n kind.Component i b e = item-does n in_components i b e
-  export-does n kind.Module i b e =
+      (bare-does exporting n (again_brought (tree_maker names_by_place p) (referenced m.0)).entity (again-fine (Listed s) names_by_place p (referenced m.0) (type-fine (Listed s) s.top top-fine i (referenced m.0) (ap (option_map referenced) m.1))))
+  export-does alone n kind.Func i b e = item-does n in_funcs i b e
+  export-does alone n kind.Value i b e = item-does n in_values i b e
+  export-does alone n kind.Instance i b e = exported_instance-does alone n i b e
+  export-does alone n kind.Component i b e = item-does n in_components i b e
+  export-does alone n kind.Module i b e =
       let m = mapped-some (bare tree_reader) (slice_get (s.top.core core_modules) i) b e in
-      subst (Enters exporting n) m.2 (bare-does exporting n m.0 (all-get (Fine (In s.top)) (s.top.core core_modules) i m.0 (h.fine.core core_modules) m.1))
+      subst (Enters exporting n) m.2 (bare-does exporting n m.0 (all-get (Fine (Listed s)) (s.top.core core_modules) i m.0 (top-fine.core core_modules) m.1))
 
   -- an item, with what is written beside it
-  pub exported-does : (n : Extern_name) (e : ComponentExport) (o : Option ComponentTypeRef) (b : Brought tree_reader) → is_built_written o ≡ true → exported_by (tree_maker names_by_place p) s.top e o ≡ Some b → Does exporting p s (enters exporting n b)
-  exported-does n e None b w q = export-does n e.kind e.index b q
-  exported-does n e (Some r) b w q =
+  pub exported-does : AreBare s.top → (n : Extern_name) (e : ComponentExport) (o : Option ComponentTypeRef) (b : Brought tree_reader) → is_built_written o ≡ true → exported_by (tree_maker names_by_place p) s.top e o ≡ Some b → Does exporting p s (enters exporting n b)
+  exported-does alone n e None b w q = export-does alone n e.kind e.index b q
+  exported-does alone n e (Some r) b w q =
       let m = then-some (λ (x : Type_tree). written (tree_maker names_by_place p) s.top r) (exported_at s.top e) b q in
       written-does exporting n r b w m.2

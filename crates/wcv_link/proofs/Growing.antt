@@ -1,39 +1,53 @@
 -- What an item does to a context: it lists new resources that are given at its place, and brings sound entries in which each free
 -- resource is listed.
-use Rattle.std.proofs.Common.{◌≡◌, List, [], ◌∷◌, ◌++◌, Bool, true, false, refl, sym, ◌∙◌, subst, append-nil, inl, inr}
-use Rattle.std.specs.Prelude.{All, ℕ, Option, Some, None, cond}
+use Rattle.std.proofs.Common.{◌≡◌, ℕ, zero, List, [], ◌∷◌, ◌++◌, Bool, true, false, refl, sym, ◌∙◌, subst, append-nil, ◌⊎◌, inl, inr}
+use Rattle.std.specs.Prelude.{All, Option, Some, None, cond}
 use Rattle.std.proofs.lemmas.Bool.{false≢true}
 use Rattle.wcv_core.specs.Names.{Name, Place, base}
 use Rattle.wcv_core.specs.declared.core_types.ValType.{ValType}
 use Rattle.wcv_syntax.specs.Model.{Type_form, defined_type, func_type, component_type, instance_type, resource_type}
 use Rattle.wcv_types.specs.Led.{HasPath}
 use Rattle.wcv_types.specs.Paths.{PathLeadsTo}
+use Rattle.wcv_types.specs.Tree.{is_instance, sort}
 use Rattle.wcv_types.proofs.Lists.{some-inj}
-use Rattle.wcv_lower.specs.Context.{in_types, Side, importing, exporting, is_concrete}
+use Rattle.wcv_lower.specs.Context.{in_types, in_instances, Side, importing, exporting, is_concrete}
+use Rattle.wcv_lower.specs.Even.{IsBalanced}
 use Rattle.wcv_lower.specs.Names.{names_by_place}
 use Rattle.wcv_lower.specs.NewTypes.{new_reference}
-use Rattle.wcv_lower.specs.Owned.{OwnsNot, AllEntries, IsLed}
+use Rattle.wcv_lower.specs.Owned.{OwnsNot, OwnApart, Everywhere, AreBalanced, IsLed}
 use Rattle.wcv_lower.specs.Readers.{New_node}
 use Rattle.wcv_lower.specs.Step.{appends, defines, Step, apply, joins_types}
 use Rattle.wcv_lower.specs.Trees.{Tree_context, Tree_stack, Entries, tree_reader, type_entry, node_tree, tree_maker}
 use Rattle.wcv_lower.specs.Types.{type_made, added, type_step}
+use Rattle.wcv_lower.proofs.Applied.{applied_has}
 use Rattle.wcv_lower.proofs.Bringing.{AllBring, brings_one, brings_more}
-use Rattle.wcv_link.proofs.Having.{Has, Once, has-right}
-use Rattle.wcv_link.proofs.Known.{mapped-some, Fine, In, IsFine, Any, After, apply-has, grown-fine, apply-kind}
-use Rattle.wcv_link.proofs.Looking.{FineType, entry-fine, reference-fine, node-fine}
-use Rattle.wcv_link.proofs.Placed.{PlacedAt, PlacedUnder}
+use Rattle.wcv_link.proofs.Charged.{AllCharged, all_back, apply-charges, among-listed}
+use Rattle.wcv_link.proofs.Having.{Has, Once, has-right, has-both}
+use Rattle.wcv_link.proofs.Known.{mapped-some, Fine, Listed, IsFine, Any, After, grown-fine, apply-kind}
+use Rattle.wcv_link.proofs.Looking.{entry-fine, reference-fine, node-fine}
+use Rattle.wcv_link.proofs.Placed.{PlacedAt, PlacedUnder, placed_here}
 
 -- the paths of the imported resources lead to them
 abbrev pub Leads : Tree_context → Type 0
 Leads c = All (λ p. PathLeadsTo p.1 p.0 (c.side importing)) c.imported
 
--- what holds of a context where an item stands at place p
-pub record Ready (p : Place) (c : Tree_context) : Type 0 where
-  pub fine : IsFine c
-  pub leads : Leads c
-  pub led : is_concrete c.kind ≡ false → IsLed c
-  -- no type in it owns what is given there
-  pub fresh : (r : Name) → PlacedAt p r → AllEntries (OwnsNot r) c
+-- each entry of the instances is an instance
+abbrev pub AreInstances : Tree_context → Type 0
+AreInstances c = All (λ t. sort t ≡ is_instance) (c.space in_instances)
+
+-- what holds of a stack where an item stands at place p
+pub record Ready (p : Place) (s : Tree_stack) : Type 0 where
+  pub fine : IsFine s
+  pub leads : Leads s.top
+  pub led : is_concrete s.top.kind ≡ false → IsLed s.top
+  pub instances : AreInstances s.top
+  -- what is given there or inside is listed nowhere, and no type owns it
+  pub unlisted : (r : Name) → PlacedUnder p r → Listed s r → ⊥
+  pub fresh : (r : Name) → PlacedUnder p r → Everywhere (OwnsNot r) s
+  -- types own apart, and none owns what is listed; owners of one resource are of one height
+  pub apart : Everywhere OwnApart s
+  pub spared : (r : Name) → Listed s r → Everywhere (OwnsNot r) s
+  pub balanced : AreBalanced s
 
 -- each is given at the place, and none twice
 pub record AreNew {X : Type 0} (p : Place) (rs : List (Name × X)) : Type 0 where
@@ -58,14 +72,19 @@ abbrev pub Adds : Side → Place → Tree_context → Tree_context → Type 0
 Adds importing p c d = Imports p c d
 Adds exporting p c d = Defines p c d
 
--- what an item at place p does to a context
-pub record Grows (e : Side) (p : Place) (c d : Tree_context) : Type 0 where
-  pub kind : d.kind ≡ c.kind
-  pub fine : IsFine d
-  pub leads : Leads d
-  pub led : is_concrete d.kind ≡ false → IsLed d
-  pub adds : Adds e p c d
-  pub late : (r : Name) → (PlacedUnder p r → ⊥) → AllEntries (OwnsNot r) c → AllEntries (OwnsNot r) d
+-- what an item at place p does to a stack
+pub record Grows (e : Side) (p : Place) (s t : Tree_stack) : Type 0 where
+  pub kind : t.top.kind ≡ s.top.kind
+  pub outer : AllCharged s.outer t.outer
+  pub fine : IsFine t
+  pub leads : Leads t.top
+  pub led : is_concrete t.top.kind ≡ false → IsLed t.top
+  pub instances : AreInstances t.top
+  pub adds : Adds e p s.top t.top
+  pub late : (r : Name) → (PlacedUnder p r → ⊥) → Everywhere (OwnsNot r) s → Everywhere (OwnsNot r) t
+  pub apart : Everywhere OwnApart t
+  pub spared : (r : Name) → Listed t r → Everywhere (OwnsNot r) t
+  pub balanced : AreBalanced t
 
 -- what a step does, beside what its entries own
 pub record Does (e : Side) (p : Place) (s : Tree_stack) (x : Step tree_reader) : Type 0 where
@@ -74,15 +93,62 @@ pub record Does (e : Side) (p : Place) (s : Tree_stack) (x : Step tree_reader) :
   pub led : is_concrete s.top.kind ≡ false → IsLed (apply x s).top
   pub adds : Adds e p s.top (apply x s).top
 
-pub does-grow : (e : Side) (p : Place) (s : Tree_stack) (x : Step tree_reader) → Ready p s.top → ((r : Name) → (PlacedUnder p r → ⊥) → AllEntries (OwnsNot r) s.top → AllBring (OwnsNot r) Any x) → Does e p s x → Grows e p s.top (apply x s).top
-does-grow e p s x h owns w = record {
-  kind = apply-kind x s;
-  fine = grown-fine x s w.brings h.fine;
-  leads = w.leads;
-  led = λ k. w.led (sym (λ j. is_concrete (apply-kind x s j)) ∙ k);
-  adds = w.adds;
-  late = λ r n all. apply-has (OwnsNot r) x s (owns r n all) all;
-}
+-- what is listed behind an item was listed, or is given there
+listed-before : (e : Side) (p : Place) (s t : Tree_stack) → AllCharged s.outer t.outer → Adds e p s.top t.top → (r : Name) → Listed t r → Listed s r ⊎ PlacedAt p r
+listed-before importing p s t c a r (inl (inl h)) = go (has-both s.top.imported a.more r (subst (λ rs. Has rs r) a.imported h))
+  where
+    go : Has s.top.imported r ⊎ Has a.more r → Listed s r ⊎ PlacedAt p r
+    go (inl x) = inl (inl (inl x))
+    go (inr x) = inr (a.new.placed r x)
+listed-before importing p s t c a r (inl (inr h)) = inl (inl (inr (subst (λ rs. Has rs r) a.defined h)))
+listed-before importing p s t c a r (inr h) = inl (inr (among-listed t.outer s.outer (all_back s.outer t.outer c) r h))
+listed-before exporting p s t c a r (inl (inl h)) = inl (inl (inl (subst (λ rs. Has rs r) a.imported h)))
+listed-before exporting p s t c a r (inl (inr h)) = go (has-both s.top.defined a.more r (subst (λ rs. Has rs r) a.defined h))
+  where
+    go : Has s.top.defined r ⊎ Has a.more r → Listed s r ⊎ PlacedAt p r
+    go (inl x) = inl (inl (inr x))
+    go (inr x) = inr (a.new.placed r x)
+listed-before exporting p s t c a r (inr h) = inl (inr (among-listed t.outer s.outer (all_back s.outer t.outer c) r h))
+
+-- ## What the entries of a step own
+
+pub record Owns (p : Place) (s : Tree_stack) (x : Step tree_reader) : Type 0 where
+  -- nothing but what is given at the place or inside it
+  pub late : (r : Name) → (PlacedUnder p r → ⊥) → Everywhere (OwnsNot r) s → AllBring (OwnsNot r) Any x
+  pub spared : (r : Name) → Listed s r ⊎ PlacedAt p r → AllBring (OwnsNot r) Any x
+  pub apart : AllBring OwnApart Any x
+  pub balanced : (v : Name → ℕ) × Everywhere (IsBalanced v) s × AllBring (IsBalanced v) Any x
+
+module _ (p : Place) (s : Tree_stack) (x : Step tree_reader) (h : Ready p s) where
+  pub unowned : (r : Name) → Listed s r ⊎ PlacedAt p r → Everywhere (OwnsNot r) s
+  unowned r (inl l) = h.spared r l
+  unowned r (inr q) = h.fresh r (placed_here p r q)
+
+  -- where they own nothing that no type owns
+  pub own-nothing : ((r : Name) → Everywhere (OwnsNot r) s → AllBring (OwnsNot r) Any x) → AllBring OwnApart Any x → ((v : Name → ℕ) → Everywhere (IsBalanced v) s → AllBring (IsBalanced v) Any x) → Owns p s x
+  own-nothing owns apart balanced = record {
+    late = λ r n all. owns r all;
+    spared = λ r l. owns r (unowned r l);
+    apart = apart;
+    balanced = (h.balanced.0, h.balanced.1, balanced h.balanced.0 h.balanced.1);
+  }
+
+  pub does-grow : (e : Side) → Owns p s x → AreInstances (apply x s).top → Does e p s x → Grows e p s (apply x s)
+  does-grow e o i w = record {
+    kind = apply-kind x s;
+    outer = apply-charges x s;
+    fine = grown-fine x s w.brings h.fine;
+    leads = w.leads;
+    led = λ k. w.led (sym (λ j. is_concrete (apply-kind x s j)) ∙ k);
+    instances = i;
+    adds = w.adds;
+    late = λ r n all. applied_has (OwnsNot r) Any x s all (o.late r n all);
+    apart = applied_has OwnApart Any x s h.apart o.apart;
+    spared = λ r l.
+        let b : Listed s r ⊎ PlacedAt p r = listed-before e p s (apply x s) (apply-charges x s) w.adds r l in
+        applied_has (OwnsNot r) Any x s (unowned r b) (o.spared r b);
+    balanced = (o.balanced.0, applied_has (IsBalanced o.balanced.0) Any x s o.balanced.1 o.balanced.2);
+  }
 
 -- ## Steps that leave the lists
 
@@ -107,7 +173,7 @@ nothing-new p = record { placed = λ r h. absurd h; once = tt }
 adds-none : (p : Place) (c d : Tree_context) → SameLists c d → Adds exporting p c d
 adds-none p c d same = record { more = []; new = nothing-new p; imported = same.imported; defined = same.defined ∙ sym (append-nil c.defined) }
 
-module _ (p : Place) (s : Tree_stack) (h : Ready p s.top) where
+module _ (p : Place) (s : Tree_stack) (h : Ready p s) where
   pub same-does : (x : Step tree_reader) → AllBring (Fine (After x s)) Any x → SameLists s.top (apply x s).top → Does exporting p s x
   same-does x w same = record {
     brings = w;
@@ -119,9 +185,9 @@ module _ (p : Place) (s : Tree_stack) (h : Ready p s.top) where
   -- ## Type items
 
   -- a node joins the types
-  pub node-does : (n : New_node tree_reader) → FineType (In s.top) (node_tree (base p) n) → Does exporting p s (added (tree_maker names_by_place p) n)
+  pub node-does : (n : New_node tree_reader) → Fine (Listed s) (node_tree (base p) n) → Does exporting p s (added (tree_maker names_by_place p) n)
   node-does n w =
-      same-does (added (tree_maker names_by_place p) n) (brings_one (Fine (In s.top)) Any (appends in_types (type_entry (node_tree (base p) n))) (entry-fine (In s.top) (node_tree (base p) n) w))
+      same-does (added (tree_maker names_by_place p) n) (brings_one (Fine (Listed s)) Any (appends in_types (type_entry (node_tree (base p) n))) (entry-fine (Listed s) (node_tree (base p) n) w))
       (record { imported = refl; defined = refl; imports = refl; exports = refl })
 
   -- a resource that is defined
@@ -132,7 +198,7 @@ module _ (p : Place) (s : Tree_stack) (h : Ready p s.top) where
   resource-does v k = record {
     brings = brings_more (Fine (After (resource_step v) s)) Any (defines (base p) (Some v)) (joins_types (type_entry (new_reference names_by_place p))) tt
         (brings_one (Fine (After (resource_step v) s)) Any (appends in_types (type_entry (new_reference names_by_place p)))
-        (reference-fine (After (resource_step v) s) p (inr (has-right s.top.defined ((base p, Some v) ∷ []) (base p) (inl refl)))));
+        (reference-fine (After (resource_step v) s) p (inl (inr (has-right s.top.defined ((base p, Some v) ∷ []) (base p) (inl refl))))));
     leads = h.leads;
     led = λ n. absurd (false≢true (sym n ∙ k));
     adds = record {
@@ -150,10 +216,10 @@ module _ (p : Place) (s : Tree_stack) (h : Ready p s.top) where
   pub type-does : (t : Type_form) (x : Step tree_reader) → type_step (tree_maker names_by_place p) s.top t ≡ Some x → Does exporting p s x
   type-does (defined_type d) x e =
       let m = mapped-some (added (tree_maker names_by_place p)) (type_made s.top (defined_type d)) x e in
-      subst (Does exporting p s) m.2 (node-does m.0 (node-fine (In s.top) s.top h.fine (base p) (defined_type d) m.0 m.1))
+      subst (Does exporting p s) m.2 (node-does m.0 (node-fine (Listed s) s.top (h.fine zero s.top refl) (base p) (defined_type d) m.0 m.1))
   type-does (func_type f) x e =
       let m = mapped-some (added (tree_maker names_by_place p)) (type_made s.top (func_type f)) x e in
-      subst (Does exporting p s) m.2 (node-does m.0 (node-fine (In s.top) s.top h.fine (base p) (func_type f) m.0 m.1))
+      subst (Does exporting p s) m.2 (node-does m.0 (node-fine (Listed s) s.top (h.fine zero s.top refl) (base p) (func_type f) m.0 m.1))
   type-does (component_type ds) x e = cc
   type-does (instance_type ds) x e = cc
   type-does (resource_type rep dtor) x e = go (is_concrete s.top.kind) refl e

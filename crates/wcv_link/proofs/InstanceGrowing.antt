@@ -1,34 +1,46 @@
 -- What an instance does to the context of a component: what is new in it is defined, and what else is free in it was listed.
-use Rattle.std.proofs.Common.{◌≡◌, ℕ, List, [], ◌∷◌, map, Bool, true, false, cond, refl, sym, ◌∙◌, subst, Some, None, ◌⊎◌, inl, inr}
+use Rattle.std.proofs.Common.{◌≡◌, ℕ, zero, List, [], ◌∷◌, map, Bool, true, false, cond, refl, sym, ◌∙◌, subst, Some, None, ◌⊎◌, inl, inr}
 use Rattle.std.specs.Prelude.{All, not}
 use Rattle.std.specs.List.{list_all}
 use Rattle.std.specs.Option.{option_and_then}
 use Rattle.std.proofs.lemmas.Bool.{false≢true}
-use Rattle.std.proofs.lemmas.List.Elements.{All-nil, All-head, All-tail}
+use Rattle.std.proofs.lemmas.List.Elements.{All-nil, All-cons, All-head, All-tail, All-weaker}
 use Rattle.wcv_core.specs.Names.{Name, Place, base, at}
 use Rattle.wcv_syntax.specs.Model.{Instance_form, instantiate, bag}
 use Rattle.wcv_syntax.specs.declared.instance.ComponentInstantiationArg.{ComponentInstantiationArg}
 use Rattle.wcv_syntax.specs.declared.name.ComponentExport.{ComponentExport}
+use Rattle.wcv_types.specs.Identity.{Identity}
+use Rattle.wcv_types.specs.Replacing.{Replacement, replaced}
 use Rattle.wcv_types.specs.Resources.{Free, FreeIn}
-use Rattle.wcv_types.specs.Tree.{Text, Extern_name, nothing, primitive, resource, defined, func, instance, component, type_entity, core_module, core_instance, core_type, core_item, export, node, none, entries, head}
+use Rattle.wcv_types.specs.Tree.{Text, Extern_name, nothing, primitive, resource, defined, func, instance, component, type_entity, core_module, core_instance, core_type, core_item, export, node, none, entries, head, exports}
 use Rattle.wcv_types.proofs.Lists.{some-inj}
+use Rattle.wcv_matching.specs.GivenTypes.{given_for}
+use Rattle.wcv_matching.specs.Matching.{named_imports}
 use Rattle.wcv_matching.specs.OnePass.{made_paths}
+use Rattle.wcv_subtype.specs.Hygiene.{Hygienic}
 use Rattle.wcv_lower.specs.Checks.{is_none}
 use Rattle.wcv_lower.specs.Context.{in_instances, in_components, exporting, is_concrete, unknown}
 use Rattle.wcv_lower.specs.Instances.{component_at, argument_at, arguments, if_opened, opened, listed_at, listed, bag_made, instance_of_component, instance_of_items, instance_made, instance_joins, instance_step}
+use Rattle.wcv_lower.specs.Instantiated.{opening}
+use Rattle.wcv_lower.specs.Mapped.{map_entries}
 use Rattle.wcv_lower.specs.Names.{names_by_place}
+use Rattle.wcv_lower.specs.Owned.{OwnsNot, OwnApart, AllEntries}
 use Rattle.wcv_lower.specs.Readers.{New_node, instance_node}
 use Rattle.wcv_lower.specs.Step.{introduces, appends, Step, Brought, bare}
 use Rattle.wcv_lower.specs.Trees.{Type_tree, Entries, Tree_stack, tree_reader, node_tree, tree_maker}
 use Rattle.wcv_lower.proofs.Bringing.{brings_one, brings_more}
 use Rattle.wcv_lower.proofs.Instantiating.{arguments_have, listed_have}
+use Rattle.wcv_lower.proofs.Owning.{apart_outside}
 use Rattle.wcv_link.proofs.Bare.{IsBare, AreBare}
+use Rattle.wcv_link.proofs.BareGiven.{given_for-each, looked-up}
 use Rattle.wcv_link.proofs.CoreGrowing.{if-some}
 use Rattle.wcv_link.proofs.Growing.{Ready, AreNew, Does, nothing-new}
 use Rattle.wcv_link.proofs.Having.{Has, has-right, has-beside, has-beside_back, Once, once-beside}
-use Rattle.wcv_link.proofs.Known.{mapped-some, then-some, all-get, Fine, In, Any, After, in-apply}
+use Rattle.wcv_link.proofs.Known.{mapped-some, then-some, all-get, Fine, node-within, Listed, Any, After, listed-apply}
+use Rattle.wcv_link.proofs.MayMake.{opening-hygienic}
 use Rattle.wcv_link.proofs.Opened.{FreeAmong, free-instantiated}
-use Rattle.wcv_link.proofs.Sound.{IsSound}
+use Rattle.wcv_link.proofs.Sound.{IsSoundNode, IsSound, entries-sound, exports-sound, replaced-sound}
+use Rattle.wcv_link.proofs.Tidy.{Known, TidyEntry, tidy-bare}
 
 -- what is free in entries
 within-entries : (P : Name → Type 0) (es : Entries) → All (λ e. Fine P e.1) es → (r : Name) → FreeIn r (entries export es none) → P r
@@ -41,7 +53,10 @@ pub opened-pair : (args : List (Text × Type_tree)) (t : Type_tree) (y : List (T
 opened-pair args t y true e = (refl, some-inj e)
 opened-pair args t y false e = cc
 
-module _ (p : Place) (s : Tree_stack) (h : Ready p s.top) (c : is_concrete s.top.kind ≡ true) where
+module _ (p : Place) (s : Tree_stack) (h : Ready p s) (c : is_concrete s.top.kind ≡ true) where
+  abbrev top-fine : AllEntries (Fine (Listed s)) s.top
+  top-fine = h.fine zero s.top refl
+
   -- an instance whose resources are new
   joined-does : (b : Brought tree_reader) → Fine (After (instance_joins b) s) b.entity → AreNew p b.resources → Does exporting p s (instance_joins b)
   joined-does b w new = record {
@@ -65,14 +80,14 @@ module _ (p : Place) (s : Tree_stack) (h : Ready p s.top) (c : is_concrete s.top
   instance_listed es = bare tree_reader (node_tree (base p) (listing es))
 
   listed-inside : (es : List ComponentExport) (r : Name) → FreeIn r (entries export (listed s.top es) none) → After (instance_joins (instance_listed es)) s r
-  listed-inside es r x = in-apply (instance_joins (instance_listed es)) s r (within-entries (In s.top) (listed s.top es) (listed_have (Fine (In s.top)) s.top h.fine es) r x)
+  listed-inside es r x = listed-apply (instance_joins (instance_listed es)) s r (within-entries (Listed s) (listed s.top es) (listed_have (Fine (Listed s)) s.top top-fine es) r x)
+
+  listed-sound : (es : List ComponentExport) → IsSound (instance_listed es).entity
+  listed-sound es =
+      ((tt, All-nil _), entries-sound export (listed s.top es) none (All-weaker (λ (e : Extern_name × Type_tree). Fine (Listed s) e.1) (λ (e : Extern_name × Type_tree). IsSound e.1) (λ e w. w.1) (listed s.top es) (listed_have (Fine (Listed s)) s.top top-fine es)) tt)
 
   listed-fine : (es : List ComponentExport) → Fine (After (instance_joins (instance_listed es)) s) (instance_listed es).entity
-  listed-fine es = ((λ r f. go r f), (tt, All-nil _))
-    where
-      go : (r : Name) → ⊥ ⊎ ((false ≡ false) × FreeIn r (entries export (listed s.top es) none)) → After (instance_joins (instance_listed es)) s r
-      go r (inl x) = absurd x
-      go r (inr x) = listed-inside es r x.1
+  listed-fine es = (node-within (After (instance_joins (instance_listed es)) s) (instance (base p) []) (entries export (listed s.top es) none) (λ r x. x) (listed-inside es), listed-sound es)
 
   bag-does : (es : List ComponentExport) (x : Step tree_reader) → instance_step (tree_maker names_by_place p) s (bag es) ≡ Some x → Does exporting p s x
   bag-does es x e =
@@ -107,7 +122,7 @@ module _ (p : Place) (s : Tree_stack) (h : Ready p s.top) (c : is_concrete s.top
         once (x ∷ xs) o = ((λ w. o.0 (old xs x.0 w)), once xs o.1)
 
     made-once : (u : Type_tree) → IsSound u → Once (made_paths (head u))
-    made-once (node (component i ins outs) ps) w = w.0
+    made-once (node (component i ins outs) ps) w = w.0.0
     made-once (node nothing ps) w = tt
     made-once (node (primitive q) ps) w = tt
     made-once (node (resource q x) ps) w = tt
@@ -121,39 +136,71 @@ module _ (p : Place) (s : Tree_stack) (h : Ready p s.top) (c : is_concrete s.top
     made-once (node (core_item x) ps) w = tt
 
     -- where what is free in it is listed
-    component-does : Fine (In s.top) t → ((r : Name) → Free r instance_of.entity → After (instance_joins instance_of) s r) → Does exporting p s (instance_joins instance_of)
-    component-does w inside = joined-does instance_of (inside, (tt, All-nil _)) (made-new (made_paths (head t)) (made-once t w.1))
+    component-does : IsSound t → ((r : Name) → Free r instance_of.entity → After (instance_joins instance_of) s r) → IsSound instance_of.entity → Does exporting p s (instance_joins instance_of)
+    component-does w inside sound = joined-does instance_of (inside, sound) (made-new (made_paths (head t)) (made-once t w))
 
-  among-in : (args : List (Text × Type_tree)) (r : Name) → All (λ (e : Text × Type_tree). Fine (In s.top) e.1) args → FreeAmong r args → In s.top r
+    -- nothing that a type in it owns is replaced, nor is a type given there that mentions it
+    replaced-each : (m : Replacement) → ((i : Identity) (u : Type_tree) → m.nodes i ≡ Some u → IsSound u) → (es : Entries) → All (λ e. Hygienic m e.1) es → All (λ e. IsSound e.1) es → All (λ e. IsSound e.1) (map_entries (replaced m) es)
+    replaced-each m gives [] y w = All-nil (λ (e : Extern_name × Type_tree). IsSound e.1)
+    replaced-each m gives (e ∷ es) y w =
+        All-cons (λ (x : Extern_name × Type_tree). IsSound x.1) (e.0, replaced m e.1) (map_entries (replaced m) es)
+        (replaced-sound m gives e.1 (All-head (λ (x : Extern_name × Type_tree). Hygienic m x.1) e es y) (All-head (λ (x : Extern_name × Type_tree). IsSound x.1) e es w))
+        (replaced-each m gives es (All-tail (λ (x : Extern_name × Type_tree). Hygienic m x.1) e es y) (All-tail (λ (x : Extern_name × Type_tree). IsSound x.1) e es w))
+
+    opened-sound : All (λ (e : Text × Type_tree). IsSound e.1) args → IsSound t → All (λ (e : Extern_name × Type_tree). Hygienic (opening names_by_place p args t) e.1) (exports t) → IsSound instance_of.entity
+    opened-sound a w y =
+        ((tt, All-nil _), entries-sound export (map_entries (replaced m) (exports t)) none (replaced-each m gives (exports t) y (exports-sound t w)) tt)
+      where
+        m : Replacement
+        m = opening names_by_place p args t
+
+        gives : (i : Identity) (u : Type_tree) → m.nodes i ≡ Some u → IsSound u
+        gives i u e = looked-up (λ (x : Identity × Type_tree). IsSound x.1) i (given_for args (named_imports t)) u (given_for-each IsSoundNode (tt, tt) args (named_imports t) a) e
+
+  among-in : (args : List (Text × Type_tree)) (r : Name) → All (λ (e : Text × Type_tree). Fine (Listed s) e.1) args → FreeAmong r args → Listed s r
   among-in [] r a f = absurd f
-  among-in (e ∷ es) r a (inl f) = (All-head (λ (e : Text × Type_tree). Fine (In s.top) e.1) e es a).0 r f
-  among-in (e ∷ es) r a (inr f) = among-in es r (All-tail (λ (e : Text × Type_tree). Fine (In s.top) e.1) e es a) f
+  among-in (e ∷ es) r a (inl f) = (All-head (λ (e : Text × Type_tree). Fine (Listed s) e.1) e es a).0 r f
+  among-in (e ∷ es) r a (inr f) = among-in es r (All-tail (λ (e : Text × Type_tree). Fine (Listed s) e.1) e es a) f
 
   -- what is free in an instance that is opened is free in the component or in an argument, or new
-  opened-inside : (args : List (Text × Type_tree)) (t : Type_tree) → All (λ (e : Text × Type_tree). Fine (In s.top) e.1) args → Fine (In s.top) t → All (λ (e : Text × Type_tree). IsBare e.1) args → IsBare t → tree_reader.opens s.groups args t ≡ true →
+  opened-inside : (args : List (Text × Type_tree)) (t : Type_tree) → All (λ (e : Text × Type_tree). Fine (Listed s) e.1) args → Fine (Listed s) t → All (λ (e : Text × Type_tree). IsBare e.1) args → IsBare t → tree_reader.opens s.groups args t ≡ true →
       (r : Name) → Free r (instance_of args t).entity → After (instance_joins (instance_of args t)) s r
   opened-inside args t a w b u o r f = go (free-instantiated s.groups p args b t u w.1 o r f)
     where
       go : Free r t ⊎ (FreeAmong r args ⊎ Has (instance_of args t).resources r) → After (instance_joins (instance_of args t)) s r
-      go (inl x) = in-apply (instance_joins (instance_of args t)) s r (w.0 r x)
-      go (inr (inl x)) = in-apply (instance_joins (instance_of args t)) s r (among-in args r a x)
-      go (inr (inr x)) = inr (has-right s.top.defined (unknown (instance_of args t).resources) r (has-beside (λ x. None) (instance_of args t).resources r x))
+      go (inl x) = listed-apply (instance_joins (instance_of args t)) s r (w.0 r x)
+      go (inr (inl x)) = listed-apply (instance_joins (instance_of args t)) s r (among-in args r a x)
+      go (inr (inr x)) = inl (inr (has-right s.top.defined (unknown (instance_of args t).resources) r (has-beside (λ x. None) (instance_of args t).resources r x)))
 
-  instantiate-does : AreBare s.top → (i : ℕ) (given : List ComponentInstantiationArg) (x : Step tree_reader) → instance_step (tree_maker names_by_place p) s (instantiate i given) ≡ Some x → Does exporting p s x
-  instantiate-does bare i given x e =
-      let args : List (Text × Type_tree) = arguments s.top given in
-      let m = mapped-some instance_joins (instance_made (tree_maker names_by_place p) s (instantiate i given)) x e in
-      let o = mapped-some (instance_of_component (tree_maker names_by_place p)) (opened s i given) m.0 m.1 in
-      let n = if-some (list_all (λ (a : ComponentInstantiationArg). not (is_none (argument_at s.top a))) given) (option_and_then (if_opened tree_reader s.groups args) (component_at s.top i)) o.0 o.1 in
-      let t = then-some (if_opened tree_reader s.groups args) (component_at s.top i) o.0 n in
-      let q = opened-pair args t.0 o.0 (tree_reader.opens s.groups args t.0) t.2 in
-      let w : Fine (In s.top) t.0 = all-get (Fine (In s.top)) (s.top.space in_components) i t.0 (h.fine.space in_components) t.1 in
-      let v : IsBare t.0 = all-get IsBare (s.top.space in_components) i t.0 (bare.space in_components) t.1 in
-      subst (Does exporting p s) m.2
-      (subst (λ (b : Brought tree_reader). Does exporting p s (instance_joins b)) o.2
-      (subst (λ (y : List (Text × Type_tree) × Type_tree). Does exporting p s (instance_joins (instance_of_component (tree_maker names_by_place p) y))) q.1
-      (component-does args t.0 w (opened-inside args t.0 (arguments_have (Fine (In s.top)) s.top h.fine given) w (arguments_have IsBare s.top bare given) v q.0))))
+  module _ (g : Known) (y : AllEntries (TidyEntry g) s.top) where
+    are-bare : AreBare s.top
+    are-bare = tidy-bare g s.top y
 
-  pub instance-does : AreBare s.top → (i : Instance_form) (x : Step tree_reader) → instance_step (tree_maker names_by_place p) s i ≡ Some x → Does exporting p s x
-  instance-does b (bag es) x e = bag-does es x e
-  instance-does b (instantiate i args) x e = instantiate-does b i args x e
+    -- no type owns what is free in a component, and it owns apart
+    opened-hygienic : (i : ℕ) (t : Type_tree) → component_at s.top i ≡ Some t → Fine (Listed s) t → (args : List (Text × Type_tree)) → All (λ (e : Extern_name × Type_tree). Hygienic (opening names_by_place p args t) e.1) (exports t)
+    opened-hygienic i t e w args =
+        opening-hygienic g p t args (all-get (TidyEntry g) (s.top.space in_components) i t (y.space in_components) e)
+        (apart_outside t (all-get OwnApart (s.top.space in_components) i t ((h.apart zero s.top refl).space in_components) e))
+        (λ r x. all-get (OwnsNot r) (s.top.space in_components) i t ((h.spared r (w.0 r x) zero s.top refl).space in_components) e)
+
+    instantiate-does : (i : ℕ) (given : List ComponentInstantiationArg) (x : Step tree_reader) → instance_step (tree_maker names_by_place p) s (instantiate i given) ≡ Some x → Does exporting p s x
+    instantiate-does i given x e =
+        let args : List (Text × Type_tree) = arguments s.top given in
+        let m = mapped-some instance_joins (instance_made (tree_maker names_by_place p) s (instantiate i given)) x e in
+        let o = mapped-some (instance_of_component (tree_maker names_by_place p)) (opened s i given) m.0 m.1 in
+        let n = if-some (list_all (λ (a : ComponentInstantiationArg). not (is_none (argument_at s.top a))) given) (option_and_then (if_opened tree_reader s.groups args) (component_at s.top i)) o.0 o.1 in
+        let t = then-some (if_opened tree_reader s.groups args) (component_at s.top i) o.0 n in
+        let q = opened-pair args t.0 o.0 (tree_reader.opens s.groups args t.0) t.2 in
+        let w : Fine (Listed s) t.0 = all-get (Fine (Listed s)) (s.top.space in_components) i t.0 (top-fine.space in_components) t.1 in
+        let v : IsBare t.0 = all-get IsBare (s.top.space in_components) i t.0 (are-bare.space in_components) t.1 in
+        let a : All (λ (e : Text × Type_tree). Fine (Listed s) e.1) args = arguments_have (Fine (Listed s)) s.top top-fine given in
+        let sound : IsSound (instance_of args t.0).entity =
+        opened-sound args t.0 (All-weaker (λ (e : Text × Type_tree). Fine (Listed s) e.1) (λ (e : Text × Type_tree). IsSound e.1) (λ e w. w.1) args a) w.1 (opened-hygienic i t.0 t.1 w args) in
+        subst (Does exporting p s) m.2
+        (subst (λ (b : Brought tree_reader). Does exporting p s (instance_joins b)) o.2
+        (subst (λ (y : List (Text × Type_tree) × Type_tree). Does exporting p s (instance_joins (instance_of_component (tree_maker names_by_place p) y))) q.1
+        (component-does args t.0 w.1 (opened-inside args t.0 a w (arguments_have IsBare s.top are-bare given) v q.0) sound)))
+
+    pub instance-does : (i : Instance_form) (x : Step tree_reader) → instance_step (tree_maker names_by_place p) s i ≡ Some x → Does exporting p s x
+    instance-does (bag es) x e = bag-does es x e
+    instance-does (instantiate i args) x e = instantiate-does i args x e

@@ -1,20 +1,21 @@
 -- What a step brings to a context: entries in which what is free is listed, and sound ones.
-use Rattle.std.proofs.Common.{◌≡◌, ℕ, zero, suc, List, [], ◌∷◌, length, Bool, true, false, refl, ◌∙◌, subst, Some, None, ◌⊎◌, inl, inr}
+use Rattle.std.proofs.Common.{◌≡◌, ℕ, zero, suc, List, [], ◌∷◌, length, refl, ◌∙◌, subst, Some, None, ◌⊎◌, inl, inr}
 use Rattle.std.specs.Prelude.{All, slice_get, Option}
 use Rattle.std.specs.Option.{option_map, option_and_then}
-use Rattle.std.proofs.lemmas.List.Elements.{All-push, All-weaker, All-nil, All-head, All-tail}
+use Rattle.std.proofs.lemmas.List.Elements.{All-weaker, All-nil}
 use Rattle.std.proofs.lemmas.Option.{slice_get_within, get_or_from_slice_get}
 use Rattle.wcv_core.specs.Names.{Name}
-use Rattle.wcv_types.specs.Resources.{Free, FreeIn}
+use Rattle.wcv_types.specs.Resources.{RefersTo, Free, FreeIn}
 use Rattle.wcv_types.specs.Tree as tree
-use Rattle.wcv_types.specs.Tree.{Extern_name, nothing, type_entity, Sort, is_nothing, is_value, is_resource, is_func, is_instance, is_component, is_type, is_module, is_core_instance, is_core_type, is_core_item, sort, node, Parts, none, part, first_part, rest_parts, type_of}
+use Rattle.wcv_types.specs.Tree.{Extern_name, Head, nothing, type_entity, Sort, is_nothing, is_value, is_resource, is_func, is_instance, is_component, is_type, is_module, is_core_instance, is_core_type, is_core_item, sort, node, Parts, none, part, first_part, rest_parts, type_of}
 use Rattle.wcv_types.proofs.Lists.{some-inj}
-use Rattle.wcv_lower.specs.Context.{in_types, in_funcs, in_values, in_instances, in_components, core_modules, Side, importing, exporting, same_space, same_core_space, same_side, joined, placed, unknown}
+use Rattle.wcv_lower.specs.Context.{in_types, in_funcs, in_values, in_instances, in_components, core_modules, Side, importing, exporting, placed, unknown, charge}
 use Rattle.wcv_lower.specs.Mapped.{map_context}
-use Rattle.wcv_lower.specs.Owned.{AllEntries}
+use Rattle.wcv_lower.specs.Owned.{AllEntries, Everywhere}
 use Rattle.wcv_lower.specs.Renamed.{Renaming, renaming}
-use Rattle.wcv_lower.specs.Step.{Change, appends, lists, introduces, defines, creates, core_appends, interns, charges, types_slots, Step, change, apply, joins, enters, Brought}
+use Rattle.wcv_lower.specs.Step.{Change, appends, lists, introduces, defines, creates, core_appends, interns, charges, types_slots, Step, change_at, change, apply, joins, enters, Brought}
 use Rattle.wcv_lower.specs.Trees.{Type_tree, Tree_context, Tree_stack, tree_reader, created, referenced}
+use Rattle.wcv_lower.proofs.Applied.{applied_has}
 use Rattle.wcv_lower.proofs.Bringing.{Brings, AllBring, brings_one, brings_more}
 use Rattle.wcv_link.proofs.Having.{Has, has-left, has-renamed_back}
 use Rattle.wcv_link.proofs.Sound.{IsSound, created-sound}
@@ -54,6 +55,11 @@ module _ (P : Name → Type 0) where
   -- and the tree is a sound entry
   abbrev pub Fine : Type_tree → Type 0
   Fine t = Within t × IsSound t
+
+  -- in a node that is no reference what is free in its parts
+  pub node-within : (h : Head Name Name) (ps : Parts Name Name) → ((r : Name) → RefersTo r h → ⊥) → WithinParts ps → Within (node h ps)
+  node-within h ps n w r (inl x) = absurd (n r x)
+  node-within h ps n w r (inr x) = w r x.1
 
   pub both-within : (t u : Type_tree) → Within t → Within u → Within (type_of t u)
   both-within t u v w r (inl x) = absurd x
@@ -96,9 +102,21 @@ pub in-renamed_back : (w : Renaming) (c : Tree_context) (r : Name) → In (map_c
 in-renamed_back w c r (inl h) = inl (has-renamed_back w.resources.to w.resources.back w.resources.is_back c.imported r h)
 in-renamed_back w c r (inr h) = inr (has-renamed_back w.resources.to w.resources.back w.resources.is_back c.defined r h)
 
+-- so does one of them
+abbrev pub ListedAmong : List Tree_context → Name → Type 0
+ListedAmong [] r = ⊥
+ListedAmong (c ∷ cs) r = In c r ⊎ ListedAmong cs r
+
+-- or one of the open contexts
+abbrev pub Listed : Tree_stack → Name → Type 0
+Listed s r = In s.top r ⊎ ListedAmong s.outer r
+
+pub everywhere-weaker : (P Q : Type_tree → Type 0) (s : Tree_stack) → ((t : Type_tree) → P t → Q t) → Everywhere P s → Everywhere Q s
+everywhere-weaker P Q s f h j c e = entries-weaker P Q c f (h j c e)
+
 -- each entry is sound, and what is free in it is listed
-abbrev pub IsFine : Tree_context → Type 0
-IsFine c = AllEntries (Fine (In c)) c
+abbrev pub IsFine : Tree_stack → Type 0
+IsFine s = Everywhere (Fine (Listed s)) s
 
 -- ## Steps
 
@@ -106,79 +124,70 @@ IsFine c = AllEntries (Fine (In c)) c
 abbrev pub Any : Name → Type 0
 Any r = Unit {0}
 
-all-joined : {X : Type 0} (Q : X → Type 0) (b : Bool) (xs : List X) (x : X) → All Q xs → Q x → All Q (joined b xs x)
-all-joined Q true xs x a q = All-push Q xs x a q
-all-joined Q false xs x a q = a
+module _ (E : Type_tree → Type 0) (creates_too : (t : Type_tree) → E t → E (created t)) where
+  pub joins-bring : (o : Sort) (t : Type_tree) → E t → AllBring E Any (joins tree_reader o t)
+  joins-bring is_func t w = brings_one E Any (appends in_funcs t) w
+  joins-bring is_value t w = brings_one E Any (appends in_values t) w
+  joins-bring is_instance t w = brings_one E Any (appends in_instances t) w
+  joins-bring is_component t w = brings_one E Any (appends in_components t) w
+  joins-bring is_type t w = brings_one E Any (appends in_types (created t)) (creates_too t w)
+  joins-bring is_module t w = brings_one E Any (core_appends core_modules t) w
+  joins-bring is_resource t w = All-nil (Brings E Any)
+  joins-bring is_nothing t w = All-nil (Brings E Any)
+  joins-bring is_core_instance t w = All-nil (Brings E Any)
+  joins-bring is_core_type t w = All-nil (Brings E Any)
+  joins-bring is_core_item t w = All-nil (Brings E Any)
 
-module _ (E : Type_tree → Type 0) where
-  change-has : (x : Change tree_reader) (s : Tree_stack) → Brings E Any x → AllEntries E s.top → AllEntries E (change x s).top
-  change-has (appends k t) s f h = record { space = λ j. all-joined E (same_space j k) (s.top.space j) t (h.space j) f; core = h.core; side = h.side }
-  change-has (lists d n t) s f h = record { space = h.space; core = h.core; side = λ j. all-joined (λ e. E e.1) (same_side j d) (s.top.side j) (n, t) (h.side j) f }
-  change-has (introduces importing rs) s f h = record { space = h.space; core = h.core; side = h.side }
-  change-has (introduces exporting rs) s f h = record { space = h.space; core = h.core; side = h.side }
-  change-has (defines r v) s f h = record { space = h.space; core = h.core; side = h.side }
-  change-has (creates d is) s f h = record { space = h.space; core = h.core; side = h.side }
-  change-has (core_appends k t) s f h = record { space = h.space; core = λ j. all-joined E (same_core_space j k) (s.top.core j) t (h.core j) f; side = h.side }
-  change-has (interns gs) s f h = h
-  change-has (charges zero n) s f h = record { space = h.space; core = h.core; side = h.side }
-  change-has (charges (suc k) n) s f h = h
-  change-has (types_slots v) s f h = record { space = h.space; core = h.core; side = h.side }
-
-  -- the entries of the top behind a step
-  pub apply-has : (p : Step tree_reader) (s : Tree_stack) → AllBring E Any p → AllEntries E s.top → AllEntries E (apply p s).top
-  apply-has [] s f h = h
-  apply-has (x ∷ xs) s f h = apply-has xs (change x s) (All-tail (Brings E Any) x xs f) (change-has x s (All-head (Brings E Any) x xs f) h)
-
-  module _ (creates_too : (t : Type_tree) → E t → E (created t)) where
-    joins-bring : (o : Sort) (t : Type_tree) → E t → AllBring E Any (joins tree_reader o t)
-    joins-bring is_func t w = brings_one E Any (appends in_funcs t) w
-    joins-bring is_value t w = brings_one E Any (appends in_values t) w
-    joins-bring is_instance t w = brings_one E Any (appends in_instances t) w
-    joins-bring is_component t w = brings_one E Any (appends in_components t) w
-    joins-bring is_type t w = brings_one E Any (appends in_types (created t)) (creates_too t w)
-    joins-bring is_module t w = brings_one E Any (core_appends core_modules t) w
-    joins-bring is_resource t w = All-nil (Brings E Any)
-    joins-bring is_nothing t w = All-nil (Brings E Any)
-    joins-bring is_core_instance t w = All-nil (Brings E Any)
-    joins-bring is_core_type t w = All-nil (Brings E Any)
-    joins-bring is_core_item t w = All-nil (Brings E Any)
-
-    -- an entry of a side, with what it brings
-    pub enters-bring : (d : Side) (n : Extern_name) (b : Brought tree_reader) → E b.entity → AllBring E Any (enters d n b)
-    enters-bring d n b w =
-        let last : Step tree_reader = joins tree_reader (sort b.entity) b.entity in
-        let named : Step tree_reader = creates d (tree_reader.creates b.entity) ∷ last in
-        brings_more E Any (introduces d b.resources) (lists d n b.entity ∷ named) (λ k x l. tt)
-        (brings_more E Any (lists d n b.entity) named w (brings_more E Any (creates d (tree_reader.creates b.entity)) last tt (joins-bring (sort b.entity) b.entity w)))
+  -- an entry of a side, with what it brings
+  pub enters-bring : (d : Side) (n : Extern_name) (b : Brought tree_reader) → E b.entity → AllBring E Any (enters d n b)
+  enters-bring d n b w =
+      let last : Step tree_reader = joins tree_reader (sort b.entity) b.entity in
+      let named : Step tree_reader = creates d (tree_reader.creates b.entity) ∷ last in
+      brings_more E Any (introduces d b.resources) (lists d n b.entity ∷ named) (λ k x l. tt)
+      (brings_more E Any (lists d n b.entity) named w (brings_more E Any (creates d (tree_reader.creates b.entity)) last tt (joins-bring (sort b.entity) b.entity w)))
 
 -- ## What was listed stays so
 
-in-change : (x : Change tree_reader) (s : Tree_stack) (r : Name) → In s.top r → In (change x s).top r
-in-change (appends k t) s r h = h
-in-change (lists d n t) s r h = h
-in-change (introduces importing rs) s r (inl h) = inl (has-left s.top.imported (placed (length (s.top.side importing)) rs) r h)
-in-change (introduces importing rs) s r (inr h) = inr h
-in-change (introduces exporting rs) s r (inl h) = inl h
-in-change (introduces exporting rs) s r (inr h) = inr (has-left s.top.defined (unknown rs) r h)
-in-change (defines q v) s r (inl h) = inl h
-in-change (defines q v) s r (inr h) = inr (has-left s.top.defined ((q, v) ∷ []) r h)
-in-change (creates d is) s r h = h
-in-change (core_appends k t) s r h = h
-in-change (interns gs) s r h = h
-in-change (charges zero n) s r h = h
-in-change (charges (suc k) n) s r h = h
-in-change (types_slots v) s r h = h
+charged-among : (k n : ℕ) (cs : List Tree_context) (r : Name) → ListedAmong cs r → ListedAmong (change_at k (charge {X = tree_reader} n) cs) r
+charged-among k n [] r h = absurd h
+charged-among zero n (c ∷ cs) r (inl h) = inl h
+charged-among zero n (c ∷ cs) r (inr h) = inr h
+charged-among (suc k) n (c ∷ cs) r (inl h) = inl h
+charged-among (suc k) n (c ∷ cs) r (inr h) = inr (charged-among k n cs r h)
 
-pub in-apply : (p : Step tree_reader) (s : Tree_stack) (r : Name) → In s.top r → In (apply p s).top r
-in-apply [] s r h = h
-in-apply (x ∷ xs) s r h = in-apply xs (change x s) r (in-change x s r h)
+listed-change : (x : Change tree_reader) (s : Tree_stack) (r : Name) → Listed s r → Listed (change x s) r
+listed-change (appends k t) s r h = h
+listed-change (lists d n t) s r h = h
+listed-change (introduces importing rs) s r (inl (inl h)) = inl (inl (has-left s.top.imported (placed (length (s.top.side importing)) rs) r h))
+listed-change (introduces importing rs) s r (inl (inr h)) = inl (inr h)
+listed-change (introduces exporting rs) s r (inl (inl h)) = inl (inl h)
+listed-change (introduces exporting rs) s r (inl (inr h)) = inl (inr (has-left s.top.defined (unknown rs) r h))
+listed-change (introduces importing rs) s r (inr h) = inr h
+listed-change (introduces exporting rs) s r (inr h) = inr h
+listed-change (defines q v) s r (inl (inl h)) = inl (inl h)
+listed-change (defines q v) s r (inl (inr h)) = inl (inr (has-left s.top.defined ((q, v) ∷ []) r h))
+listed-change (defines q v) s r (inr h) = inr h
+listed-change (creates d is) s r h = h
+listed-change (core_appends k t) s r h = h
+listed-change (interns gs) s r h = h
+listed-change (charges zero n) s r h = h
+listed-change (charges (suc k) n) s r (inl h) = inl h
+listed-change (charges (suc k) n) s r (inr h) = inr (charged-among k n s.outer r h)
+listed-change (types_slots v) s r h = h
+
+pub listed-apply : (p : Step tree_reader) (s : Tree_stack) (r : Name) → Listed s r → Listed (apply p s) r
+listed-apply [] s r h = h
+listed-apply (x ∷ xs) s r h = listed-apply xs (change x s) r (listed-change x s r h)
 
 -- what is listed after a step
 abbrev pub After : Step tree_reader → Tree_stack → Name → Type 0
-After p s = In (apply p s).top
+After p s = Listed (apply p s)
 
-pub grown-fine : (p : Step tree_reader) (s : Tree_stack) → AllBring (Fine (After p s)) Any p → IsFine s.top → IsFine (apply p s).top
-grown-fine p s f h = apply-has (Fine (After p s)) p s f (entries-weaker (Fine (In s.top)) (Fine (After p s)) s.top (λ t w. ((λ r x. in-apply p s r (w.0 r x)), w.1)) h)
+pub later-fine : (p : Step tree_reader) (s : Tree_stack) (t : Type_tree) → Fine (Listed s) t → Fine (After p s) t
+later-fine p s t w = ((λ r x. listed-apply p s r (w.0 r x)), w.1)
+
+pub grown-fine : (p : Step tree_reader) (s : Tree_stack) → AllBring (Fine (After p s)) Any p → IsFine s → IsFine (apply p s)
+grown-fine p s f h = applied_has (Fine (After p s)) Any p s (everywhere-weaker (Fine (Listed s)) (Fine (After p s)) s (later-fine p s) h) f
 
 -- its kind stays
 change-kind : (x : Change tree_reader) (s : Tree_stack) → (change x s).top.kind ≡ s.top.kind

@@ -1,15 +1,15 @@
 -- An instance may be made of a component that stands in a tidy context: no type that an argument gives is mentioned where a type in the
 -- exports owns what is free in it.
-use Rattle.std.proofs.Common.{◌≡◌, ℕ, List, [], ◌++◌, Bool, true, false, refl, sym, ◌∙◌, ap, subst, Some, None, ◌⊎◌, inl, inr, bytes_eq}
+use Rattle.std.proofs.Common.{◌≡◌, ℕ, List, [], ◌∷◌, ◌++◌, Bool, true, false, refl, sym, ◌∙◌, ap, subst, Some, None, ◌⊎◌, inl, inr, bytes_eq}
 use Rattle.std.specs.Prelude.{Option, All, option_to_list}
 use Rattle.std.specs.Map.{lookup}
 use Rattle.std.specs.Option.{option_map, option_map_or}
 use Rattle.std.proofs.lemmas.Bool.{false≢true}
-use Rattle.std.proofs.lemmas.List.Elements.{All-nil, All-cons, All-append, All-weaker}
-use Rattle.wcv_core.specs.Names.{Name, member}
+use Rattle.std.proofs.lemmas.List.Elements.{All-nil, All-cons, All-append, All-head, All-tail, All-weaker}
+use Rattle.wcv_core.specs.Names.{Name, Place, member}
 use Rattle.wcv_syntax.specs.declared.instance.ComponentInstantiationArg.{ComponentInstantiationArg}
 use Rattle.wcv_types.specs.Identity.{Identity, of_node, of_reference, identity_at, same_identity}
-use Rattle.wcv_types.specs.Replacing.{Replacement}
+use Rattle.wcv_types.specs.Replacing.{Replacement, SparesOwn, SparesOwnIn}
 use Rattle.wcv_types.specs.Resources.{owns, Free, FreeIn}
 use Rattle.wcv_types.specs.Tree as tree
 use Rattle.wcv_types.specs.Tree.{Text, Extern_name, Head, here, label, import, export, core_import, core_export, nothing, primitive, resource, defined, func, instance, component, type_entity, core_module, core_instance, core_type, core_item, node, Parts, none, part, head, first_part, rest_parts, sort, resource_type, imported_at, exports_in, exports}
@@ -23,12 +23,16 @@ use Rattle.wcv_subtype.specs.Hygiene.{Apart, ApartIn, Hygienic, HygienicIn}
 use Rattle.wcv_subtype.specs.Openings.{EntitiesAlike}
 use Rattle.wcv_lower.specs.Given.{Numbers}
 use Rattle.wcv_lower.specs.Instances.{component_at, arguments}
+use Rattle.wcv_lower.specs.Instantiated.{opening}
+use Rattle.wcv_lower.specs.Names.{names_by_place}
 use Rattle.wcv_lower.specs.Owned.{OwnsNot, OwnsNotIn, OwnsApart, OwnApart, AllEntries, IsOwn, IsCalm}
 use Rattle.wcv_lower.specs.Trees.{Tree_context, Tree_stack}
 use Rattle.wcv_lower.proofs.Bringing.{of_some}
 use Rattle.wcv_lower.proofs.EvenTypes.{each_weaker}
+use Rattle.wcv_lower.proofs.InstancesBring.{opening_spares}
 use Rattle.wcv_lower.proofs.Instantiating.{arguments_have, component_has}
 use Rattle.wcv_lower.proofs.Members.{member_left, member_right}
+use Rattle.wcv_state.proofs.Exporter.{hygienic_less}
 use Rattle.wcv_link.proofs.Alike.{IsAlike}
 use Rattle.wcv_link.proofs.Bare.{EntriesOwnNothing, IsBare, imports-each}
 use Rattle.wcv_link.proofs.BareGiven.{looked-up}
@@ -183,6 +187,30 @@ spared h ps o n r x = go (owns h r) refl
     go true e = o r e
     go false e = (n r (inr (e, x))).1
 
+-- ## Where resources are replaced too
+
+-- a resource that is replaced where none is that is owned inside
+module _ (m : Replacement) (r s : Name) (moves : m.resources r ≡ Some s) where
+  mutual
+    unowned : (t : Type_tree) → SparesOwn m t → OwnsNot r t
+    unowned (node h ps) w = (go (owns h r) refl, unowned_in ps w.1)
+      where
+        go : (b : Bool) → owns h r ≡ b → owns h r ≡ false
+        go false e = e
+        go true e = let k : m.resources r ≡ None = w.0 r e in cc
+
+    unowned_in : (ps : Parts Name Name) → SparesOwnIn m ps → OwnsNotIn r ps
+    unowned_in none w = tt
+    unowned_in (part k t ps) w = (unowned t w.0, unowned_in ps w.1)
+
+module _ (m n : Replacement) (less : (i : Identity) → n.nodes i ≡ None → m.nodes i ≡ None) where
+  each-hygienic : (es : List (Extern_name × Type_tree)) → All (λ e. SparesOwn m e.1) es → All (λ e. Hygienic n e.1) es → All (λ e. Hygienic m e.1) es
+  each-hygienic [] w y = All-nil (λ (e : Extern_name × Type_tree). Hygienic m e.1)
+  each-hygienic (e ∷ es) w y =
+      let spares : SparesOwn m e.1 = All-head (λ (x : Extern_name × Type_tree). SparesOwn m x.1) e es w in
+      All-cons (λ (x : Extern_name × Type_tree). Hygienic m x.1) e es (hygienic_less m n less e.1 (λ r s q. unowned m r s q e.1 spares) (All-head (λ (x : Extern_name × Type_tree). Hygienic n x.1) e es y))
+      (each-hygienic es (All-tail (λ (x : Extern_name × Type_tree). SparesOwn m x.1) e es w) (All-tail (λ (x : Extern_name × Type_tree). Hygienic n x.1) e es y))
+
 -- ## Types
 
 module _ (g : Known) where
@@ -193,6 +221,12 @@ module _ (g : Known) where
       let b : IsBare (node h ps) = entry-bare g (node h ps) w in
       let gs : List (Identity × Type_tree) = given_for args (named_imports_in ps) in
       exports-hygienic (given_alone gs) ps (hygienic_in (standing g) (λ r. FreeIn r ps) gs (given_for-stands (standing g) args ps b.1.0 b.1.1 s.1) ps s.1 (spared h ps o n))
+
+  -- so where an instance is made at a place
+  pub opening-hygienic : (p : Place) (t : Type_tree) (args : List (Text × Type_tree)) → TidyEntry g t → OwnsApart t → ((r : Name) → Free r t → OwnsNot r t) →
+      All (λ (e : Extern_name × Type_tree). Hygienic (opening names_by_place p args t) e.1) (exports t)
+  opening-hygienic p t args w o n =
+      each-hygienic (opening names_by_place p args t) (given_alone (given_for args (named_imports t))) (λ i e. e) (exports t) (opening_spares names_by_place p args t o) (given-hygienic t args w o n)
 
   -- both types of an entity are of one sort
   abbrev OfOneSort : Head Name Name → Parts Name Name → Type 0
@@ -225,7 +259,7 @@ pub record MayMake (args : List (Text × Type_tree)) (t : Type_tree) : Type 0 wh
 own_apart : (t : Type_tree) → OwnApart t → OwnsApart t
 own_apart (node h ps) o = o.0
 
-is_own : (c : Tree_context) (r : Name) → In c r → IsOwn c r
+pub is_own : (c : Tree_context) (r : Name) → In c r → IsOwn c r
 is_own c r (inl h) = member_left r (names_in c.imported) (names_in c.defined) (has-member c.imported r h)
 is_own c r (inr h) = member_right r (names_in c.imported) (names_in c.defined) (has-member c.defined r h)
 

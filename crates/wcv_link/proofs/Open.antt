@@ -3,11 +3,13 @@ use Rattle.std.proofs.Common.{◌≡◌, ℕ, ◌<◌, ◌-◌, List, [], ◌∷
 use Rattle.wcv_core.specs.Names.{Place}
 use Rattle.wcv_core.specs.Refusal.{error_kind, error_offset}
 use Rattle.wcv_core.specs.declared.error.Error.{Error}
-use Rattle.wcv_syntax.specs.Built.{is_plain, is_built_type}
-use Rattle.wcv_syntax.specs.Model.{Form, Type_form, type_item}
+use Rattle.wcv_syntax.specs.Built.{is_plain, is_built_type, is_built_alias}
+use Rattle.wcv_syntax.specs.Model.{Form, Type_form, type_item, alias_item}
+use Rattle.wcv_syntax.specs.declared.instance.ComponentAlias.{ComponentAlias}
 use Rattle.wcv_types.specs.Arena.{Arena}
 use Rattle.wcv_types.specs.Standing.{AllFit}
 use Rattle.wcv_types.proofs.Grown.{extends_refl}
+use Rattle.wcv_lower.specs.Aliases.{alias_left}
 use Rattle.wcv_lower.specs.Checks.{IsFree}
 use Rattle.wcv_lower.specs.Declared.{declared_left}
 use Rattle.wcv_lower.specs.Given.{names_of}
@@ -16,19 +18,21 @@ use Rattle.wcv_lower.specs.Names.{Under}
 use Rattle.wcv_lower.specs.Owned.{ItemRegular, IsCalm}
 use Rattle.wcv_lower.specs.Trees.{Tree_context, tree_maker}
 use Rattle.wcv_lower.proofs.CalmGrowth.{calm_grows}
-use Rattle.wcv_state.specs.Contents.{Contents, context_of, stack_of}
+use Rattle.wcv_state.specs.Aliasing.{AliasedOn}
+use Rattle.wcv_state.specs.Contents.{Contents, context_of}
 use Rattle.wcv_state.specs.Promises.{MemoryOrCausedBy, numbers_of, Keeps}
 use Rattle.wcv_state.proofs.Stacks.{around_same}
-use Rattle.wcv_decls.specs.Declaring.{innermost, around}
+use Rattle.wcv_decls.specs.Declaring.{innermost, around, stack_in, AreReady}
 use Rattle.wcv_decls.specs.Stack.{IsOpen, AreCalm, ChangesLast, stay, contexts_around, stack_on, GrewOn, RefusedOn, DeclaresOn, RefusesOn, KeepsOn}
-use Rattle.wcv_decls.proofs.InnermostStates.{innermost_at, indexed, calm_all, open_here, open_around, outer_contexts, stays, last_changed}
+use Rattle.wcv_decls.proofs.ChargedStates.{last_kept, still_ready}
+use Rattle.wcv_decls.proofs.InnermostStates.{innermost_at, indexed, stack_at, calm_here, calm_all, open_here, open_around, kept, last_changed}
 use Rattle.wcv_decls.proofs.Plain.{own_given}
-use Rattle.wcv_decls.proofs.ReadingOn.{grown_numbers, extends_on, innermost_kept}
+use Rattle.wcv_decls.proofs.ReadingOn.{grown_numbers, extends_on}
 use Rattle.wcv_decls.proofs.SimpleDecls as simple
 use Rattle.wcv_link.specs.Instances.{AllMayInstantiate}
-use Rattle.wcv_link.specs.Progress.{IsReady, RefusedAt, TakesItem, TakenOn, AcceptsItem, RefusesItem, LeavesItem, AllMayOpen, LastMayInstantiate}
+use Rattle.wcv_link.specs.Progress.{IsReady, GrewAt, RefusedAt, TakesItem, TakenOn, AcceptsItem, RefusesItem, LeavesItem, AllMayOpen, LastMayInstantiate}
 use Rattle.wcv_link.proofs.Regular.{item_regular}
-use Rattle.wcv_link.proofs.Steps.{OneStep, grew_here, step_refused, type_grew, type_caused, type_left_caused, caused_same_at}
+use Rattle.wcv_link.proofs.Steps.{OneStep, one_step, grew_here, step_refused, alias_grew, type_grew, type_caused, type_left_caused, caused_same_at}
 
 -- lists that end alike
 pub same_end : {X : Type 0} (xs ys : List X) (x y : X) → xs ++ x ∷ [] ≡ ys ++ y ∷ [] → (xs ≡ ys) × (x ≡ y)
@@ -54,9 +58,10 @@ module _ (a : Arena) (ss : List Contents) (k : ℕ) (s : Contents) (e : k ≡ le
 
   -- an instance may be made of each instance type in it
   pub last_may_open : AllMayOpen a s
-  last_may_open r =
+  last_may_open =
       let was : ss ≡ around ss ++ s ∷ [] = (last_changed ss k s s h.some e (is_innermost ss k s h.some e i)).was in
-      simple.may_open a (contexts_around a (around ss)) s r last_open.stands (h.calm (around ss) s was)
+      let calm : IsCalm (numbers_of a) (stack_on a (around ss) s) = h.calm (around ss) s was in
+      ((λ r. simple.may_open a (contexts_around a (around ss)) s r last_open.stands calm), (λ x. simple.item_may_open a (contexts_around a (around ss)) s x last_open.stands calm))
 
   -- and of each component
   pub last_may_instantiate : LastMayInstantiate a ss → AllMayInstantiate a s
@@ -64,42 +69,55 @@ module _ (a : Arena) (ss : List Contents) (k : ℕ) (s : Contents) (e : k ≡ le
 
 -- ## An item that the innermost took
 
-module _ (a b : Arena) (ss ss' : List Contents) (h : IsReady a ss) (f : Form) (taken : (p : Place) → TakenOn a b p ss ss' f) where
-  abbrev last : ChangesLast stay ss ss'
-  last = (taken []).last
+ready_here : (a : Arena) (ss : List Contents) → IsReady a ss → AreReady a ss
+ready_here a ss h = record { some = h.some; each = h.usable; calm = calm_here a ss h.some h.calm }
 
-  module _ (keeps : Keeps a b last.old last.new) (live : last.new.spent ≡ false) where
-    -- the states may be used further
-    accepts_so : IsCalm (numbers_of b) (stack_of b last.new (outer_contexts a b ss ss' last)) → AcceptsItem a b ss ss' f
-    accepts_so calm =
-        let r = (stays a b ss ss' last h.usable keeps live calm).ready in
-        record { taken = taken; ready = record { some = r.some; usable = r.each; calm = calm_all b ss' r.calm }; arena = keeps.arena }
+module _ (a b : Arena) (ss ss' : List Contents) (h : IsReady a ss) (keeps : KeepsOn a b ss ss') (f : Form) (taken : (p : Place) → TakenOn a b p ss ss' f) (live : (taken []).new.spent ≡ false) where
+  abbrev t : TakenOn a b [] ss ss' f
+  t = taken []
 
-    -- what is read in one step leaves them calm
-    pub accepts_step : OneStep f → ItemRegular (context_of a last.old) f → AcceptsItem a b ss ss' f
-    accepts_step one regular =
-        let g = (taken []).grew in
-        accepts_so
-        (calm_grows (Under []) (numbers_of a) (numbers_of b) g.names [] (stack_on a last.outer last.old) (grown_numbers a b keeps.arena) g.given (h.calm last.outer last.old last.was)
-        last.old.features (stack_of b last.new (outer_contexts a b ss ss' last)) f regular (own_given b last.new keeps.stands)
-        (sym (one.read last.old.features (tree_maker (names_of g.names)) [] (stack_on a last.outer last.old)) ∙ g.grown))
+  -- the states may be used further
+  accepts_so : IsCalm (numbers_of b) (stack_in b ss') → AcceptsItem a b ss ss' f
+  accepts_so calm =
+      let r = (still_ready a b ss ss' (ready_here a ss h) keeps t.outer t.outer' t.old t.new t.was t.becomes t.same live calm).ready in
+      record { taken = taken; ready = record { some = r.some; usable = r.each; calm = calm_all b ss' r.calm }; arena = extends_on a b ss ss' h.some keeps }
 
-    -- a type is said to
-    pub accepts_calm : AreCalm b ss' → AcceptsItem a b ss ss' f
-    accepts_calm calm = accepts_so (subst (λ (cs : List Tree_context). IsCalm (numbers_of b) (stack_of b last.new cs)) (taken []).around (calm last.outer last.new last.becomes))
+  -- what is read in one step leaves them calm
+  pub accepts_step : OneStep f → ItemRegular (context_of a t.old) f → AcceptsItem a b ss ss' f
+  accepts_step one regular =
+      let own : Keeps a b t.old t.new = last_kept a b ss ss' (ready_here a ss h) keeps t.outer t.outer' t.old t.new t.was t.becomes t.same in
+      accepts_so
+      (subst (IsCalm (numbers_of b)) (sym (stack_at b ss' t.outer' t.new t.becomes))
+      (calm_grows (Under []) (numbers_of a) (numbers_of b) t.grew.names [] (stack_on a t.outer t.old) (grown_numbers a b own.arena) t.grew.given (h.calm t.outer t.old t.was)
+      t.old.features (stack_on b t.outer' t.new) f regular (own_given b t.new own.stands)
+      (sym (one.read t.old.features (tree_maker (names_of t.grew.names)) [] (stack_on a t.outer t.old)) ∙ t.grew.grown)))
+
+  -- a type is said to
+  pub accepts_calm : AreCalm b ss' → AcceptsItem a b ss ss' f
+  accepts_calm calm = accepts_so (subst (IsCalm (numbers_of b)) (sym (stack_at b ss' t.outer' t.new t.becomes)) (calm t.outer' t.new t.becomes))
 
 -- a state took it
 module _ (a b : Arena) (ss : List Contents) (k : ℕ) (s s' : Contents) (e : k ≡ length ss - 1) (i : s ≡ slice_index_or ss k s) (h : IsReady a ss) (f : Form) (one : OneStep f) (fit : AllFit a) (w : TakesItem a b s s' f) where
+  abbrev changed : ChangesLast stay ss (slice_set ss k s')
+  changed = last_changed ss k s s' h.some e (is_innermost ss k s h.some e i)
+
   abbrev taken_last : (p : Place) → TakenOn a b p ss (slice_set ss k s') f
-  taken_last p = record {
-    last = last_changed ss k s s' h.some e (is_innermost ss k s h.some e i);
-    around = around_same a b w.keeps.arena (around ss) (open_around a ss h.some h.usable);
-    grew = w.grew (contexts_around a (around ss)) p;
-    features = w.keeps.features;
-  }
+  taken_last p =
+      let same : contexts_around b (around ss) ≡ contexts_around a (around ss) = around_same a b w.keeps.arena (around ss) (open_around a ss h.some h.usable) in
+      record {
+        outer = around ss;
+        outer' = around ss;
+        old = s;
+        new = s';
+        was = changed.was;
+        becomes = changed.becomes;
+        same = refl;
+        grew = subst (λ (cs : List Tree_context). GrewAt a b (contexts_around a (around ss)) cs s s' f p) (sym same) (w.grew (contexts_around a (around ss)) p);
+        features = w.keeps.features;
+      }
 
   pub accepts_last : AcceptsItem a b ss (slice_set ss k s') f
-  accepts_last = accepts_step a b ss (slice_set ss k s') h f taken_last w.keeps w.live one (item_regular a s (last_open a ss k s e i h).stands fit f)
+  accepts_last = accepts_step a b ss (slice_set ss k s') h (kept a b ss (slice_set ss k s') changed h.usable w.keeps) f taken_last w.live one (item_regular a s (last_open a ss k s e i h).stands fit f)
 
 -- a state left it
 pub refuses_last : {M : Type 0} (a b : Arena) (ss : List Contents) (k : ℕ) (s : Contents) (e : k ≡ length ss - 1) (some : 0 < length ss) (i : s ≡ slice_index_or ss k s) (f : Form) (offset : ℕ) (x : Error M) →
@@ -114,25 +132,44 @@ refuses_last a b ss k s e some i f offset x w = record {
 -- ## Items over all states, and types
 
 module _ (a b : Arena) (ss ss' : List Contents) (h : IsReady a ss) (keeps : KeepsOn a b ss ss') where
-  kept_last : (last : ChangesLast stay ss ss') → Keeps a b last.old last.new
-  kept_last last =
-      subst (λ (s : Contents). Keeps a b s last.new) (ap innermost last.was ∙ innermost_at last.outer last.old)
-      (subst (Keeps a b (innermost ss)) (ap innermost last.becomes ∙ innermost_at last.outer last.new) (innermost_kept a b ss ss' h.some keeps))
-
   -- an item that is read in one step was taken
   module _ (f : Form) (one : OneStep f) (regular : (s : Contents) → ItemRegular (context_of a s) f) (built : is_plain f ≡ true) (left : (s : Contents) → IsFree (left_checks (context_of a s) f)) (grew : (p : Place) → GrewOn a b p ss ss' f) where
     abbrev one_taken : (p : Place) → TakenOn a b p ss ss' f
     one_taken p =
         let g = grew p in
         record {
-          last = g.last;
-          around = g.around;
-          grew = grew_here a b g.last.old g.last.new f one (contexts_around a g.last.outer) p built (left g.last.old) g.grew;
-          features = (kept_last g.last).features;
+          outer = g.last.outer;
+          outer' = g.last.outer;
+          old = g.last.old;
+          new = g.last.new;
+          was = g.last.was;
+          becomes = g.last.becomes;
+          same = refl;
+          grew = subst (λ (cs : List Tree_context). GrewAt a b (contexts_around a g.last.outer) cs g.last.old g.last.new f p) (sym g.around)
+              (grew_here a b g.last.old g.last.new f one (contexts_around a g.last.outer) p built (left g.last.old) g.grew);
+          features = (last_kept a b ss ss' (ready_here a ss h) keeps g.last.outer g.last.outer g.last.old g.last.new g.last.was g.last.becomes refl).features;
         }
 
     pub accepts_one : AcceptsItem a b ss ss' f
-    accepts_one = accepts_step a b ss ss' h f one_taken (kept_last (grew []).last) (grew []).grew.live one (regular (grew []).last.old)
+    accepts_one = accepts_step a b ss ss' h keeps f one_taken (grew []).grew.live one (regular (grew []).last.old)
+
+  -- an alias was
+  module _ (x : ComponentAlias) (built : is_built_alias x ≡ true) (left : IsFree (alias_left x)) (w : AliasedOn a b ss ss' x) where
+    abbrev alias_taken : (p : Place) → TakenOn a b p ss ss' (alias_item x)
+    alias_taken p = record {
+      outer = w.outer;
+      outer' = w.outer';
+      old = w.old;
+      new = w.new;
+      was = w.was;
+      becomes = w.becomes;
+      same = w.same;
+      grew = alias_grew a b ss ss' x p built left w;
+      features = (last_kept a b ss ss' (ready_here a ss h) keeps w.outer w.outer' w.old w.new w.was w.becomes w.same).features;
+    }
+
+    pub accepts_alias : AcceptsItem a b ss ss' (alias_item x)
+    accepts_alias = accepts_step a b ss ss' h keeps (alias_item x) alias_taken w.live (one_step (alias_item x) refl) tt
 
   -- a type was
   module _ (t : Type_form) (built : is_built_type t ≡ true) (left : IsFree (declared_left t)) (declares : (p : Place) → DeclaresOn true a b p ss ss' t) where
@@ -140,14 +177,19 @@ module _ (a b : Arena) (ss ss' : List Contents) (h : IsReady a ss) (keeps : Keep
     type_taken p =
         let g = declares p in
         record {
-          last = g.last;
-          around = g.around;
-          grew = type_grew a b (contexts_around a g.last.outer) p g.last.old t g.last.new built left g.declared;
-          features = (kept_last g.last).features;
+          outer = g.outer;
+          outer' = g.outer';
+          old = g.old;
+          new = g.new;
+          was = g.was;
+          becomes = g.becomes;
+          same = g.same;
+          grew = type_grew a b (contexts_around a g.outer) p g.old t (contexts_around b g.outer') g.new built left g.declared;
+          features = (last_kept a b ss ss' (ready_here a ss h) keeps g.outer g.outer' g.old g.new g.was g.becomes g.same).features;
         }
 
     pub accepts_type : AreCalm b ss' → AcceptsItem a b ss ss' (type_item t)
-    accepts_type calm = accepts_calm a b ss ss' h (type_item t) type_taken (kept_last (declares []).last) (declares []).declared.live calm
+    accepts_type calm = accepts_calm a b ss ss' h keeps (type_item t) type_taken (declares []).declared.live calm
 
 -- the innermost is the same state
 same_innermost : {M : Type 0} (a b : Arena) (ss : List Contents) (f : Form) (p : Place) (offset : ℕ) (x : Error M) (outer outer' : List Contents) (s s' : Contents) → ss ≡ outer ++ s ∷ [] → ss ≡ outer' ++ s' ∷ [] →
@@ -170,7 +212,7 @@ module _ {M : Type 0} (a b : Arena) (ss ss' : List Contents) (some : 0 < length 
   refuses_type t w = record {
     refused = λ outer s e p.
         let r = w p in
-        same_innermost a b ss (type_item t) p offset x r.last.outer outer r.last.old s r.last.was e (type_caused a b (contexts_around a r.last.outer) p r.last.old t offset x r.caused);
+        same_innermost a b ss (type_item t) p offset x r.outer outer r.old s r.was e (type_caused a b (contexts_around a r.outer) p r.old t offset x r.caused);
     arena = extends_on a b ss ss' some keeps;
   }
 

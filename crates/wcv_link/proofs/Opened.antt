@@ -91,7 +91,7 @@ unnamed-free (e ∷ es) r (inl f) = inl f
 unnamed-free (e ∷ es) r (inr f) = inr (unnamed-free es r f)
 
 -- what is free in an export of an instance is free in the instance
-instance-free : (t : Type_tree) (r : Name) → sort t ≡ is_instance → OwnsNothing t → FreeAmong r (named_exports t) → Free r t
+pub instance-free : (t : Type_tree) (r : Name) → sort t ≡ is_instance → OwnsNothing t → FreeAmong r (named_exports t) → Free r t
 instance-free (node (instance i own) ps) r e w f = inr (ap (λ (rs : List Name). member r rs) w, exports-free ps r (unnamed-free (exports_in ps) r f))
 instance-free (node nothing ps) r e w f = absurd (cc)
 instance-free (node (primitive p) ps) r e w f = absurd (cc)
@@ -367,7 +367,7 @@ module _ (gs : List Group) where
         Free q t ⊎ (FreeAmong q args ⊎ Has (instantiated_resources names_by_place p t) q)
     free-instantiated (node (component i ins outs) ps) b w o q f =
         free-of (component i ins outs) ps o (λ r e. unowned (member r (firsts ins)) (member r (firsts outs)) (argument_for args (node (component i ins outs) ps) r) (at p r) e)
-        (λ r z e. component-comes i ins outs ps w.1 o r z (member r (firsts ins)) (member r (firsts outs)) refl refl e) q f
+        (λ r z e. component-comes i ins outs ps w.0.1.0 o r z (member r (firsts ins)) (member r (firsts outs)) refl refl e) q f
     free-instantiated (node (instance i own) ps) b w o q f = free-of (instance i own) ps o (λ r e. ap (λ (rs : List Name). member r rs) b.0) (λ r z e. cc) q f
     free-instantiated (node nothing ps) b w o q f = free-of nothing ps o (λ r e. refl) (λ r z e. cc) q f
     free-instantiated (node (primitive x) ps) b w o q f = free-of (primitive x) ps o (λ r e. refl) (λ r z e. cc) q f

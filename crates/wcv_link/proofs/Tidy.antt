@@ -1,5 +1,5 @@
--- What items keep of the types in a context: what is known by an identity is one type, both types of an entity are alike, instances that
--- are entries own nothing, and no component both imports and defines a resource.
+-- What items keep of the types in the open contexts: what is known by an identity is one type, both types of an entity are alike,
+-- instances that are entries own nothing, no component both imports and defines a resource, nodes are formed, and names differ.
 use Rattle.std.proofs.Common.{◌≡◌, ℕ, suc, Bool, true, false, cond, refl, ap, Option, Some, None, inl, inr}
 use Rattle.std.proofs.lemmas.List.Elements.{All-nil}
 use Rattle.wcv_core.specs.Names.{Name, Place, number, stamp, base, at, stamped, aside, member, same_place, deeper}
@@ -7,17 +7,21 @@ use Rattle.wcv_core.proofs.Names.{same_place-true, same_place-refl}
 use Rattle.wcv_types.specs.Identity.{of_node, identity_at}
 use Rattle.wcv_types.specs.Tree.{Head, resource, component, node, Parts, none, firsts}
 use Rattle.wcv_types.specs.Unfold.{Type_tree}
-use Rattle.wcv_matching.specs.Orderly.{EachNode, EachNodeIn}
+use Rattle.wcv_matching.specs.Formed.{IsFormed}
+use Rattle.wcv_matching.specs.Orderly.{EachNode, EachNodeIn, AreNamedApart}
 use Rattle.wcv_lower.specs.Context.{Kind, empty}
-use Rattle.wcv_lower.specs.Owned.{AllEntries}
+use Rattle.wcv_lower.specs.Even.{IsLevel}
+use Rattle.wcv_lower.specs.Owned.{AllEntries, Everywhere}
 use Rattle.wcv_lower.specs.Step.{Step, apply}
 use Rattle.wcv_lower.specs.Trees.{Tree_context, Tree_stack, tree_reader}
+use Rattle.wcv_lower.proofs.Applied.{applied_has}
 use Rattle.wcv_lower.proofs.Bringing.{AllBring}
 use Rattle.wcv_lower.proofs.EvenTypes.{each_weaker}
 use Rattle.wcv_link.proofs.Alike.{IsAlike}
 use Rattle.wcv_link.proofs.Bare.{OwnsNothing, EntriesOwnNothing, IsBare, AreBare}
-use Rattle.wcv_link.proofs.Known.{Any, apply-has, entries-weaker}
+use Rattle.wcv_link.proofs.Known.{Any, entries-weaker}
 use Rattle.wcv_link.proofs.Placed.{PlacedAt, PlacedUnder, PlacedBefore, placed_here, later, by_this_item, in_list, not_yet, not_in_list}
+use Rattle.wcv_link.proofs.SideNames.{AllSidesDiffer}
 
 -- ## Types
 
@@ -42,6 +46,10 @@ pub record IsTidy (g : Known) (h : Head Name Name) (ps : Parts Name Name) : Type
   pub bare : EntriesOwnNothing ps
   pub apart : HeadApart h
   pub plain : IsPlain h ps
+  -- it is formed, but for the heights in a type entity
+  pub formed : IsLevel h ps → IsFormed h ps
+  -- no two imports, and no two exports have one name
+  pub named : AreNamedApart ps
   -- the node is the one that its identity stands for
   pub one : (i : Name) → identity_at h ≡ Some (of_node i) → g i ≡ Some (node h ps)
 
@@ -84,8 +92,12 @@ knows-same p g = record { more = λ i t e. e; late = λ i u e. e }
 pub knows-both : (p : Place) (g f e : Known) → KnowsMore p g f → KnowsMore p f e → KnowsMore p g e
 knows-both p g f e v w = record { more = λ i t q. w.more i t (v.more i t q); late = λ i u q. w.late i u (v.late i u q) }
 
+-- a tidy node is tidy where it is known
+pub tidy-known : (g f : Known) (h : Head Name Name) (ps : Parts Name Name) → IsTidy g h ps → ((i : Name) → g i ≡ Some (node h ps) → f i ≡ Some (node h ps)) → IsTidy f h ps
+tidy-known g f h ps x m = record { alike = x.alike; bare = x.bare; apart = x.apart; plain = x.plain; formed = x.formed; named = x.named; one = λ i e. m i (x.one i e) }
+
 pub tidy-more : (g f : Known) → KnownMore g f → (t : Type_tree) → TidyType g t → TidyType f t
-tidy-more g f m t w = each_weaker (IsTidy g) (IsTidy f) (λ h ps x. record { alike = x.alike; bare = x.bare; apart = x.apart; plain = x.plain; one = λ i e. m i (node h ps) (x.one i e) }) t w
+tidy-more g f m t w = each_weaker (IsTidy g) (IsTidy f) (λ h ps x. tidy-known g f h ps x (λ i e. m i (node h ps) e)) t w
 
 pub entry-more : (g f : Known) → KnownMore g f → (t : Type_tree) → TidyEntry g t → TidyEntry f t
 entry-more g f m t w = (w.0, tidy-more g f m t w.1)
@@ -164,56 +176,62 @@ pub record BringsTidy (p : Place) (g : Known) (x : Step tree_reader) : Type 0 wh
 pub brings-known : (p : Place) (g : Known) (x : Step tree_reader) → AllBring (TidyEntry g) Any x → BringsTidy p g x
 brings-known p g x w = record { known = g; more = knows-same p g; brings = w }
 
--- the entries of the context are tidy behind an item there
-pub record TidyBehind (p : Place) (g : Known) (c : Tree_context) : Type 0 where
+-- so are all entries of the open contexts, where more is known
+pub everywhere-more : (g f : Known) → KnownMore g f → (s : Tree_stack) → Everywhere (TidyEntry g) s → Everywhere (TidyEntry f) s
+everywhere-more g f m s h j c e = entries-weaker (TidyEntry g) (TidyEntry f) c (λ t y. entry-more g f m t y) (h j c e)
+
+-- the entries of the open contexts are tidy behind an item there
+pub record TidyBehind (p : Place) (g : Known) (s : Tree_stack) : Type 0 where
   pub known : Known
   pub more : KnowsMore p g known
-  pub tidy : AllEntries (TidyEntry known) c
+  pub tidy : Everywhere (TidyEntry known) s
 
-pub apply-tidy : (p : Place) (g : Known) (x : Step tree_reader) (s : Tree_stack) → AllEntries (TidyEntry g) s.top → BringsTidy p g x → TidyBehind p g (apply x s).top
+pub apply-tidy : (p : Place) (g : Known) (x : Step tree_reader) (s : Tree_stack) → Everywhere (TidyEntry g) s → BringsTidy p g x → TidyBehind p g (apply x s)
 apply-tidy p g x s h w = record {
   known = w.known;
   more = w.more;
-  tidy = apply-has (TidyEntry w.known) x s w.brings (entries-weaker (TidyEntry g) (TidyEntry w.known) s.top (λ t y. entry-more g w.known w.more.more t y) h);
+  tidy = applied_has (TidyEntry w.known) Any x s (everywhere-more g w.known w.more.more s h) w.brings;
 }
 
 -- ## Lists of items
 
--- what holds of the context before the item at position k of the list at place w, where that much was known before the list
-pub record Tidy (w : Place) (k : ℕ) (g : Known) (c : Tree_context) : Type 0 where
+-- what holds of the stack before the item at position k of the list at place w, where that much was known before the list
+pub record Tidy (w : Place) (k : ℕ) (g : Known) (s : Tree_stack) : Type 0 where
   pub known : Known
   pub more : KnownMore g known
   pub late : (i : Name) → (PlacedBefore w k i → ⊥) → g i ≡ None → known i ≡ None
-  pub tidy : AllEntries (TidyEntry known) c
+  pub tidy : Everywhere (TidyEntry known) s
+  pub differ : AllSidesDiffer s
 
-pub empty-tidy : (w : Place) (k : Kind) (g : Known) → Tidy w 0 g (empty tree_reader k)
-empty-tidy w k g = record {
-  known = g;
-  more = λ i t e. e;
-  late = λ i u e. e;
-  tidy = record { core = λ j. All-nil (TidyEntry g); space = λ j. All-nil (TidyEntry g); side = λ d. All-nil (λ e. TidyEntry g e.1) };
-}
+-- before the first
+pub first-tidy : (w : Place) (g : Known) (s : Tree_stack) → Everywhere (TidyEntry g) s → AllSidesDiffer s → Tidy w 0 g s
+first-tidy w g s h d = record { known = g; more = λ i t e. e; late = λ i u e. e; tidy = h; differ = d }
 
-module _ (w : Place) (k : ℕ) (g : Known) (c : Tree_context) where
+-- nothing stands in an empty context
+pub empty-tidy : (g : Known) (k : Kind) → AllEntries (TidyEntry g) (empty tree_reader k)
+empty-tidy g k = record { core = λ j. All-nil (TidyEntry g); space = λ j. All-nil (TidyEntry g); side = λ d. All-nil (λ e. TidyEntry g e.1) }
+
+module _ (w : Place) (k : ℕ) (g : Known) (s : Tree_stack) where
   -- what that item gives is not known yet
-  pub tidy-ready : NoneKnown w g → (y : Tidy w k g c) → NoneKnown (deeper w k) y.known
+  pub tidy-ready : NoneKnown w g → (y : Tidy w k g s) → NoneKnown (deeper w k) y.known
   tidy-ready n y i u = y.late i (λ b. not_yet w k i u b) (n i (in_list w (suc k) i (by_this_item w k i u)))
 
   -- nor, behind the items, what is given at the list's own place
-  pub tidy-here : NoneKnown w g → (y : Tidy w k g c) → NoneAt w y.known
+  pub tidy-here : NoneKnown w g → (y : Tidy w k g s) → NoneAt w y.known
   tidy-here n y i x = y.late i (λ b. not_in_list w k i x b) (n i (placed_here w i x))
 
   -- what is known besides is given inside that place
-  pub tidy-knows : (y : Tidy w k g c) → KnowsMore w g y.known
+  pub tidy-knows : (y : Tidy w k g s) → KnowsMore w g y.known
   tidy-knows y = record { more = y.more; late = λ i u e. y.late i (λ b. u (in_list w k i b)) e }
 
   -- the item at that position
-  pub tidy-next : (d : Tree_context) (y : Tidy w k g c) → TidyBehind (deeper w k) y.known d → Tidy w (suc k) g d
-  tidy-next d y b = record {
+  pub tidy-next : (t : Tree_stack) (y : Tidy w k g s) → TidyBehind (deeper w k) y.known t → AllSidesDiffer t → Tidy w (suc k) g t
+  tidy-next t y b d = record {
     known = b.known;
-    more = λ i t e. b.more.more i t (y.more i t e);
+    more = λ i u e. b.more.more i u (y.more i u e);
     late = λ i n e. b.more.late i (λ u. n (by_this_item w k i u)) (y.late i (λ x. n (later w k i x)) e);
     tidy = b.tidy;
+    differ = d;
   }
 
 -- an entry is bare

@@ -1,18 +1,23 @@
 -- What is tidy under other names is tidy under those before, and what is free in its entries is listed there.
-use Rattle.std.proofs.Common.{◌≡◌, ℕ, List, [], ◌∷◌, ◌||◌, map, refl, sym, ◌∙◌, ap, Some}
+use Rattle.std.proofs.Common.{◌≡◌, ℕ, List, [], ◌∷◌, ◌||◌, map, bytes_eq, refl, sym, ◌∙◌, ap, subst, Some}
+use Rattle.std.specs.List.{IsDistinct}
+use Rattle.std.specs.Map.{keys_of}
 use Rattle.std.specs.Option.{option_map}
 use Rattle.wcv_core.specs.Names.{Name, member}
 use Rattle.wcv_types.specs.Identity.{rename_identity}
 use Rattle.wcv_types.specs.Rename.{rename_head, rename, rename_parts, rename_paths}
 use Rattle.wcv_types.specs.Resources.{Free}
-use Rattle.wcv_types.specs.Tree.{Extern_name, Head, here, label, import, export, core_import, core_export, nothing, resource, instance, component, type_entity, node, Parts, none, part, owned_at, owned, firsts}
+use Rattle.wcv_types.specs.Tree.{Text, Extern_name, Head, here, label, import, export, core_import, core_export, nothing, resource, instance, component, type_entity, core_module, core_item, node, Parts, none, part, owned_at, owned, firsts}
 use Rattle.wcv_types.specs.Unfold.{Type_tree}
 use Rattle.wcv_types.proofs.All.{all-mapped_back}
 use Rattle.wcv_types.proofs.FreeRenamed.{free-renamed}
 use Rattle.wcv_types.proofs.Identity.{same_under, identity-same}
 use Rattle.wcv_types.proofs.Renaming.{each-always}
 use Rattle.wcv_types.proofs.UpToRenaming.{back_again}
-use Rattle.wcv_matching.specs.Orderly.{EachNodeIn}
+use Rattle.wcv_matching.specs.Formed.{ExportsAlone, SidesAlone, IsItem, ItemsAlone, IsFormed}
+use Rattle.wcv_matching.specs.Matching.{named_exports_in, named_imports_in}
+use Rattle.wcv_matching.specs.Orderly.{EachNodeIn, AreNamedApart}
+use Rattle.wcv_lower.specs.Even.{IsLevel}
 use Rattle.wcv_lower.specs.Mapped.{map_context}
 use Rattle.wcv_lower.specs.Owned.{AllEntries}
 use Rattle.wcv_lower.specs.Renamed.{Renaming, renaming}
@@ -21,7 +26,7 @@ use Rattle.wcv_lower.proofs.Renamed.{member-renamed}
 use Rattle.wcv_lower.proofs.TreeLaws.{sort-renamed}
 use Rattle.wcv_link.proofs.Alike.{SameKind, IsAlike}
 use Rattle.wcv_link.proofs.Bare.{OwnsNothing, EntriesOwnNothing}
-use Rattle.wcv_link.proofs.Known.{Within, Fine, In, IsFine, in-renamed_back}
+use Rattle.wcv_link.proofs.Known.{Within, In, in-renamed_back}
 use Rattle.wcv_link.proofs.Tidy.{Known, HeadApart, IsPlain, IsTidy, TidyType, TidyEntry}
 
 module _ (w : Renaming) where
@@ -104,6 +109,61 @@ module _ (w : Renaming) where
   plain-renamed_back (resource r s) ps e = no_parts ps e
   plain-renamed_back _ ps e = tt
 
+  -- it is formed as before
+  exports-renamed_back : (ps : Parts Name Name) → ExportsAlone (rename_parts f g ps) → ExportsAlone ps
+  exports-renamed_back none w = tt
+  exports-renamed_back (part (export n) t ps) w = exports-renamed_back ps w
+  exports-renamed_back (part k t ps) w = absurd w
+
+  sides-renamed_back : (ps : Parts Name Name) → SidesAlone (rename_parts f g ps) → SidesAlone ps
+  sides-renamed_back none w = tt
+  sides-renamed_back (part (import n) t ps) w = sides-renamed_back ps w
+  sides-renamed_back (part (export n) t ps) w = sides-renamed_back ps w
+  sides-renamed_back (part k t ps) w = absurd w
+
+  item-renamed_back : (t : Type_tree) → IsItem (to t) → IsItem t
+  item-renamed_back (node (core_item x) none) w = (x, refl)
+  item-renamed_back (node (core_item x) (part k t ps)) w = let e = w.1 in absurd (cc)
+  item-renamed_back (node h ps) w = let e = w.1 in absurd (cc)
+
+  items-renamed_back : (ps : Parts Name Name) → ItemsAlone (rename_parts f g ps) → ItemsAlone ps
+  items-renamed_back none w = tt
+  items-renamed_back (part (core_import a n) t ps) w = (item-renamed_back t w.0, items-renamed_back ps w.1)
+  items-renamed_back (part (core_export n) t ps) w = (item-renamed_back t w.0, items-renamed_back ps w.1)
+  items-renamed_back (part k t ps) w = absurd w
+
+  formed-renamed_back : (h : Head Name Name) (ps : Parts Name Name) → (IsLevel (rename_head f g h) (rename_parts f g ps) → IsFormed (rename_head f g h) (rename_parts f g ps)) → IsLevel h ps → IsFormed h ps
+  formed-renamed_back type_entity none w l = w l
+  formed-renamed_back type_entity (part k t none) w l = w l
+  formed-renamed_back type_entity (part k t (part o u none)) w l = l
+  formed-renamed_back type_entity (part k t (part o u (part q x ps))) w l = w l
+  formed-renamed_back (instance i own) ps w l = exports-renamed_back ps (w tt)
+  formed-renamed_back (component i ins outs) ps w l = sides-renamed_back ps (w tt)
+  formed-renamed_back (core_module i n) ps w l = items-renamed_back ps (w tt)
+  formed-renamed_back h ps w l = tt
+
+  -- and its imports and exports have the names that they had
+  imports-same : (ps : Parts Name Name) → keys_of (named_imports_in (rename_parts f g ps)) ≡ keys_of (named_imports_in ps)
+  imports-same none = refl
+  imports-same (part (import n) t ps) = ap (λ (ks : List Text). n.name ∷ ks) (imports-same ps)
+  imports-same (part (export n) t ps) = imports-same ps
+  imports-same (part here t ps) = imports-same ps
+  imports-same (part (label l) t ps) = imports-same ps
+  imports-same (part (core_import m n) t ps) = imports-same ps
+  imports-same (part (core_export n) t ps) = imports-same ps
+
+  exports-same : (ps : Parts Name Name) → keys_of (named_exports_in (rename_parts f g ps)) ≡ keys_of (named_exports_in ps)
+  exports-same none = refl
+  exports-same (part (export n) t ps) = ap (λ (ks : List Text). n.name ∷ ks) (exports-same ps)
+  exports-same (part (import n) t ps) = exports-same ps
+  exports-same (part here t ps) = exports-same ps
+  exports-same (part (label l) t ps) = exports-same ps
+  exports-same (part (core_import m n) t ps) = exports-same ps
+  exports-same (part (core_export n) t ps) = exports-same ps
+
+  named-renamed_back : (ps : Parts Name Name) → AreNamedApart (rename_parts f g ps) → AreNamedApart ps
+  named-renamed_back ps w = (subst (IsDistinct bytes_eq) (imports-same ps) w.0, subst (IsDistinct bytes_eq) (exports-same ps) w.1)
+
   -- ## Types
 
   module _ (k : Known) where
@@ -116,6 +176,8 @@ module _ (w : Renaming) where
       bare = bare-renamed_back ps a.bare;
       apart = apart-renamed_back h a.apart;
       plain = plain-renamed_back h ps a.plain;
+      formed = formed-renamed_back h ps a.formed;
+      named = named-renamed_back ps a.named;
       one = λ i e. known-renamed_back i (node h ps) (a.one (g i) (identity-same f g h ∙ ap (option_map (rename_identity f g)) e));
     }
 
@@ -150,5 +212,5 @@ module _ (w : Renaming) where
     free-renamed_in r t = free-renamed f w.resources.back g (λ i. Unit {0}) r t (each-always (λ (q : Name). w.resources.back (f q) ≡ q) (λ (i : Name). Unit {0}) w.resources.is_back (λ i. tt) t)
 
     -- what is free in an entry is listed
-    pub within-renamed_back : IsFine d → AllEntries (Within (In c)) c
-    within-renamed_back = entries-renamed_back (Fine (In d)) (Within (In c)) (λ t h r x. in-renamed_back w c r (h.0 (f r) (free-renamed_in r t x)))
+    pub within-renamed_back : AllEntries (Within (In d)) d → AllEntries (Within (In c)) c
+    within-renamed_back = entries-renamed_back (Within (In d)) (Within (In c)) (λ t h r x. in-renamed_back w c r (h (f r) (free-renamed_in r t x)))

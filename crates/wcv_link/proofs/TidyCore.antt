@@ -20,6 +20,7 @@ use Rattle.wcv_types.specs.Measure.{size}
 use Rattle.wcv_types.specs.Tree.{Text, is_func, here, core_import, core_export, core_imports, core_exports, core_module, core_instance, core_type, core_item, sub_type, node, none, part}
 use Rattle.wcv_types.specs.Unfold.{capped}
 use Rattle.wcv_types.proofs.Lists.{some-inj}
+use Rattle.wcv_matching.specs.Formed.{ItemsAlone}
 use Rattle.wcv_lower.specs.Canons.{func_joins, canon_step}
 use Rattle.wcv_lower.specs.Checks.{is_none}
 use Rattle.wcv_lower.specs.Context.{in_funcs, Core_space, core_types, core_funcs, core_modules, core_instances}
@@ -35,13 +36,31 @@ use Rattle.wcv_link.proofs.Bare.{OwnsNothing}
 use Rattle.wcv_link.proofs.CanonGrowing.{canon-holds}
 use Rattle.wcv_link.proofs.CoreGrowing.{if-some}
 use Rattle.wcv_link.proofs.Known.{mapped-some, all-get, Any}
+use Rattle.wcv_link.proofs.SideNames.{no-names}
 use Rattle.wcv_link.proofs.Tidy.{Known, TidyType, TidyEntry, NoneAt, BringsTidy, brings-known}
-use Rattle.wcv_link.proofs.TidyTypes.{AreTidy, leaf-tidy, one-more, with_node, knows-node, node-tidy, NodeTidy, plain-tidy}
+use Rattle.wcv_link.proofs.TidyTypes.{AreInner, inner-named, AreTidy, leaf-tidy, one-more, with_node, knows-node, node-tidy, NodeTidy, plain-tidy}
+
+-- the parts of a core module, and of a core instance
+exports-inner : (es : List (Text × EntityType)) → AreInner (core_exports es none)
+exports-inner [] = tt
+exports-inner (e ∷ es) = (tt, exports-inner es)
+
+imports-inner : (is : List ((Text × Text) × EntityType)) (es : List (Text × EntityType)) → AreInner (core_imports is (core_exports es none))
+imports-inner [] es = exports-inner es
+imports-inner (i ∷ is) es = (tt, imports-inner is es)
+
+exports-alone : (es : List (Text × EntityType)) → ItemsAlone (core_exports es none)
+exports-alone [] = tt
+exports-alone (e ∷ es) = ((e.1, refl), exports-alone es)
+
+items-alone : (is : List ((Text × Text) × EntityType)) (es : List (Text × EntityType)) → ItemsAlone (core_imports is (core_exports es none))
+items-alone [] es = exports-alone es
+items-alone (i ∷ is) es = ((i.1, refl), items-alone is es)
 
 module _ (g : Known) where
   -- core items
   item-tidy : (e : EntityType) → TidyEntry g (node (core_item e) none)
-  item-tidy e = (refl, leaf-tidy g (core_item e) tt tt (λ i q. cc))
+  item-tidy e = (refl, leaf-tidy g (core_item e) tt tt tt (λ i q. cc))
 
   exports-tidy : (es : List (Text × EntityType)) → AreTidy g (core_exports es none)
   exports-tidy [] = (tt, tt)
@@ -54,7 +73,7 @@ module _ (g : Known) where
   -- core types
   types-bring : (is : List ℕ) → AllBring (TidyEntry g) Any (types_join tree_reader is)
   types-bring [] = All-nil (Brings (TidyEntry g) Any)
-  types-bring (i ∷ is) = brings_more (TidyEntry g) Any (core_appends core_types (sub_type i)) (types_join tree_reader is) (refl, leaf-tidy g (core_type i) tt tt (λ n q. cc)) (types-bring is)
+  types-bring (i ∷ is) = brings_more (TidyEntry g) Any (core_appends core_types (sub_type i)) (types_join tree_reader is) (refl, leaf-tidy g (core_type i) tt tt tt (λ n q. cc)) (types-bring is)
 
 module _ (p : Place) (s : Tree_stack) (g : Known) (y : AllEntries (TidyEntry g) s.top) (unknown : NoneAt p g) where
   closed-tidy : (c : Group) → BringsTidy p g (closed_step tree_reader s.groups c)
@@ -69,7 +88,8 @@ module _ (p : Place) (s : Tree_stack) (g : Known) (y : AllEntries (TidyEntry g) 
       joins m =
           let t : Type_tree = module_tree (base p) m.1 in
           let f : Known = with_node p g t in
-          let w : TidyType f t = node-tidy p g unknown (core_module (base p) (capped m.1.size)) (core_imports m.1.imports (core_exports m.1.exports none)) refl tt (imports-tidy g m.1.imports m.1.exports) in
+          let w : TidyType f t = node-tidy p g unknown (core_module (base p) (capped m.1.size)) (core_imports m.1.imports (core_exports m.1.exports none)) refl tt (items-alone m.1.imports m.1.exports)
+          (inner-named (core_imports m.1.imports (core_exports m.1.exports none)) (imports-inner m.1.imports m.1.exports)) (imports-tidy g m.1.imports m.1.exports) in
           record {
             known = f;
             more = knows-node p g unknown t;
@@ -107,14 +127,14 @@ module _ (p : Place) (s : Tree_stack) (g : Known) (y : AllEntries (TidyEntry g) 
       let t = mapped-some core_instance_node (core_module_at s.top i) m.0 o in
       let w : TidyEntry g t.0 = all-get (TidyEntry g) (s.top.core core_modules) i t.0 (y.core core_modules) t.1 in
       subst (BringsTidy p g) m.2
-      (subst Joins t.2 (instance-joins (core_instance_node t.0) refl (node-tidy p g unknown (core_instance (base p) (capped (suc (size t.0)))) (part here t.0 none) refl tt (one-more g here t.0 none w (tt, tt)))))
+      (subst Joins t.2 (instance-joins (core_instance_node t.0) refl (node-tidy p g unknown (core_instance (base p) (capped (suc (size t.0)))) (part here t.0 none) refl tt tt (no-names, no-names) (one-more g here t.0 none w (tt, tt)))))
   core_instance-tidy (core_bag es) x e =
       let m = mapped-some joins_as (core_instance_made s (core_bag es)) x e in
       let k : ℕ = listed_size s.groups (items_listed s.top es) in
       let n : New_node tree_reader = core_exports_node k (items_listed s.top es) in
       let o = if-some (list_all (λ (e : Export). not (is_none (item_listed s.top e))) es) (Some n) m.0 m.1 in
       subst (BringsTidy p g) m.2
-      (subst Joins (some-inj o) (instance-joins n refl (node-tidy p g unknown (core_instance (base p) (capped k)) (core_exports (items_listed s.top es) none) refl tt (exports-tidy g (items_listed s.top es)))))
+      (subst Joins (some-inj o) (instance-joins n refl (node-tidy p g unknown (core_instance (base p) (capped k)) (core_exports (items_listed s.top es) none) refl tt tt (inner-named (core_exports (items_listed s.top es) none) (exports-inner (items_listed s.top es))) (exports-tidy g (items_listed s.top es)))))
 
   -- ## Aliases
 

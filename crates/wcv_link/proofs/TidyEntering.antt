@@ -1,5 +1,5 @@
 -- What an import or an export brings to a context is tidy.
-use Rattle.std.proofs.Common.{◌≡◌, ℕ, refl, subst, Some, None}
+use Rattle.std.proofs.Common.{◌≡◌, ℕ, refl, sym, ◌∙◌, subst, Some, None}
 use Rattle.std.specs.Prelude.{slice_get, Option}
 use Rattle.std.specs.Option.{option_map}
 use Rattle.wcv_core.specs.Names.{Place}
@@ -9,6 +9,7 @@ use Rattle.wcv_syntax.specs.declared.component_type.TypeBounds.TheVariants as bo
 use Rattle.wcv_syntax.specs.declared.instance.ComponentExternalKind.{ComponentExternalKind}
 use Rattle.wcv_syntax.specs.declared.instance.ComponentExternalKind.TheVariants as kind
 use Rattle.wcv_syntax.specs.declared.name.ComponentExport.{ComponentExport}
+use Rattle.wcv_types.specs.Led.{Led}
 use Rattle.wcv_types.specs.Tree.{Extern_name, is_func, is_instance, is_component}
 use Rattle.wcv_types.proofs.Lists.{some-inj}
 use Rattle.wcv_lower.specs.Context.{Space, in_types, in_funcs, in_values, in_instances, in_components, core_modules, Side}
@@ -19,14 +20,18 @@ use Rattle.wcv_lower.specs.Owned.{AllEntries}
 use Rattle.wcv_lower.specs.Step.{enters, Brought, bare}
 use Rattle.wcv_lower.specs.Trees.{Type_tree, type_entry, referenced, Tree_context, tree_reader, tree_maker}
 use Rattle.wcv_lower.specs.Values.{type_at, type_of_sort}
-use Rattle.wcv_link.proofs.Growing.{Ready}
-use Rattle.wcv_link.proofs.Known.{mapped-some, then-some, all-get, In, enters-bring}
-use Rattle.wcv_link.proofs.Looking.{sorted-fine, sorted-sort}
-use Rattle.wcv_link.proofs.Tidy.{Known, TidyEntry, NoneKnown, none-at, BringsTidy}
+use Rattle.wcv_link.proofs.Bare.{bare-instance}
+use Rattle.wcv_link.proofs.Known.{mapped-some, then-some, all-get, enters-bring}
+use Rattle.wcv_link.proofs.Looking.{sorted-here}
+use Rattle.wcv_link.proofs.Tidy.{Known, TidyEntry, NoneKnown, none-at, BringsTidy, entry-bare}
 use Rattle.wcv_link.proofs.TidyInstances.{instance_of-tidy}
 use Rattle.wcv_link.proofs.TidyTypes.{TidyThere, tidy-before, created-tidy, reference-tidy, referenced-tidy, type-tidy, sorted-tidy, plain-tidy, module-tidy, again-tidy}
 
-module _ (p : Place) (c : Tree_context) (h : Ready p c) (g : Known) (y : AllEntries (TidyEntry g) c) (unknown : NoneKnown p g) where
+-- paths lead to what the instance types own that stand at an index
+abbrev pub LeadsIn : Tree_context → Type 0
+LeadsIn c = (k : ℕ) (t : Type_tree) → type_of_sort is_instance c k ≡ Some t → Led t
+
+module _ (p : Place) (c : Tree_context) (leads : LeadsIn c) (g : Known) (y : AllEntries (TidyEntry g) c) (unknown : NoneKnown p g) where
   abbrev IsTidyBrought : Brought tree_reader → Type 0
   IsTidyBrought b = TidyThere p g b.entity
 
@@ -42,7 +47,7 @@ module _ (p : Place) (c : Tree_context) (h : Ready p c) (g : Known) (y : AllEntr
       subst IsTidyBrought m.2 (tidy-before p g m.0 (plain-tidy g c y is_component k m.0 refl m.1))
   written-tidy (ref.Instance k) b e =
       let m = mapped-some (tree_maker names_by_place p).instance_of (type_of_sort is_instance c k) b e in
-      subst IsTidyBrought m.2 (instance_of-tidy p g m.0 (sorted-sort (In c) c h.fine is_instance k m.0 m.1) (sorted-fine (In c) c h.fine is_instance k m.0 m.1).1 (sorted-tidy g c y is_instance k m.0 m.1) unknown)
+      subst IsTidyBrought m.2 (instance_of-tidy p g m.0 (sorted-here is_instance (type_at c k) m.0 m.1).1 (leads k m.0 m.1) (sorted-tidy g c y is_instance k m.0 m.1) unknown)
   written-tidy (ref.Ty (bounds.Eq k)) b e =
       let m = mapped-some (again_brought (tree_maker names_by_place p)) (type_at c k) b e in
       subst IsTidyBrought m.2 (again-tidy p g (none-at p g unknown) m.0 (type-tidy g c y k m.0 m.1))
@@ -66,7 +71,10 @@ module _ (p : Place) (c : Tree_context) (h : Ready p c) (g : Known) (y : AllEntr
       subst IsTidyBrought m.2 (again-tidy p g (none-at p g unknown) (referenced m.0) (referenced-tidy g m.0 (all-get (TidyEntry g) (c.space in_types) i m.0 (y.space in_types) m.1)))
   export-tidy kind.Func i b e = item-tidy in_funcs i b e
   export-tidy kind.Value i b e = item-tidy in_values i b e
-  export-tidy kind.Instance i b e = item-tidy in_instances i b e
+  export-tidy kind.Instance i b e =
+      let m = mapped-some (tree_maker names_by_place p).instance_of (slice_get (c.space in_instances) i) b e in
+      let w : TidyEntry g m.0 = all-get (TidyEntry g) (c.space in_instances) i m.0 (y.space in_instances) m.1 in
+      subst IsTidyBrought (sym (bare-instance names_by_place p m.0 (entry-bare g m.0 w).0) ∙ m.2) (tidy-before p g m.0 w)
   export-tidy kind.Component i b e = item-tidy in_components i b e
   export-tidy kind.Module i b e =
       let m = mapped-some (bare tree_reader) (slice_get (c.core core_modules) i) b e in

@@ -1,68 +1,89 @@
--- A declared type: its context stays tidy declaration by declaration, and its node joins the types of the context around it. So items
--- keep a context tidy.
-use Rattle.std.proofs.Common.{◌≡◌, ℕ, suc, List, ◌∷◌, map, Bool, true, false, cond, refl, sym, subst, Some, None}
+-- Declared types, and so items: the stack settles and stays tidy declaration by declaration, and the node of a type joins the types of the
+-- context around it.
+use Rattle.std.proofs.Common.{◌≡◌, ℕ, zero, suc, List, [], ◌++◌, map, Bool, true, false, cond, refl, ◌∙◌, ap, subst, Some, None}
 use Rattle.std.specs.Option.{option_map}
-use Rattle.std.proofs.lemmas.Bool.{false≢true}
 use Rattle.wcv_core.specs.Names.{Name, Place, base, deeper, member}
 use Rattle.wcv_core.specs.declared.features.WasmFeatures.{WasmFeatures}
 use Rattle.wcv_core.proofs.Names.{and_left, and_right}
-use Rattle.wcv_syntax.specs.Built.{is_built_type, is_built_decl, are_built}
-use Rattle.wcv_syntax.specs.Model.{Form, core_type_item, type_item, import_item, Type_form, defined_type, func_type, component_type, instance_type, resource_type, Decl, core_type_decl, type_decl, alias_decl, export_decl, import_decl, Decls, no_decls, declare}
-use Rattle.wcv_types.specs.Tree.{import, export, instance, component, none, entries, firsts}
+use Rattle.wcv_syntax.specs.Built.{is_plain, is_built_type, is_built_decl, are_built, are_built_inside}
+use Rattle.wcv_syntax.specs.Model.{Form, core_type_item, type_item, import_item, alias_item, Type_form, defined_type, func_type, component_type, instance_type, resource_type, Decl, core_type_decl, type_decl, alias_decl, export_decl, import_decl, Decls, no_decls, declare}
+use Rattle.wcv_types.specs.Led.{Led}
+use Rattle.wcv_types.specs.Tree.{import, export, instance, component, node, none, entries, firsts, is_instance}
+use Rattle.wcv_types.specs.Unfold.{Type_tree}
 use Rattle.wcv_types.proofs.Lists.{some-inj}
 use Rattle.wcv_lower.specs.Checks.{IsFree}
-use Rattle.wcv_lower.specs.Context.{Kind, declares_instance, declares_component, importing, exporting}
-use Rattle.wcv_lower.specs.Declared.{inside, ended, read_type, read_decl, read_decls}
+use Rattle.wcv_lower.specs.Context.{Kind, declares_instance, declares_component, Side, importing, exporting, is_concrete}
+use Rattle.wcv_lower.specs.Declared.{inside, ended, read_type, read_decl, read_decls, declared_checks, decl_checks, decls_checks}
 use Rattle.wcv_lower.specs.Ending.{any_free, kept, component_of, component_made, instance_made, declared_made}
+use Rattle.wcv_lower.specs.Growth.{grow, form_checks, left_checks}
 use Rattle.wcv_lower.specs.Items.{read_item, item_causes}
 use Rattle.wcv_lower.specs.Names.{names_by_place}
-use Rattle.wcv_lower.specs.Owned.{AllEntries}
+use Rattle.wcv_lower.specs.Owned.{AllEntries, Everywhere}
 use Rattle.wcv_lower.specs.Readers.{New_node}
-use Rattle.wcv_lower.specs.Trees.{Entries, Tree_context, Tree_stack, tree_reader, tree_maker}
+use Rattle.wcv_lower.specs.Step.{apply}
+use Rattle.wcv_lower.specs.Trees.{Entries, Tree_context, Tree_stack, tree_reader, tree_maker, node_tree}
 use Rattle.wcv_lower.specs.Types.{added}
+use Rattle.wcv_lower.proofs.Calm.{inside_has, around_has}
 use Rattle.wcv_lower.proofs.DeclaredDoes.{inside_built}
 use Rattle.wcv_lower.proofs.Given.{not_so}
-use Rattle.wcv_link.proofs.Closed.{firsts-has}
+use Rattle.wcv_link.proofs.Charged.{AllCharged, all_themselves, all_twice}
+use Rattle.wcv_link.proofs.Closed.{IsClosed, firsts-has, instance-closed, component-closed}
 use Rattle.wcv_link.proofs.Growing.{Ready, Grows}
-use Rattle.wcv_link.proofs.Inside.{built_here, counted-entries, decl_side, decl-grows}
+use Rattle.wcv_link.proofs.Inside.{built_here, closes-grow, decl_side, inside-imports}
+use Rattle.wcv_link.proofs.Items.{side_of, MayStand, stands-in-component, grow-grows, declared-grows}
 use Rattle.wcv_link.proofs.Kept.{kept-old}
-use Rattle.wcv_link.proofs.Known.{mapped-some, then-some}
-use Rattle.wcv_link.proofs.Outer.{AllCharged, around-parts, ends, decls-charge}
-use Rattle.wcv_link.proofs.Settled.{Settles, empty-settles, settles-ready, settles-more}
-use Rattle.wcv_link.proofs.Tidy.{Known, TidyEntry, NoneKnown, knows-both, BringsTidy, TidyBehind, apply-tidy, Tidy, empty-tidy, tidy-ready, tidy-here, tidy-knows, tidy-next}
+use Rattle.wcv_link.proofs.Known.{mapped-some, then-some, Listed}
+use Rattle.wcv_link.proofs.Looking.{sorted-fine}
+use Rattle.wcv_link.proofs.Outer.{ends}
+use Rattle.wcv_link.proofs.Settled.{Settles, inside-settles, settles-ready, settles-more}
+use Rattle.wcv_link.proofs.SideNames.{ItemNamed, SidesDiffer, AllSidesDiffer, inside-differ}
+use Rattle.wcv_link.proofs.SidesKept.{item-named, type-free, decls-free, decl-differ, type_item-free, plain-free}
+use Rattle.wcv_link.proofs.Sound.{IsSound}
+use Rattle.wcv_link.proofs.Tidy.{Known, TidyEntry, NoneKnown, knows-both, TidyBehind, apply-tidy, Tidy, first-tidy, tidy-ready, tidy-here, tidy-knows, tidy-next}
+use Rattle.wcv_link.proofs.TidyEntering.{LeadsIn}
 use Rattle.wcv_link.proofs.TidyItems.{added-tidy, grow-tidy, declared-tidy}
-use Rattle.wcv_link.proofs.TidyTypes.{entries-tidy, NodeTidy, node-tidy}
+use Rattle.wcv_link.proofs.TidyTypes.{exports-alone, sides-alone, exports-named, sides-named, entries-tidy, NodeTidy, node-tidy}
+
+-- paths lead to what instance types own
+sound-led : (t : Type_tree) → IsSound t → Led t
+sound-led (node h ps) w = w.0.1
+
+ready-leads : (p : Place) (s : Tree_stack) → Ready p s → LeadsIn s.top
+ready-leads p s h k t e = sound-led t (sorted-fine (Listed s) s.top (h.fine zero s.top refl) is_instance k t e).1
 
 -- ## The end
 
-module _ (p : Place) (n : ℕ) (g : Known) (unknown : NoneKnown p g) (c : Tree_context) (y : Tidy p n g c) where
+module _ (p : Place) (n : ℕ) (g : Known) (unknown : NoneKnown p g) (u : Tree_stack) (y : Tidy p n g u) where
+  abbrev c : Tree_context
+  c = u.top
+
   abbrev ins : Entries
   ins = c.side importing
 
   abbrev outs : Entries
   outs = c.side exporting
 
-  -- a node that is tidy behind the declarations joins the types around them
-  node-joins : (m : New_node tree_reader) → NodeTidy p y.known m → BringsTidy p g (added (tree_maker names_by_place p) m)
-  node-joins m w =
-      let x : BringsTidy p y.known (added (tree_maker names_by_place p) m) = added-tidy p y.known (tidy-here p n g c unknown y) m w in
-      record { known = x.known; more = knows-both p g y.known x.known (tidy-knows p n g c y) x.more; brings = x.brings }
+  abbrev here : AllEntries (TidyEntry y.known) c
+  here = y.tidy zero c refl
+
+  abbrev names : SidesDiffer c
+  names = y.differ zero c refl
 
   instance-node : NodeTidy p y.known (instance_made c)
   instance-node =
-      node-tidy p y.known (tidy-here p n g c unknown y) (instance (base p) (map (λ d. d.0) c.defined)) (entries export outs none) refl tt
-      (entries-tidy y.known export outs none (y.tidy.side exporting) (tt, tt))
+      node-tidy p y.known (tidy-here p n g u unknown y) (instance (base p) (map (λ d. d.0) c.defined)) (entries export outs none) refl tt (exports-alone outs) (exports-named outs (names exporting))
+      (entries-tidy y.known export outs none (here.side exporting) (tt, tt))
 
-  component-node : Settles p n c → (m : New_node tree_reader) → component_made c ≡ Some m → NodeTidy p y.known m
+  component-node : Settles p n u → (m : New_node tree_reader) → component_made c ≡ Some m → NodeTidy p y.known m
   component-node h m e = go (any_free tree_reader c.defined ins) e
     where
       apart : (ks : List (Name × List ℕ)) → kept tree_reader c.defined outs ≡ Some ks → (r : Name) → member r (firsts ks) ≡ true → member r (firsts c.imported) ≡ false
-      apart ks q r x = not_so (member r (firsts c.imported)) (λ z. h.apart r (firsts-has c.imported r z) (kept-old outs c.defined ks r q (firsts-has ks r x)))
+      apart ks q r x = not_so (member r (firsts c.imported)) (λ z. h.none_twice r (firsts-has c.imported r z) (kept-old outs c.defined ks r q (firsts-has ks r x)))
 
       of_kept : (ks : List (Name × List ℕ)) → kept tree_reader c.defined outs ≡ Some ks → NodeTidy p y.known (component_of c ks)
       of_kept ks q =
-          node-tidy p y.known (tidy-here p n g c unknown y) (component (base p) c.imported ks) (entries import ins (entries export outs none)) refl (apart ks q)
-          (entries-tidy y.known import ins (entries export outs none) (y.tidy.side importing) (entries-tidy y.known export outs none (y.tidy.side exporting) (tt, tt)))
+          node-tidy p y.known (tidy-here p n g u unknown y) (component (base p) c.imported ks) (entries import ins (entries export outs none)) refl (apart ks q) (sides-alone ins outs)
+          (sides-named ins outs (names importing) (names exporting)) (entries-tidy y.known import ins (entries export outs none) (here.side importing) (entries-tidy y.known export outs none (here.side exporting) (tt, tt)))
 
       go : (b : Bool) → cond b None (option_map (component_of c) (kept tree_reader c.defined outs)) ≡ Some m → NodeTidy p y.known m
       go true w = cc
@@ -70,57 +91,100 @@ module _ (p : Place) (n : ℕ) (g : Known) (unknown : NoneKnown p g) (c : Tree_c
           let k = mapped-some (component_of c) (kept tree_reader c.defined outs) m w in
           subst (NodeTidy p y.known) k.2 (of_kept k.0 k.1)
 
+  -- the contexts around a declared type are tidy behind it, and its node joins the types of the nearest
+  closes-tidy : (fs : WasmFeatures) (k : Kind) (v : Tree_stack) → ended k (tree_maker names_by_place p) u ≡ Some v → ((m : New_node tree_reader) → declared_made k c ≡ Some m → NodeTidy p y.known m) → TidyBehind p g v
+  closes-tidy fs k v e made =
+      let w = ends fs (tree_maker names_by_place) k p u v e in
+      let x : TidyBehind p y.known (apply (added (tree_maker names_by_place p) w.node) w.stack) =
+      apply-tidy p y.known (added (tree_maker names_by_place p) w.node) w.stack (around_has u w.stack w.stood (TidyEntry y.known) y.tidy)
+      (added-tidy p y.known (tidy-here p n g u unknown y) w.node (made w.node w.made)) in
+      subst (TidyBehind p g) w.joined (record { known = x.known; more = knows-both p g y.known x.known (tidy-knows p n g u y) x.more; tidy = x.tidy })
+
 -- ## Declarations
 
--- what holds behind them
-abbrev TidyRead : Place → Known → Tree_stack → Type 0
-TidyRead p g u = (n : ℕ) × Settles p n u.top × Tidy p n g u.top
+-- what an item or a declaration at the place does
+abbrev pub Behind : Side → Place → Known → Tree_stack → Tree_stack → Type 0
+Behind e p g s v = Grows e p s v × TidyBehind p g v
+
+-- what holds behind declarations
+pub record Read (p : Place) (g : Known) (ds : Decls) (s u : Tree_stack) : Type 0 where
+  pub count : ℕ
+  pub settles : Settles p count u
+  pub tidy : Tidy p count g u
+  pub outer : AllCharged s.outer u.outer
+  pub kind : u.top.kind ≡ s.top.kind
+  pub no_imports : are_built_inside ds ≡ true → s.top.imported ≡ [] → u.top.imported ≡ []
+
+-- before the first
+begins-tidy : (p : Place) (k : Kind) (g : Known) (s : Tree_stack) → Everywhere (TidyEntry g) s → AllSidesDiffer s → Tidy p 0 g (inside k s)
+begins-tidy p k g s y d = first-tidy p g (inside k s) (inside_has k s (TidyEntry g) y) (inside-differ k s d)
 
 module _ (fs : WasmFeatures) where
-  -- the context around a declared type is as it was, and has its node
-  closes : (k : Kind) (p : Place) (g : Known) (s u v : Tree_stack) → NoneKnown p g → AllEntries (TidyEntry g) s.top → AllCharged (s.top ∷ s.outer) u.outer → ended k (tree_maker names_by_place p) u ≡ Some v →
-      (n : ℕ) (y : Tidy p n g u.top) → ((m : New_node tree_reader) → declared_made k u.top ≡ Some m → NodeTidy p y.known m) → TidyBehind p g v.top
-  closes k p g s u v unknown tidy around_it e n y made =
-      let w = ends fs (tree_maker names_by_place) k p u v e in
-      let c = (subst (AllCharged (s.top ∷ s.outer)) (around-parts u w.stack w.stood) around_it).0 in
-      let z : AllEntries (TidyEntry g) w.stack.top = subst (AllEntries (TidyEntry g)) (sym c.1) (counted-entries s.top c.0 (TidyEntry g) tidy) in
-      subst (λ (t : Tree_stack). TidyBehind p g t.top) w.joined (apply-tidy p g (added (tree_maker names_by_place p) w.node) w.stack z (node-joins p n g unknown u.top y w.node (made w.node w.made)))
+  -- the ends of declared types
+  component-behind : (p : Place) (g : Known) (s u v : Tree_stack) (ds : Decls) → NoneKnown p g → Ready p s → Read p g ds (inside declares_component s) u → ended declares_component (tree_maker names_by_place p) u ≡ Some v → Behind exporting p g s v
+  component-behind p g s u v ds n h r e = (
+    closes-grow fs declares_component p r.count s u v r.settles r.outer e h (λ m q. component-closed p r.count (base p) u r.settles m q),
+    closes-tidy p r.count g n u r.tidy fs declares_component v e (component-node p r.count g n u r.tidy r.settles),
+  )
+
+  instance-behind : (p : Place) (g : Known) (s u v : Tree_stack) (ds : Decls) → are_built_inside ds ≡ true → NoneKnown p g → Ready p s → Read p g ds (inside declares_instance s) u → ended declares_instance (tree_maker names_by_place p) u ≡ Some v → Behind exporting p g s v
+  instance-behind p g s u v ds b n h r e = (
+    closes-grow fs declares_instance p r.count s u v r.settles r.outer e h
+        (λ m q. subst (λ (x : New_node tree_reader). IsClosed u (node_tree (base p) x)) (some-inj q) (instance-closed p r.count (base p) u r.settles (ap is_concrete r.kind) (r.no_imports b refl))),
+    closes-tidy p r.count g n u r.tidy fs declares_instance v e (λ m q. subst (NodeTidy p r.tidy.known) (some-inj q) (instance-node p r.count g n u r.tidy)),
+  )
+
+  -- what is read in one step
+  form-behind : (p : Place) (g : Known) (s u : Tree_stack) (f : Form) → MayStand f s.top → is_plain f ≡ true → ItemNamed s.top f → grow fs (tree_maker names_by_place p) s f ≡ Some u → NoneKnown p g → Ready p s → Everywhere (TidyEntry g) s → Behind (side_of f) p g s u
+  form-behind p g s u f may b d e n h y = (grow-grows p s h g (y zero s.top refl) fs f u may b e, grow-tidy p s (ready-leads p s h) g y n fs f u d e)
 
   mutual
-    type-tidy : (p : Place) (g : Known) (s v : Tree_stack) (t : Type_form) → is_built_type t ≡ true → read_type fs (tree_maker names_by_place) p s t ≡ Some v → NoneKnown p g → Ready p s.top → AllEntries (TidyEntry g) s.top → TidyBehind p g v.top
-    type-tidy p g s v (component_type ds) b e n h y =
+    type-behind : (p : Place) (g : Known) (s v : Tree_stack) (t : Type_form) → is_built_type t ≡ true → IsFree (declared_checks true fs (tree_maker names_by_place) p s t) → read_type fs (tree_maker names_by_place) p s t ≡ Some v → NoneKnown p g → Ready p s →
+        Everywhere (TidyEntry g) s → AllSidesDiffer s → Behind exporting p g s v
+    type-behind p g s v (component_type ds) b free e n h y d =
         let m = then-some (ended declares_component (tree_maker names_by_place p)) (read_decls fs (tree_maker names_by_place) p 0 (inside declares_component s) ds) v e in
-        let r : TidyRead p g m.0 = decls-tidy p 0 g (inside declares_component s) m.0 ds b m.1 n (empty-settles p declares_component) (empty-tidy p declares_component g) in
-        closes declares_component p g s m.0 v n y (decls-charge fs (tree_maker names_by_place) p 0 (inside declares_component s) m.0 ds m.1) m.2 r.0 r.2 (component-node p r.0 g n m.0.top r.2 r.1)
-    type-tidy p g s v (instance_type ds) b e n h y =
+        component-behind p g s m.0 v ds n h
+        (decls-behind declares_component p 0 g (inside declares_component s) m.0 ds b (type-free fs names_by_place declares_component p s ds free) m.1 n (inside-settles p declares_component s h) (begins-tidy p declares_component g s y d)) m.2
+    type-behind p g s v (instance_type ds) b free e n h y d =
         let m = then-some (ended declares_instance (tree_maker names_by_place p)) (read_decls fs (tree_maker names_by_place) p 0 (inside declares_instance s) ds) v e in
-        let r : TidyRead p g m.0 = decls-tidy p 0 g (inside declares_instance s) m.0 ds (inside_built ds b) m.1 n (empty-settles p declares_instance) (empty-tidy p declares_instance g) in
-        closes declares_instance p g s m.0 v n y (decls-charge fs (tree_maker names_by_place) p 0 (inside declares_instance s) m.0 ds m.1) m.2 r.0 r.2
-        (λ k q. subst (NodeTidy p r.2.known) (some-inj q) (instance-node p r.0 g n m.0.top r.2))
-    type-tidy p g s v (defined_type d) b e n h y = grow-tidy p s h g y n fs (type_item (defined_type d)) v e
-    type-tidy p g s v (func_type f) b e n h y = grow-tidy p s h g y n fs (type_item (func_type f)) v e
-    type-tidy p g s v (resource_type rep dtor) b e n h y = grow-tidy p s h g y n fs (type_item (resource_type rep dtor)) v e
+        instance-behind p g s m.0 v ds b n h
+        (decls-behind declares_instance p 0 g (inside declares_instance s) m.0 ds (inside_built ds b) (type-free fs names_by_place declares_instance p s ds free) m.1 n (inside-settles p declares_instance s h) (begins-tidy p declares_instance g s y d)) m.2
+    type-behind p g s v (defined_type t) b free e n h y d = form-behind p g s v (type_item (defined_type t)) tt b tt e n h y
+    type-behind p g s v (func_type t) b free e n h y d = form-behind p g s v (type_item (func_type t)) tt b tt e n h y
+    type-behind p g s v (resource_type rep dtor) b free e n h y d = form-behind p g s v (type_item (resource_type rep dtor)) tt b tt e n h y
 
-    decl-tidy : (p : Place) (g : Known) (s u : Tree_stack) (d : Decl) → is_built_decl d ≡ true → read_decl fs (tree_maker names_by_place) p s d ≡ Some u → NoneKnown p g → Ready p s.top → AllEntries (TidyEntry g) s.top → TidyBehind p g u.top
-    decl-tidy p g s u (core_type_decl t) b e n h y = grow-tidy p s h g y n fs (core_type_item t) u e
-    decl-tidy p g s u (type_decl t) b e n h y = type-tidy p g s u t b e n h y
-    decl-tidy p g s u (alias_decl a) b e n h y = absurd (false≢true b)
-    decl-tidy p g s u (export_decl x r) b e n h y = declared-tidy p s h g y n x r u e
-    decl-tidy p g s u (import_decl i) b e n h y = grow-tidy p s h g y n fs (import_item i) u e
+    decl-behind : (p : Place) (g : Known) (s u : Tree_stack) (d : Decl) → is_built_decl d ≡ true → IsFree (decl_checks fs (tree_maker names_by_place) p s d) → read_decl fs (tree_maker names_by_place) p s d ≡ Some u → NoneKnown p g → Ready p s →
+        Everywhere (TidyEntry g) s → AllSidesDiffer s → Behind (decl_side d) p g s u
+    decl-behind p g s u (core_type_decl t) b free e n h y d = form-behind p g s u (core_type_item t) tt b tt e n h y
+    decl-behind p g s u (type_decl t) b free e n h y d = type-behind p g s u t b free e n h y d
+    decl-behind p g s u (alias_decl a) b free e n h y d = form-behind p g s u (alias_item a) tt b tt e n h y
+    decl-behind p g s u (export_decl x r) b free e n h y d = (declared-grows p s h x r u b e, declared-tidy p s (ready-leads p s h) g y n x r u e)
+    decl-behind p g s u (import_decl i) b free e n h y d = form-behind p g s u (import_item i) tt b tt e n h y
 
-    decls-tidy : (p : Place) (k : ℕ) (g : Known) (s u : Tree_stack) (ds : Decls) → are_built ds ≡ true → read_decls fs (tree_maker names_by_place) p k s ds ≡ Some u → NoneKnown p g → Settles p k s.top → Tidy p k g s.top → TidyRead p g u
-    decls-tidy p k g s u no_decls b e n h y = subst (TidyRead p g) (some-inj e) (k, h, y)
-    decls-tidy p k g s u (declare d ds) b e n h y =
-        let m = then-some (λ (t : Tree_stack). read_decls fs (tree_maker names_by_place) p (suc k) t ds) (read_decl fs (tree_maker names_by_place) (deeper p k) s d) u e in
-        let ready : Ready (deeper p k) s.top = settles-ready p k s.top h in
-        let x : Grows (decl_side d) (deeper p k) s.top m.0.top = decl-grows fs (deeper p k) s m.0 d (and_left _ _ b) m.1 ready in
-        let z : TidyBehind (deeper p k) y.known m.0.top = decl-tidy (deeper p k) y.known s m.0 d (and_left _ _ b) m.1 (tidy-ready p k g s.top n y) ready y.tidy in
-        decls-tidy p (suc k) g m.0 u ds (and_right _ _ b) m.2 n (settles-more p k s.top m.0.top h (decl_side d) x) (tidy-next p k g s.top m.0.top y z)
+    decls-behind : (k : Kind) (p : Place) (n : ℕ) (g : Known) (s u : Tree_stack) (ds : Decls) → are_built ds ≡ true → IsFree (decls_checks fs (tree_maker names_by_place) p n k s ds) → read_decls fs (tree_maker names_by_place) p n s ds ≡ Some u → NoneKnown p g →
+        Settles p n s → Tidy p n g s → Read p g ds s u
+    decls-behind k p n g s u no_decls b free e unknown h y =
+        subst (Read p g no_decls s) (some-inj e) (record { count = n; settles = h; tidy = y; outer = all_themselves s.outer; kind = refl; no_imports = λ x z. z })
+    decls-behind k p n g s u (declare d ds) b free e unknown h y =
+        let m = then-some (λ (t : Tree_stack). read_decls fs (tree_maker names_by_place) p (suc n) t ds) (read_decl fs (tree_maker names_by_place) (deeper p n) s d) u e in
+        let f = decls-free fs names_by_place k p n s m.0 d ds m.1 free in
+        let x : Behind (decl_side d) (deeper p n) y.known s m.0 = decl-behind (deeper p n) y.known s m.0 d (and_left _ _ b) f.0 m.1 (tidy-ready p n g s unknown y) (settles-ready p n s h) y.tidy y.differ in
+        let z : AllSidesDiffer m.0 = decl-differ fs names_by_place (deeper p n) s m.0 d f.0 m.1 y.differ in
+        let w : Read p g ds m.0 u = decls-behind k p (suc n) g m.0 u ds (and_right _ _ b) f.1 m.2 unknown (settles-more p n s m.0 h (decl_side d) x.0) (tidy-next p n g s m.0 y x.1 z) in
+        record {
+          count = w.count;
+          settles = w.settles;
+          tidy = w.tidy;
+          outer = all_twice s.outer m.0.outer u.outer x.0.outer w.outer;
+          kind = w.kind ∙ x.0.kind;
+          no_imports = λ a c. w.no_imports (and_right _ _ a) (inside-imports d (deeper p n) s m.0 (and_left _ _ a) x.0 ∙ c);
+        }
 
--- ## Items
+  -- ## Items of a component
 
--- the item at position k of the list at place w
-pub item-tidy : (fs : WasmFeatures) (w : Place) (k : ℕ) (g : Known) (s u : Tree_stack) (f : Form) → IsFree (item_causes fs (tree_maker names_by_place) (deeper w k) s f) → read_item fs (tree_maker names_by_place) (deeper w k) s f ≡ Some u → NoneKnown w g → Ready (deeper w k) s.top → Tidy w k g s.top → Tidy w (suc k) g u.top
-item-tidy fs w k g s u (type_item t) free e n h y =
-    tidy-next w k g s.top u.top y (type-tidy fs (deeper w k) y.known s u t (built_here (is_built_type t) _ free) e (tidy-ready w k g s.top n y) h y.tidy)
-item-tidy fs w k g s u f free e n h y = tidy-next w k g s.top u.top y (grow-tidy (deeper w k) s h y.known y.tidy (tidy-ready w k g s.top n y) fs f u e)
+  pub item-behind : (p : Place) (g : Known) (s u : Tree_stack) (f : Form) → is_concrete s.top.kind ≡ true → IsFree (item_causes fs (tree_maker names_by_place) p s f) → read_item fs (tree_maker names_by_place) p s f ≡ Some u → NoneKnown p g → Ready p s →
+      Everywhere (TidyEntry g) s → AllSidesDiffer s → Behind (side_of f) p g s u
+  item-behind p g s u (type_item t) c free e n h y d = type-behind p g s u t (built_here (is_built_type t) _ free) (type_item-free fs names_by_place p s t free) e n h y d
+  item-behind p g s u f c free e n h y d =
+      form-behind p g s u f (stands-in-component f s.top c) (built_here (is_plain f) (form_checks fs (tree_maker names_by_place p) s f ++ left_checks s.top f) free)
+      (item-named s fs names_by_place p f (plain-free fs names_by_place p s f free)) e n h y

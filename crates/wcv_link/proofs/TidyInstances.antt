@@ -1,17 +1,19 @@
 -- Instances are tidy: one of an instance type, one that lists items, and one of a component.
-use Rattle.std.proofs.Common.{◌≡◌, ◌<◌, ℕ, zero, suc, List, [], ◌∷◌, ◌||◌, ◌&&◌, Bool, true, false, cond, refl, sym, ◌∙◌, ap, subst, Option, Some, None, arith}
+use Rattle.std.proofs.Common.{◌≡◌, ◌<◌, ℕ, zero, suc, List, [], ◌∷◌, ◌||◌, ◌&&◌, Bool, true, false, cond, bytes_eq, refl, sym, ◌∙◌, ap, subst, Option, Some, None, arith}
 use Rattle.std.specs.Prelude.{All, not, slice_get}
-use Rattle.std.specs.List.{list_all}
+use Rattle.std.specs.List.{IsDistinct, list_all}
+use Rattle.std.specs.Map.{keys_of}
 use Rattle.std.specs.Option.{option_map, option_and_then}
 use Rattle.std.proofs.lemmas.Bool.{false≢true}
 use Rattle.std.proofs.lemmas.List.Elements.{All-nil, All-cons, All-head, All-tail, All-weaker}
 use Rattle.wcv_core.specs.Names.{Name, Place, number, stamp, base, at, stamped, aside, same_place, same, member}
 use Rattle.wcv_core.proofs.Names.{same-refl, same-true}
-use Rattle.wcv_syntax.specs.Model.{Instance_form, instantiate, bag}
+use Rattle.wcv_syntax.specs.Model.{instance_item, Instance_form, instantiate, bag}
 use Rattle.wcv_syntax.specs.declared.instance.ComponentInstantiationArg.{ComponentInstantiationArg}
 use Rattle.wcv_syntax.specs.declared.name.ComponentExport.{ComponentExport}
+use Rattle.wcv_types.specs.ByName.{NamesDiffer}
 use Rattle.wcv_types.specs.Identity.{Identity, of_node, identity_at}
-use Rattle.wcv_types.specs.Led.{HasPath}
+use Rattle.wcv_types.specs.Led.{HasPath, Led}
 use Rattle.wcv_types.specs.Paths.{PathLeadsTo}
 use Rattle.wcv_types.specs.Replacing.{Replacement, given_at, given_elsewhere, moved, moves, changed, changed_in, new_head, replaced, replaced_in, GivesSame, GivesSameIn}
 use Rattle.wcv_types.specs.Resources.{RefersTo}
@@ -21,7 +23,7 @@ use Rattle.wcv_types.proofs.Lists.{some-inj}
 use Rattle.wcv_types.proofs.Replacing.{none-given, unchanged-stays}
 use Rattle.wcv_matching.specs.AtomTests.{id_tests}
 use Rattle.wcv_matching.specs.GivenTypes.{given_for}
-use Rattle.wcv_matching.specs.Matching.{named_imports}
+use Rattle.wcv_matching.specs.Matching.{named, named_imports}
 use Rattle.wcv_matching.specs.OnePass.{opens_pass}
 use Rattle.wcv_matching.specs.Orderly.{EachNode, height, heights}
 use Rattle.wcv_lower.specs.Checks.{is_none, same_sort}
@@ -44,10 +46,10 @@ use Rattle.wcv_link.proofs.BareGiven.{entries-own, given_for-each, looked-up, op
 use Rattle.wcv_link.proofs.CoreGrowing.{if-some}
 use Rattle.wcv_link.proofs.InstanceGrowing.{opened-pair}
 use Rattle.wcv_link.proofs.Known.{mapped-some, then-some, all-get, Any}
-use Rattle.wcv_link.proofs.Sound.{IsSoundType}
-use Rattle.wcv_link.proofs.Tidy.{Known, IsTidy, TidyType, TidyIn, TidyEntry, KnownMore, KnowsMore, NoneKnown, entry-more, known_at, known-base, known-again, knows-here, BringsTidy}
-use Rattle.wcv_link.proofs.TidyReplaced.{stands_for, tidy-of, replaced-entry, replaced_in-tidy}
-use Rattle.wcv_link.proofs.TidyTypes.{entries-tidy, tidy-before}
+use Rattle.wcv_link.proofs.SideNames.{no-names, ItemNamed}
+use Rattle.wcv_link.proofs.Tidy.{Known, IsTidy, TidyType, TidyIn, TidyEntry, KnownMore, KnowsMore, NoneKnown, tidy-known, entry-more, known_at, known-base, known-again, knows-here, BringsTidy}
+use Rattle.wcv_link.proofs.TidyReplaced.{exports-again, named-again, stands_for, tidy-of, replaced-entry, replaced_in-tidy}
+use Rattle.wcv_link.proofs.TidyTypes.{exports-alone, exports-named, entries-tidy, tidy-before}
 
 -- ## One that lists entries
 
@@ -61,10 +63,10 @@ all-more : (g f : Known) → KnownMore g f → (es : Entries) → AllTidy g es �
 all-more g f m es a = All-weaker (Tidies g) (Tidies f) (λ e w. entry-more g f m e.1 w) es a
 
 -- the instance of that identity, once it is known
-listing-tidy : (g : Known) (i : Name) (es : Entries) → g i ≡ Some (instance_type i [] es) → AllTidy g es → TidyEntry g (instance_type i [] es)
-listing-tidy g i es e a =
+listing-tidy : (g : Known) (i : Name) (es : Entries) → g i ≡ Some (instance_type i [] es) → NamesDiffer (named es) → AllTidy g es → TidyEntry g (instance_type i [] es)
+listing-tidy g i es e d a =
     let w = entries-tidy g export es none a (tt, tt) in
-    (refl, (record { alike = tt; bare = w.1; apart = tt; plain = tt; one = λ j d. one j d }, w.0))
+    (refl, (record { alike = tt; bare = w.1; apart = tt; plain = tt; formed = λ l. exports-alone es; named = exports-named es d; one = λ j d. one j d }, w.0))
   where
     one : (j : Name) → Some (of_node i) ≡ Some (of_node j) → g j ≡ Some (instance_type i [] es)
     one j d = let k : i ≡ j = cc in subst (λ (x : Name). g x ≡ Some (instance_type i [] es)) k e
@@ -79,8 +81,19 @@ exports-tidy_in g (part (label l) t ps) w a = exports-tidy_in g ps w a.1
 exports-tidy_in g (part (core_import m n) t ps) w a = exports-tidy_in g ps w a.1
 exports-tidy_in g (part (core_export n) t ps) w a = exports-tidy_in g ps w a.1
 
-exports-tidy : (g : Known) (t : Type_tree) → TidyType g t → AllTidy g (exports t)
+pub exports-tidy : (g : Known) (t : Type_tree) → TidyType g t → AllTidy g (exports t)
 exports-tidy g (node h ps) w = exports-tidy_in g ps w.0.bare w.1
+
+-- with the names that it has
+exports-differ : (g : Known) (t : Type_tree) → TidyType g t → NamesDiffer (named (exports t))
+exports-differ g (node h ps) w = w.0.named.1
+
+keys-mapped : (r : Type_tree → Type_tree) (es : Entries) → keys_of (named (map_entries r es)) ≡ keys_of (named es)
+keys-mapped r [] = refl
+keys-mapped r (e ∷ es) = ap (λ (ks : List Text). e.0.name ∷ ks) (keys-mapped r es)
+
+mapped-differ : (r : Type_tree → Type_tree) (es : Entries) → NamesDiffer (named es) → NamesDiffer (named (map_entries r es))
+mapped-differ r es d = subst (IsDistinct bytes_eq) (sym (keys-mapped r es)) d
 
 mapped-tidy : (g f : Known) (r : Type_tree → Type_tree) → ((t : Type_tree) → TidyEntry g t → TidyEntry f (r t)) → (es : Entries) → AllTidy g es → AllTidy f (map_entries r es)
 mapped-tidy g f r h [] a = All-nil (Tidies f)
@@ -101,23 +114,23 @@ module _ (p : Place) (s : Tree_stack) (g : Known) (h : AllEntries (TidyEntry g) 
 
   -- ### Items that are listed
 
-  listing-brings : (es : Entries) → AllTidy g es → BringsTidy p g (instance_joins (instance_of_items (tree_maker names_by_place p) (instance_node [] es)))
-  listing-brings es a =
+  listing-brings : (es : Entries) → NamesDiffer (named es) → AllTidy g es → BringsTidy p g (instance_joins (instance_of_items (tree_maker names_by_place p) (instance_node [] es)))
+  listing-brings es d a =
       let i : Name = base p in
       let made : Type_tree = instance_type i [] es in
       let remade : Name → Option Type_tree = λ x. None in
       joined-tidy made remade (instance_of_items (tree_maker names_by_place p) (instance_node [] es))
-      (listing-tidy (known_at p (Some made) remade g) i es (known-base p (Some made) remade g) (all-more g (known_at p (Some made) remade g) (knows-here p (Some made) remade g fresh).more es a))
+      (listing-tidy (known_at p (Some made) remade g) i es (known-base p (Some made) remade g) d (all-more g (known_at p (Some made) remade g) (knows-here p (Some made) remade g fresh).more es a))
 
-  bag-tidy : (es : List ComponentExport) (x : Step tree_reader) → instance_step (tree_maker names_by_place p) s (bag es) ≡ Some x → BringsTidy p g x
-  bag-tidy es x e =
+  bag-tidy : (es : List ComponentExport) (x : Step tree_reader) → NamesDiffer (named (listed s.top es)) → instance_step (tree_maker names_by_place p) s (bag es) ≡ Some x → BringsTidy p g x
+  bag-tidy es x d e =
       let m = mapped-some instance_joins (instance_made (tree_maker names_by_place p) s (bag es)) x e in
       let o = mapped-some (instance_of_items (tree_maker names_by_place p)) (bag_made s.top es) m.0 m.1 in
       let n = if-some (list_all (λ (e : ComponentExport). not (is_none (listed_at s.top e))) es) (Some (instance_node [] (listed s.top es))) o.0 o.1 in
       subst (BringsTidy p g) m.2
       (subst (λ (b : Brought tree_reader). BringsTidy p g (instance_joins b)) o.2
       (subst (λ (k : New_node tree_reader). BringsTidy p g (instance_joins (instance_of_items (tree_maker names_by_place p) k))) (some-inj n)
-      (listing-brings (listed s.top es) (listed_have (TidyEntry g) s.top h es))))
+      (listing-brings (listed s.top es) d (listed_have (TidyEntry g) s.top h es))))
 
   -- ### A component that is opened
 
@@ -125,7 +138,7 @@ module _ (p : Place) (s : Tree_stack) (g : Known) (h : AllEntries (TidyEntry g) 
       BringsTidy p g (instance_joins (instance_of_component (tree_maker names_by_place p) (args, t)))
   opened-brings args t a w opens =
       joined-tidy made remade (instance_of_component (tree_maker names_by_place p) (args, t))
-      (listing-tidy f (base p) (map_entries (replaced m) (exports t)) (known-base p (Some made) remade g)
+      (listing-tidy f (base p) (map_entries (replaced m) (exports t)) (known-base p (Some made) remade g) (mapped-differ (replaced m) (exports t) (exports-differ g t w))
       (mapped-tidy g f (replaced m) (λ u v. replaced-entry g f m (knows-here p (Some made) remade g fresh).more gives kinds (λ i x e n c. again i x e) u v) (exports t) (exports-tidy g t w)))
     where
       m : Replacement
@@ -151,7 +164,7 @@ module _ (p : Place) (s : Tree_stack) (g : Known) (h : AllEntries (TidyEntry g) 
       gives : (i : Identity) (u : Type_tree) → m.nodes i ≡ Some u → TidyType g u
       gives i u e =
           looked-up (λ (x : Identity × Type_tree). TidyType g x.1) i (given_for args (named_imports t)) u
-          (given_for-each (IsTidy g) (record { alike = tt; bare = tt; apart = tt; plain = tt; one = left-out }) args (named_imports t)
+          (given_for-each (IsTidy g) (record { alike = tt; bare = tt; apart = tt; plain = tt; formed = λ l. tt; named = (no-names, no-names); one = left-out }) args (named_imports t)
           (All-weaker (λ (e : Text × Type_tree). TidyEntry g e.1) (λ (e : Text × Type_tree). TidyType g e.1) (λ e v. v.1) args a)) e
 
       again : (i : Name) (u : Type_tree) → g i ≡ Some u → f (at p i) ≡ Some (replaced m u)
@@ -171,9 +184,9 @@ module _ (p : Place) (s : Tree_stack) (g : Known) (h : AllEntries (TidyEntry g) 
       (subst (λ (y : List (Text × Type_tree) × Type_tree). BringsTidy p g (instance_joins (instance_of_component (tree_maker names_by_place p) y))) q.1
       (opened-brings args t.0 (arguments_have (TidyEntry g) s.top h given) w.1 q.0)))
 
-pub instance-tidy : (p : Place) (s : Tree_stack) (g : Known) → AllEntries (TidyEntry g) s.top → NoneKnown p g → (i : Instance_form) (x : Step tree_reader) → instance_step (tree_maker names_by_place p) s i ≡ Some x → BringsTidy p g x
-instance-tidy p s g h n (bag es) x e = bag-tidy p s g h n es x e
-instance-tidy p s g h n (instantiate i args) x e = instantiate-tidy p s g h n i args x e
+pub instance-tidy : (p : Place) (s : Tree_stack) (g : Known) → AllEntries (TidyEntry g) s.top → NoneKnown p g → (i : Instance_form) (x : Step tree_reader) → ItemNamed s.top (instance_item i) → instance_step (tree_maker names_by_place p) s i ≡ Some x → BringsTidy p g x
+instance-tidy p s g h n (bag es) x d e = bag-tidy p s g h n es x d e
+instance-tidy p s g h n (instantiate i args) x d e = instantiate-tidy p s g h n i args x e
 
 -- ## One of an instance type
 
@@ -287,7 +300,7 @@ module _ (i : Name) (g : Known) where
     mutual
       lower-tidy : (u : Type_tree) → height u < height t → TidyType g u → TidyType (without i g) u
       lower-tidy (node h ps) l w =
-          (record { alike = w.0.alike; bare = w.0.bare; apart = w.0.apart; plain = w.0.plain; one = λ j e. lower-known j (node h ps) l (w.0.one j e) }, lower-tidy_in ps (omega arith) w.1)
+          (tidy-known g (without i g) h ps w.0 (λ j e. lower-known j (node h ps) l e), lower-tidy_in ps (omega arith) w.1)
 
       lower-tidy_in : (ps : Parts Name Name) → heights ps < height t → TidyIn g ps → TidyIn (without i g) ps
       lower-tidy_in none l w = tt
@@ -347,13 +360,13 @@ module _ (p : Place) (g : Known) (fresh : NoneKnown p g) (i : Name) where
           (λ j u e. nothing-comes (λ u. SameKind u (stands (stands_for (without i g)) j)) j u e) (λ j u e n c. again j u e) ps less
 
       made-tidy : TidyEntry f made
-      made-tidy = (refl, (record { alike = tt; bare = entries-bare; apart = tt; plain = tt; one = one }, inside))
+      made-tidy = (refl, (record { alike = tt; bare = entries-bare; apart = tt; plain = tt; formed = λ l. exports-again m ps (w.0.formed tt); named = named-again m ps w.0.named; one = one }, inside))
 
-pub instance_of-tidy : (p : Place) (g : Known) (t : Type_tree) → same_sort is_instance (sort t) ≡ true → IsSoundType t → TidyType g t → NoneKnown p g → (f : Known) × KnowsMore p g f × TidyEntry f (instance_tree names_by_place p t)
+pub instance_of-tidy : (p : Place) (g : Known) (t : Type_tree) → same_sort is_instance (sort t) ≡ true → Led t → TidyType g t → NoneKnown p g → (f : Known) × KnowsMore p g f × TidyEntry f (instance_tree names_by_place p t)
 instance_of-tidy p g (node (instance i []) ps) e s w n = owning-nothing p g n i ps w
 instance_of-tidy p g (node (instance i (r ∷ own)) ps) e s w n =
     let m : Replacement = owned_anew names_by_place p (r ∷ own) in
     let to : m.resources r ≡ Some (at p r) = ap (λ (b : Bool). cond {A = Option Name} b (Some (at p r)) None) (or_left (same r r) (member r own) (same-refl r)) in
-    let path = All-head (HasPath (exports_in ps)) r own s.1 in
+    let path = All-head (HasPath (exports_in ps)) r own s in
     made-anew p g n i (r ∷ own) ps w (path-changes m (λ j. refl) r (at p r) to (again-differs p r) path.0 ps path.1)
 instance_of-tidy p g (node h ps) e s w n = absurd (false≢true e)

@@ -1,31 +1,35 @@
--- What an item, but for a declared type, and a declared export bring to the context that they stand in is tidy.
-use Rattle.std.proofs.Common.{◌≡◌, ◌∷◌, Bool, true, false, cond, ◌∙◌, ap, subst, Some, None}
+-- What an item, but for a declared type, a declared export and an alias bring to the context that they stand in is tidy.
+use Rattle.std.proofs.Common.{◌≡◌, zero, ◌∷◌, Bool, true, false, cond, refl, ◌∙◌, ap, subst, Some, None}
 use Rattle.wcv_core.specs.Names.{Place, base}
 use Rattle.wcv_core.specs.declared.features.WasmFeatures.{WasmFeatures}
 use Rattle.wcv_syntax.specs.Model.{Form, core_type_item, core_module_item, core_instance_item, type_item, import_item, export_item, component_item, instance_item, alias_item, start_item, canon_item, unread, Type_form, defined_type, func_type, component_type, instance_type, resource_type}
 use Rattle.wcv_syntax.specs.declared.component_type.ComponentTypeRef.{ComponentTypeRef}
+use Rattle.wcv_syntax.specs.declared.instance.ComponentAlias.{ComponentAlias}
 use Rattle.wcv_syntax.specs.declared.instance.ComponentAlias.TheVariants as alias
 use Rattle.wcv_syntax.specs.declared.name.ComponentExternName.{ComponentExternName}
+use Rattle.wcv_types.specs.Tree.{sort, exports}
 use Rattle.wcv_types.proofs.Lists.{some-inj}
-use Rattle.wcv_lower.specs.Context.{in_types, is_concrete, importing, exporting}
+use Rattle.wcv_lower.specs.Aliases.{joining, alias_step}
+use Rattle.wcv_lower.specs.Context.{in_types, in_instances, is_concrete, importing, exporting}
 use Rattle.wcv_lower.specs.Declared.{applied, declared_export_step}
 use Rattle.wcv_lower.specs.Entries.{extern_name, written, exported}
 use Rattle.wcv_lower.specs.Growth.{step, grow}
 use Rattle.wcv_lower.specs.Names.{names_by_place}
 use Rattle.wcv_lower.specs.NewTypes.{new_reference}
-use Rattle.wcv_lower.specs.Owned.{AllEntries}
+use Rattle.wcv_lower.specs.Owned.{AllEntries, Everywhere}
 use Rattle.wcv_lower.specs.Readers.{New_node}
 use Rattle.wcv_lower.specs.Step.{appends, defines, Step, apply, enters, joins_types}
 use Rattle.wcv_lower.specs.Trees.{Type_tree, Tree_stack, tree_reader, tree_maker, type_entry, node_tree}
 use Rattle.wcv_lower.specs.Types.{type_made, added, type_step}
 use Rattle.wcv_lower.proofs.Bringing.{brings_one, brings_more}
-use Rattle.wcv_link.proofs.Growing.{Ready}
-use Rattle.wcv_link.proofs.Known.{mapped-some, Any}
+use Rattle.wcv_link.proofs.AliasGrowing.{first-has, export-found, outer-has, outer_step, outer-found, outer-brings}
+use Rattle.wcv_link.proofs.Known.{mapped-some, all-get, Any, joins-bring}
+use Rattle.wcv_link.proofs.SideNames.{ItemNamed}
 use Rattle.wcv_link.proofs.Tidy.{Known, TidyEntry, NoneKnown, NoneAt, none-at, BringsTidy, brings-known, TidyBehind, apply-tidy}
 use Rattle.wcv_link.proofs.TidyCore.{core_type-tidy, core_module-tidy, core_instance-tidy, core_alias-tidy, canon-tidy}
-use Rattle.wcv_link.proofs.TidyEntering.{enters-tidy, written-tidy, exported-tidy}
-use Rattle.wcv_link.proofs.TidyInstances.{instance-tidy}
-use Rattle.wcv_link.proofs.TidyTypes.{with_node, knows-node, NodeTidy, entry-tidy, reference-tidy, made-tidy}
+use Rattle.wcv_link.proofs.TidyEntering.{LeadsIn, enters-tidy, written-tidy, exported-tidy}
+use Rattle.wcv_link.proofs.TidyInstances.{exports-tidy, instance-tidy}
+use Rattle.wcv_link.proofs.TidyTypes.{with_node, knows-node, NodeTidy, created-tidy, entry-tidy, reference-tidy, made-tidy}
 
 -- a node that is made there joins the types
 pub added-tidy : (p : Place) (g : Known) → NoneAt p g → (n : New_node tree_reader) → NodeTidy p g n → BringsTidy p g (added (tree_maker names_by_place p) n)
@@ -33,7 +37,12 @@ added-tidy p g unknown n w =
     let t : Type_tree = node_tree (base p) n in
     record { known = with_node p g t; more = knows-node p g unknown t; brings = brings_one (TidyEntry (with_node p g t)) Any (appends in_types (type_entry t)) (entry-tidy (with_node p g t) t w) }
 
-module _ (p : Place) (s : Tree_stack) (h : Ready p s.top) (g : Known) (y : AllEntries (TidyEntry g) s.top) (unknown : NoneKnown p g) where
+module _ (p : Place) (s : Tree_stack) (leads : LeadsIn s.top) (g : Known) (all : Everywhere (TidyEntry g) s) (unknown : NoneKnown p g) where
+  abbrev y : AllEntries (TidyEntry g) s.top
+  y = all zero s.top refl
+
+  -- ## Type items
+
   type-brings : (t : Type_form) (x : Step tree_reader) → type_step (tree_maker names_by_place p) s.top t ≡ Some x → BringsTidy p g x
   type-brings (defined_type d) x e =
       let m = mapped-some (added (tree_maker names_by_place p)) (type_made s.top (defined_type d)) x e in
@@ -55,35 +64,49 @@ module _ (p : Place) (s : Tree_stack) (h : Ready p s.top) (g : Known) (y : AllEn
       go true w = subst (BringsTidy p g) (some-inj w) (brings-known p g made (brings_more (TidyEntry g) Any (defines (base p) (Some rep)) (joins_types reference) tt (brings_one (TidyEntry g) Any (appends in_types reference) (reference-tidy g p))))
       go false w = cc
 
-  pub step-tidy : (fs : WasmFeatures) (f : Form) (x : Step tree_reader) → step fs (tree_maker names_by_place p) s f ≡ Some x → BringsTidy p g x
-  step-tidy fs (type_item t) x e = type-brings t x e
-  step-tidy fs (import_item i) x e =
+  -- ## Aliases
+
+  pub alias-tidy : (a : ComponentAlias) (x : Step tree_reader) → alias_step s a ≡ Some x → BringsTidy p g x
+  alias-tidy (alias.InstanceExport w i n) x e =
+      let m = export-found s w i n x e in
+      let t : TidyEntry g m.instance = all-get (TidyEntry g) (s.top.space in_instances) i m.instance (y.space in_instances) m.there in
+      let z : TidyEntry g m.export = first-has (TidyEntry g) n (exports m.instance) m.export m.first (exports-tidy g m.instance t.1) in
+      subst (BringsTidy p g) m.joins (brings-known p g (joining m.export) (joins-bring (TidyEntry g) (created-tidy g) (sort m.export) m.export z))
+  alias-tidy (alias.CoreInstanceExport k i n) x e = core_alias-tidy p s g y (none-at p g unknown) k i n x e
+  alias-tidy (alias.Outer w n i) x e =
+      let m = outer-found s w n i x e in
+      subst (BringsTidy p g) m.2 (brings-known p g (outer_step s w n m.0) (outer-brings (TidyEntry g) s w n m.0 (outer-has (TidyEntry g) s w n i m.0 m.1 all)))
+
+  -- ## Items
+
+  pub step-tidy : (fs : WasmFeatures) (f : Form) (x : Step tree_reader) → ItemNamed s.top f → step fs (tree_maker names_by_place p) s f ≡ Some x → BringsTidy p g x
+  step-tidy fs (type_item t) x d e = type-brings t x e
+  step-tidy fs (import_item i) x d e =
       let m = mapped-some (enters importing (extern_name i.name)) (written (tree_maker names_by_place p) s.top i.ty) x e in
-      subst (BringsTidy p g) m.2 (enters-tidy p s.top h g y unknown importing (extern_name i.name) m.0 (written-tidy p s.top h g y unknown i.ty m.0 m.1))
-  step-tidy fs (export_item i) x e =
+      subst (BringsTidy p g) m.2 (enters-tidy p s.top leads g y unknown importing (extern_name i.name) m.0 (written-tidy p s.top leads g y unknown i.ty m.0 m.1))
+  step-tidy fs (export_item i) x d e =
       let m = mapped-some (enters exporting (extern_name i.name)) (exported (tree_maker names_by_place p) s.top i) x e in
-      subst (BringsTidy p g) m.2 (enters-tidy p s.top h g y unknown exporting (extern_name i.name) m.0 (exported-tidy p s.top h g y unknown i i.ty m.0 m.1))
-  step-tidy fs (core_type_item t) x e = core_type-tidy p s g y (none-at p g unknown) fs t x e
-  step-tidy fs (core_module_item ds) x e = core_module-tidy p s g y (none-at p g unknown) fs ds x e
-  step-tidy fs (core_instance_item i) x e = core_instance-tidy p s g y (none-at p g unknown) i x e
-  step-tidy fs (component_item is end) x e = cc
-  step-tidy fs (instance_item i) x e = instance-tidy p s g y unknown i x e
-  step-tidy fs (alias_item (alias.CoreInstanceExport k i n)) x e = core_alias-tidy p s g y (none-at p g unknown) k i n x e
-  step-tidy fs (alias_item (alias.InstanceExport k i n)) x e = cc
-  step-tidy fs (alias_item (alias.Outer k n i)) x e = cc
-  step-tidy fs (start_item k args results) x e = cc
-  step-tidy fs (canon_item f) x e = canon-tidy p s g y (none-at p g unknown) f x e
-  step-tidy fs unread x e = cc
+      subst (BringsTidy p g) m.2 (enters-tidy p s.top leads g y unknown exporting (extern_name i.name) m.0 (exported-tidy p s.top leads g y unknown i i.ty m.0 m.1))
+  step-tidy fs (core_type_item t) x d e = core_type-tidy p s g y (none-at p g unknown) fs t x e
+  step-tidy fs (core_module_item ds) x d e = core_module-tidy p s g y (none-at p g unknown) fs ds x e
+  step-tidy fs (core_instance_item i) x d e = core_instance-tidy p s g y (none-at p g unknown) i x e
+  step-tidy fs (component_item is end) x d e = cc
+  step-tidy fs (instance_item i) x d e = instance-tidy p s g y unknown i x d e
+  step-tidy fs (alias_item a) x d e = alias-tidy a x e
+  step-tidy fs (start_item k args results) x d e = cc
+  step-tidy fs (canon_item f) x d e = canon-tidy p s g y (none-at p g unknown) f x e
+  step-tidy fs unread x d e = cc
 
-  pub grow-tidy : (fs : WasmFeatures) (f : Form) (u : Tree_stack) → grow fs (tree_maker names_by_place p) s f ≡ Some u → TidyBehind p g u.top
-  grow-tidy fs f u e =
+  pub grow-tidy : (fs : WasmFeatures) (f : Form) (u : Tree_stack) → ItemNamed s.top f → grow fs (tree_maker names_by_place p) s f ≡ Some u → TidyBehind p g u
+  grow-tidy fs f u d e =
       let m = mapped-some (λ (x : Step tree_reader). apply x s) (step fs (tree_maker names_by_place p) s f) u e in
-      subst (λ (t : Tree_stack). TidyBehind p g t.top) m.2 (apply-tidy p g m.0 s y (step-tidy fs f m.0 m.1))
+      subst (TidyBehind p g) m.2 (apply-tidy p g m.0 s all (step-tidy fs f m.0 d m.1))
 
-  -- a declared export
-  pub declared-tidy : (n : ComponentExternName) (r : ComponentTypeRef) (u : Tree_stack) → applied s (declared_export_step (tree_maker names_by_place p) s.top n r) ≡ Some u → TidyBehind p g u.top
+  -- ## Declarations
+
+  pub declared-tidy : (n : ComponentExternName) (r : ComponentTypeRef) (u : Tree_stack) → applied s (declared_export_step (tree_maker names_by_place p) s.top n r) ≡ Some u → TidyBehind p g u
   declared-tidy n r u e =
       let m = mapped-some (λ (x : Step tree_reader). apply x s) (declared_export_step (tree_maker names_by_place p) s.top n r) u e in
       let v = mapped-some (enters exporting (extern_name n)) (written (tree_maker names_by_place p) s.top r) m.0 m.1 in
-      subst (λ (t : Tree_stack). TidyBehind p g t.top) (ap (λ (x : Step tree_reader). apply x s) v.2 ∙ m.2)
-      (apply-tidy p g (enters exporting (extern_name n) v.0) s y (enters-tidy p s.top h g y unknown exporting (extern_name n) v.0 (written-tidy p s.top h g y unknown r v.0 v.1)))
+      subst (TidyBehind p g) (ap (λ (x : Step tree_reader). apply x s) v.2 ∙ m.2)
+      (apply-tidy p g (enters exporting (extern_name n) v.0) s all (enters-tidy p s.top leads g y unknown exporting (extern_name n) v.0 (written-tidy p s.top leads g y unknown r v.0 v.1)))

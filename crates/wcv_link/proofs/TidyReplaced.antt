@@ -1,15 +1,20 @@
 -- Where resources are replaced, and nodes are given that are tidy and of the kind of those in whose place they stand, what is tidy stays
--- so, once the nodes that are made again are known.
-use Rattle.std.proofs.Common.{◌≡◌, ◌||◌, Bool, true, false, refl, sym, ◌∙◌, ap, Option, Some, None}
+-- so, once the nodes that are made again are known: replacing keeps forms and names.
+use Rattle.std.proofs.Common.{◌≡◌, List, ◌∷◌, ◌||◌, Bool, true, false, bytes_eq, refl, sym, ◌∙◌, ap, subst, Option, Some, None}
+use Rattle.std.specs.List.{IsDistinct}
+use Rattle.std.specs.Map.{keys_of}
 use Rattle.std.proofs.lemmas.Bool.{false≢true}
 use Rattle.wcv_core.specs.Names.{Name}
 use Rattle.wcv_types.specs.Identity.{Identity, of_node, of_reference, identity_at, same_known}
 use Rattle.wcv_types.specs.Replacing.{Replacement, given_at, given_or, given_elsewhere, moves, changed, changed_in, new_head, replaced, replaced_in, GivesSame, GivesSameIn}
-use Rattle.wcv_types.specs.Tree.{Head, resource, defined, func, instance, component, core_module, core_instance, node, Parts, none, part, head}
+use Rattle.wcv_types.specs.Tree.{Text, Head, here, label, import, export, core_import, core_export, nothing, primitive, resource, defined, func, instance, component, type_entity, core_module, core_instance, node, Parts, none, part, head}
 use Rattle.wcv_types.specs.Unfold.{Type_tree, left_out}
 use Rattle.wcv_types.proofs.Lists.{some-inj}
 use Rattle.wcv_types.proofs.Replacing.{unchanged_in-stays}
-use Rattle.wcv_matching.specs.Orderly.{EachNode}
+use Rattle.wcv_matching.specs.Formed.{ExportsAlone, SidesAlone, IsItem, ItemsAlone, IsFormed}
+use Rattle.wcv_matching.specs.Matching.{named_exports_in, named_imports_in}
+use Rattle.wcv_matching.specs.Orderly.{EachNode, AreNamedApart}
+use Rattle.wcv_lower.specs.Even.{IsLevel}
 use Rattle.wcv_lower.proofs.EvenTypes.{each_weaker}
 use Rattle.wcv_link.proofs.Alike.{SameKind, IsOf, stands}
 use Rattle.wcv_link.proofs.BareGiven.{same-one, replaced-alike, replaced-owns, entries-own}
@@ -21,7 +26,7 @@ stands_for g i = given_or (g i) left_out
 
 module _ (g : Known) where
   -- a node is what stands for its identity
-  is-one : (h : Head Name Name) (ps : Parts Name Name) → IsTidy g h ps → (i : Identity) → identity_at h ≡ Some i → node h ps ≡ stands (stands_for g) i
+  pub is-one : (h : Head Name Name) (ps : Parts Name Name) → IsTidy g h ps → (i : Identity) → identity_at h ≡ Some i → node h ps ≡ stands (stands_for g) i
   is-one (resource r s) ps w i e = (λ j. node (resource r s) (w.plain j)) ∙ ap (stands (stands_for g)) (some-inj e)
   is-one h ps w (of_node i) e = sym (ap (λ (o : Option Type_tree). given_or o left_out) (w.one i e))
   is-one h ps w (of_reference r s) e = absurd (cc)
@@ -41,6 +46,69 @@ known-both (Some i) (Some j) e = (i, refl, ap Some (sym (same-one i j e)))
 or_none : (a b : Bool) → (a || b) ≡ false → b ≡ false
 or_none true b e = absurd (false≢true (sym e))
 or_none false b e = e
+
+-- ## Forms and names
+
+module _ (m : Replacement) where
+  -- a node is formed as before
+  pub exports-again : (ps : Parts Name Name) → ExportsAlone ps → ExportsAlone (replaced_in m ps)
+  exports-again none w = tt
+  exports-again (part (export n) t ps) w = exports-again ps w
+  exports-again (part k t ps) w = absurd w
+
+  sides-again : (ps : Parts Name Name) → SidesAlone ps → SidesAlone (replaced_in m ps)
+  sides-again none w = tt
+  sides-again (part (import n) t ps) w = sides-again ps w
+  sides-again (part (export n) t ps) w = sides-again ps w
+  sides-again (part k t ps) w = absurd w
+
+  item-again : (t : Type_tree) → IsItem t → IsItem (replaced m t)
+  item-again t w = (w.0, ap (replaced m) w.1)
+
+  items-again : (ps : Parts Name Name) → ItemsAlone ps → ItemsAlone (replaced_in m ps)
+  items-again none w = tt
+  items-again (part (core_import a n) t ps) w = (item-again t w.0, items-again ps w.1)
+  items-again (part (core_export n) t ps) w = (item-again t w.0, items-again ps w.1)
+  items-again (part k t ps) w = absurd w
+
+  formed-again : (b : Bool) (h : Head Name Name) (ps : Parts Name Name) → (IsLevel h ps → IsFormed h ps) → IsLevel (new_head m b h) (replaced_in m ps) → IsFormed (new_head m b h) (replaced_in m ps)
+  formed-again b type_entity none w l = w l
+  formed-again b type_entity (part k t none) w l = w l
+  formed-again b type_entity (part k t (part o u none)) w l = l
+  formed-again b type_entity (part k t (part o u (part q x ps))) w l = w l
+  formed-again true (instance i own) ps w l = exports-again ps (w tt)
+  formed-again false (instance i own) ps w l = exports-again ps (w tt)
+  formed-again true (component i ins outs) ps w l = sides-again ps (w tt)
+  formed-again false (component i ins outs) ps w l = sides-again ps (w tt)
+  formed-again true (core_module i n) ps w l = items-again ps (w tt)
+  formed-again false (core_module i n) ps w l = items-again ps (w tt)
+  formed-again b nothing ps w l = tt
+  formed-again b (primitive p) ps w l = tt
+  formed-again b (resource r s) ps w l = tt
+  formed-again true h ps w l = tt
+  formed-again false h ps w l = tt
+
+  -- and its imports and exports have the names that they had
+  imports-keep : (ps : Parts Name Name) → keys_of (named_imports_in (replaced_in m ps)) ≡ keys_of (named_imports_in ps)
+  imports-keep none = refl
+  imports-keep (part (import n) t ps) = ap (λ (ks : List Text). n.name ∷ ks) (imports-keep ps)
+  imports-keep (part (export n) t ps) = imports-keep ps
+  imports-keep (part here t ps) = imports-keep ps
+  imports-keep (part (label l) t ps) = imports-keep ps
+  imports-keep (part (core_import a n) t ps) = imports-keep ps
+  imports-keep (part (core_export n) t ps) = imports-keep ps
+
+  exports-keep : (ps : Parts Name Name) → keys_of (named_exports_in (replaced_in m ps)) ≡ keys_of (named_exports_in ps)
+  exports-keep none = refl
+  exports-keep (part (export n) t ps) = ap (λ (ks : List Text). n.name ∷ ks) (exports-keep ps)
+  exports-keep (part (import n) t ps) = exports-keep ps
+  exports-keep (part here t ps) = exports-keep ps
+  exports-keep (part (label l) t ps) = exports-keep ps
+  exports-keep (part (core_import a n) t ps) = exports-keep ps
+  exports-keep (part (core_export n) t ps) = exports-keep ps
+
+  pub named-again : (ps : Parts Name Name) → AreNamedApart ps → AreNamedApart (replaced_in m ps)
+  named-again ps w = (subst (IsDistinct bytes_eq) (sym (imports-keep ps)) w.0, subst (IsDistinct bytes_eq) (sym (exports-keep ps)) w.1)
 
 module _ (g f : Known) (m : Replacement) (more : KnownMore g f) (gives : (i : Identity) (u : Type_tree) → m.nodes i ≡ Some u → TidyType g u) (kinds : (i : Identity) (u : Type_tree) → m.nodes i ≡ Some u → SameKind u (stands (stands_for g) i))
     (remade : (i : Name) (t : Type_tree) → g i ≡ Some t → m.nodes (of_node i) ≡ None → changed m t ≡ true → f (m.again i) ≡ Some (replaced m t)) where
@@ -119,6 +187,8 @@ module _ (g f : Known) (m : Replacement) (more : KnownMore g f) (gives : (i : Id
         bare = entries-own (stands_for g) m kinds ps of.1 w.0.bare;
         apart = apart-again b h w.0.apart;
         plain = plain-again b h ps w.0.plain;
+        formed = formed-again m b h ps w.0.formed;
+        named = named-again m ps w.0.named;
         one = one-again h ps w.0 w.1 n b refl;
       }
 

@@ -7,6 +7,7 @@ use Rattle.wcv_core.specs.declared.error.ErrorKind.TheVariants as kind
 use Rattle.wcv_core.specs.declared.features.WasmFeatures.{WasmFeatures}
 use Rattle.wcv_syntax.specs.Model.{Form, type_item, core_type_item, alias_item, Items, no_items, next_item}
 use Rattle.wcv_syntax.specs.declared.component_type.ComponentTypeRef.{ComponentTypeRef}
+use Rattle.wcv_syntax.specs.declared.name.ComponentExport.{ComponentExport}
 use Rattle.wcv_types.specs.Arena.{Arena}
 use Rattle.wcv_types.specs.Standing.{Extends}
 use Rattle.wcv_lower.specs.Checks.{IsFree}
@@ -15,10 +16,10 @@ use Rattle.wcv_lower.specs.Items.{read_item, item_causes}
 use Rattle.wcv_lower.specs.Names.{Names, Under}
 use Rattle.wcv_lower.specs.Trees.{Tree_context, Tree_stack, tree_maker}
 use Rattle.wcv_state.specs.Contents.{Contents, stack_of}
-use Rattle.wcv_state.specs.Instances.{MayOpen}
+use Rattle.wcv_state.specs.Instances.{MayOpen, ItemMayOpen}
 use Rattle.wcv_state.specs.Promises.{numbers_of, MemoryOrCausedBy, Keeps}
 use Rattle.wcv_decls.specs.Declaring.{innermost}
-use Rattle.wcv_decls.specs.Stack.{IsOpen, AreCalm, ChangesLast, stay, contexts_around}
+use Rattle.wcv_decls.specs.Stack.{IsOpen, AreCalm, all_uncharged, contexts_around}
 use Rattle.wcv_link.specs.Instances.{AllMayInstantiate}
 use Rattle.wcv_link.specs.Valid.{start, Refused}
 
@@ -37,11 +38,12 @@ looks_around (core_type_item t) = true
 looks_around (alias_item a) = true
 looks_around f = false
 
--- the state grew by the item at that place, by names that the arena gave, in the contexts further out, and the item has no cause
-pub record GrewAt (a b : Arena) (outer : List Tree_context) (s s' : Contents) (f : Form) (p : Place) : Type 0 where
+-- the state grew by the item at that place, by names that the arena gave, in the contexts further out, which became others, and the item
+-- has no cause
+pub record GrewAt (a b : Arena) (outer outer' : List Tree_context) (s s' : Contents) (f : Form) (p : Place) : Type 0 where
   pub names : GivenNames
   pub given : GivesAt (Under p) (numbers_of a) (numbers_of b) names
-  pub grown : read_item s.features (tree_maker (names_of names)) p (stack_of a s outer) f ≡ Some (stack_of b s' outer)
+  pub grown : read_item s.features (tree_maker (names_of names)) p (stack_of a s outer) f ≡ Some (stack_of b s' outer')
   pub free : IsFree (item_causes s.features (tree_maker (names_of names)) p (stack_of a s outer) f)
 
 -- the error is out of memory, or a cause of the item at that place by names that the arena gave
@@ -50,9 +52,9 @@ pub record RefusedAt {M : Type 0} (a b : Arena) (outer : List Tree_context) (s :
   pub given : GivesAt (Under p) (numbers_of a) (numbers_of b) names
   pub caused : MemoryOrCausedBy (item_causes s.features (tree_maker (names_of names)) p (stack_of a s outer) f) offset e
 
--- an instance may be made of each instance type that stands in the state
+-- an instance may be made of each instance type that stands in the state, and of the type of each instance that is exported
 abbrev pub AllMayOpen : Arena → Contents → Type 0
-AllMayOpen a s = (r : ComponentTypeRef) → MayOpen a s.spaces.types r
+AllMayOpen a s = ((r : ComponentTypeRef) → MayOpen a s.spaces.types r) × ((e : ComponentExport) → ItemMayOpen a s.spaces.instances e)
 
 -- so of each component that stands in the innermost state
 abbrev pub LastMayInstantiate : Arena → List Contents → Type 0
@@ -60,7 +62,7 @@ LastMayInstantiate a ss = AllMayInstantiate a (innermost ss)
 
 -- a state took the item, at whatever place and in whatever contexts
 pub record TakesItem (a b : Arena) (s s' : Contents) (f : Form) : Type 0 where
-  pub grew : (outer : List Tree_context) (p : Place) → GrewAt a b outer s s' f p
+  pub grew : (outer : List Tree_context) (p : Place) → GrewAt a b outer outer s s' f p
   pub live : s'.spent ≡ false
   pub keeps : Keeps a b s s'
 
@@ -69,12 +71,17 @@ pub record LeavesItem {M : Type 0} (a b : Arena) (s : Contents) (f : Form) (offs
   pub refused : (outer : List Tree_context) (p : Place) → RefusedAt a b outer s f p offset e
   pub arena : Extends a b
 
--- the innermost of the states took it at that place, and the others stay, with their contexts
+-- the innermost of the states took it at that place, and the others stay but for what was aliased into them
 pub record TakenOn (a b : Arena) (p : Place) (ss ss' : List Contents) (f : Form) : Type 0 where
-  pub last : ChangesLast stay ss ss'
-  pub around : contexts_around b last.outer ≡ contexts_around a last.outer
-  pub grew : GrewAt a b (contexts_around a last.outer) last.old last.new f p
-  pub features : last.new.features ≡ last.old.features
+  pub outer : List Contents
+  pub outer' : List Contents
+  pub old : Contents
+  pub new : Contents
+  pub was : ss ≡ outer ++ old ∷ []
+  pub becomes : ss' ≡ outer' ++ new ∷ []
+  pub same : all_uncharged outer' ≡ all_uncharged outer
+  pub grew : GrewAt a b (contexts_around a outer) (contexts_around b outer') old new f p
+  pub features : new.features ≡ old.features
 
 -- so at whatever place, and they may be used further
 pub record AcceptsItem (a b : Arena) (ss ss' : List Contents) (f : Form) : Type 0 where

@@ -5,11 +5,12 @@ use Rattle.wcv_core.proofs.Closing.{caused_same}
 use Rattle.wcv_syntax.specs.Built.{is_plain}
 use Rattle.wcv_syntax.specs.Model.{Form, alias_item}
 use Rattle.wcv_lower.specs.Aliases.{alias_left}
+use Rattle.wcv_state.specs.Aliasing.{AliasedOn}
 use Rattle.wcv_state.specs.Contents.{Contents}
-use Rattle.wcv_state.specs.Stack.{IsOpen, GrewOn, RefusedOn, KeepsOn}
+use Rattle.wcv_state.specs.Stack.{IsOpen, RefusedOn, KeepsOn}
 use Rattle.wcv_decls.proofs.Stacks.{kept_back}
 use Rattle.wcv_link.specs.Progress.{AcceptsItem}
-use Rattle.wcv_link.proofs.Open.{accepts_one, refuses_one, refuses_left}
+use Rattle.wcv_link.proofs.Open.{accepts_alias, refuses_one, refuses_left}
 use Rattle.wcv_link.proofs.Steps.{one_step, built_refused, unbuilt_refused}
 use Rattle.wcv_link.proofs.core_items.read_alias.Goals as goal
 
@@ -50,8 +51,7 @@ returns-clause-ok c =
     let back = kept_back a b ss ys _ c.args.components.now.len c.args.components.now.ok.0 keeps in
     subst (λ (xs : List Contents). OnOk c.add_alias.result (AcceptsItem a b ss xs f)) (sym back)
     (on_ok_weaker c.add_alias.result
-    (λ g. accepts_one a b ss ys c.requires keeps f (one_step f refl) (λ s. tt) built (λ s. c.in_ok-check_alias_limits.ensures.ok)
-    (λ p. subst (λ (xs : List Contents). GrewOn a b p xs ys f) same (g p)))
+    (λ g. accepts_alias a b ss ys c.requires keeps c.args.alias built c.in_ok-check_alias_limits.ensures.ok (subst (λ (xs : List Contents). AliasedOn a b xs ys c.args.alias) same g))
     c.add_alias.ensures.ok)
 
 pub returns-clause-err : goal.returns-clause-err
