@@ -1,5 +1,5 @@
 -- A state with nothing in it, and types that join the innermost of states.
-use Rattle.std.proofs.Common.{◌≡◌, List, [], ◌∷◌, map, refl, sym, ◌∙◌, ap, subst, arith, true}
+use Rattle.std.proofs.Common.{◌≡◌, List, [], ◌∷◌, map, refl, sym, subst, arith, true}
 use Rattle.std.proofs.lemmas.List.Elements.{All-nil, All-push}
 use Rattle.wcv_core.specs.declared.features.WasmFeatures.{WasmFeatures}
 use Rattle.wcv_syntax.specs.Model.{Type_form}
@@ -9,17 +9,17 @@ use Rattle.wcv_types.specs.Sets.{identities}
 use Rattle.wcv_types.specs.Unfold.{trees}
 use Rattle.wcv_lower.specs.Context.{empty}
 use Rattle.wcv_lower.specs.Owned.{IsCalm}
-use Rattle.wcv_lower.specs.Trees.{Tree_context, Tree_stack, tree_reader}
+use Rattle.wcv_lower.specs.Trees.{Tree_stack, tree_reader}
 use Rattle.wcv_lower.proofs.Calm.{calm_start}
 use Rattle.wcv_state.specs.Contents.{Contents, empty_state, kind_of, ids, core_ids, id_tree, core_tree, sides, names, stack_of}
-use Rattle.wcv_state.specs.Promises.{numbers_of, Keeps}
+use Rattle.wcv_state.specs.Promises.{numbers_of}
 use Rattle.wcv_state.specs.declared.kind.ComponentKind.{ComponentKind}
 use Rattle.wcv_state.proofs.Keeping.{empty_stands}
 use Rattle.wcv_state.proofs.Sides.{each_side, each_space, each_core}
 use Rattle.wcv_decls.specs.Declaring.{innermost, AreReady}
 use Rattle.wcv_decls.specs.Stack.{IsOpen, AreCalm, DeclaresOn, KeepsOn}
-use Rattle.wcv_decls.proofs.InnermostStates.{innermost_at, stays}
-use Rattle.wcv_decls.proofs.ReadingOn.{innermost_kept}
+use Rattle.wcv_decls.proofs.ChargedStates.{still_ready}
+use Rattle.wcv_decls.proofs.InnermostStates.{stack_at}
 
 -- ## A state with nothing in it
 
@@ -50,12 +50,7 @@ module _ (a : Arena) (k : ComponentKind) (f : WasmFeatures) where
 -- ## A type that joined
 
 module _ (a b : Arena) (ss ss' : List Contents) (t : Type_form) (h : AreReady a ss) (d : DeclaresOn true a b [] ss ss' t) (keeps : KeepsOn a b ss ss') (calm : AreCalm b ss') where
-  last_kept : Keeps a b d.last.old d.last.new
-  last_kept =
-      subst (λ (s : Contents). Keeps a b s d.last.new) (ap innermost d.last.was ∙ innermost_at d.last.outer d.last.old)
-      (subst (Keeps a b (innermost ss)) (ap innermost d.last.becomes ∙ innermost_at d.last.outer d.last.new) (innermost_kept a b ss ss' h.some keeps))
-
   pub joined : AreReady b ss'
   joined =
-      (stays a b ss ss' d.last h.each last_kept d.declared.live
-      (subst (λ (cs : List Tree_context). IsCalm (numbers_of b) (stack_of b d.last.new cs)) d.around (calm d.last.outer d.last.new d.last.becomes))).ready
+      (still_ready a b ss ss' h keeps d.outer d.outer' d.old d.new d.was d.becomes d.same d.declared.live
+      (subst (IsCalm (numbers_of b)) (sym (stack_at b ss' d.outer' d.new d.becomes)) (calm d.outer' d.new d.becomes))).ready
