@@ -142,11 +142,19 @@ def is_built_type(body):
     return True
 
 
+def is_built_alias(alias):
+    """So of the body of an alias."""
+    match alias:
+        case {"export": [_, "value", _]}:
+            return False
+    return True
+
+
 def is_built_declaration(declaration):
     """So of a declaration in a type."""
     match declaration:
-        case {"alias": _}:
-            return False
+        case {"alias": alias}:
+            return is_built_alias(alias)
         case {"type": body}:
             return is_built_type(body)
         case {"import": {"type": {"value": _}}} | {"export": {"type": {"value": _}}}:
@@ -170,7 +178,7 @@ def is_built(item):
         case {"core-type": _} | {"core-module": _} | {"core-instance": _} | {"canon": _}:
             return True
         case {"alias": alias}:
-            return "core-export" in alias
+            return is_built_alias(alias)
         case {"import": {"type": ty}}:
             return "value" not in ty
         case {"export": export}:

@@ -329,6 +329,42 @@ def aliased(limit):
         yield {"core-instance": {"exports": [[words_name("function", n), "func", n] for n in range(first, first + 1_000)]}}
 
 
+def aliased_exports(count):
+    """An instance type that exports resources and functions over them, its import, and an alias of each export, which
+    is exported again."""
+    yield {"type": {"instance": list(resources_and_functions(count // 2))}}
+    yield {"import": {"name": "all", "type": {"instance": 0}}}
+    for n in range(count // 2):
+        yield {"alias": {"export": [0, "type", words_name("resource", n)]}}
+        yield {"alias": {"export": [0, "func", words_name("function", n)]}}
+    for n in range(count // 2):
+        yield {"export": {"name": words_name("function", n), "sort": "func", "index": n}}
+
+
+def resources_and_functions(count):
+    """Declarations: resources, and of each a function that takes it."""
+    for n in range(count):
+        yield {"export": {"name": words_name("resource", n), "type": "sub-resource"}}
+        yield {"type": {"defined": {"borrow": 3 * n}}}
+        yield {"type": {"func": {"params": [["it", 3 * n + 1]]}}}
+        yield {"export": {"name": words_name("function", n), "type": {"func": 3 * n + 2}}}
+
+
+DEEP = 40  # instance types in one another: JSON lets 127 arrays and objects nest
+
+
+def outer_aliased(limit):
+    """Instance types 40 deep, the innermost of which aliases types of the component around all, over and over."""
+    yield {"type": {"defined": {"record": [["x", "u32"]]}}}
+    made = 0
+    while made < limit:
+        body = [{"alias": {"outer": ["type", DEEP, 0]}} for _ in range(1_000)]
+        for _ in range(DEEP - 1):
+            body = [{"type": {"instance": body}}]
+        yield {"type": {"instance": body}}
+        made += 35_000
+
+
 def exported_resources(limit):
     """Resources that are defined, each with its export behind it: at the end of the component each of them is
     looked for among the exports. The largest listing keeps below the limits on types."""

@@ -4,7 +4,7 @@
     bench/measure.py [RUNS] [TABLE ..]
 
 The tables are `overview`, `small`, `front`, `long`, `nested`, `types`, `resources`, `names`, `core`, `ends`,
-`setters`, `reports`, `declared`, `instances`, `components` and `canonical`, all of them if none is named. Times are the smallest
+`setters`, `reports`, `declared`, `instances`, `aliases`, `components` and `canonical`, all of them if none is named. Times are the smallest
 of RUNS runs, 5 if not given, in which the programs that are compared take turns: what else the machine does can only
 add to them. Peak memory is the largest resident size of one more run, in which the bytes that it writes are counted
 too. Where valgrind is there, the instructions of one run are counted: they do not depend on what else the machine
@@ -210,6 +210,13 @@ def instances(runs):
     print_table("Listing of aliases of each export of one core instance, and of core instances that list them", ALL, sizes, runs)
 
 
+def aliases(runs):
+    make = make_listings
+    rows = [(f"{n:,} exports", make.aliased_exports(n), n < 2_000) for n in (1_000, 2_000, 4_000, 64_000)]
+    print_table("Listing of aliases of each export of one instance", ALL, rows, runs)
+    print_table("Listing of outer aliases through 40 instance types", ALL, by_size(make.outer_aliased, (1,)), runs)
+
+
 def components(runs):
     make = make_listings
     counts = [(f"{n} instances", make.instantiated(n), n < 1_000) for n in (250, 500, 1_000)]
@@ -288,6 +295,7 @@ TABLES = {
     "reports": reports,
     "declared": declared,
     "instances": instances,
+    "aliases": aliases,
     "components": components,
     "canonical": canonical,
 }
