@@ -22,10 +22,10 @@ use Rattle.wcv_link.proofs.TidyInside.{Behind, item-behind}
 use Rattle.wcv_link.specs.Progress.{ValidAsFar}
 use Rattle.wcv_link.specs.Valid.{start}
 
-start-settles : (w : Place) → Settles w 0 start
+pub start-settles : (w : Place) → Settles w 0 start
 start-settles w = alone-settles w concrete []
 
-start-tidy : (w : Place) (g : Known) → Tidy w 0 g start
+pub start-tidy : (w : Place) (g : Known) → Tidy w 0 g start
 start-tidy w g = first-tidy w g start (everywhere-both (TidyEntry g) start (empty-tidy g concrete) (λ j c e. cc)) (λ j c e. differ j c e)
   where
     differ : AllSidesDiffer start

@@ -10,7 +10,7 @@ use Rattle.wcv_core.specs.declared.features.WasmFeatures.{WasmFeatures}
 use Rattle.wcv_syntax.specs.Model.{Items, no_items}
 use Rattle.wcv_types.specs.Paths.{PathLeadsTo}
 use Rattle.wcv_types.specs.Tree.{import, export, Parts, none, entries, exports_in, imports_in, component_type}
-use Rattle.wcv_lower.specs.Context.{importing, exporting}
+use Rattle.wcv_lower.specs.Context.{Side, importing, exporting}
 use Rattle.wcv_lower.specs.Ending.{is_free_among, any_free, kept, component_of, type_at_end}
 use Rattle.wcv_lower.specs.Mapped.{map_entries, map_context}
 use Rattle.wcv_lower.specs.Names.{names_by_place}
@@ -39,14 +39,18 @@ pub record Listing (c : Tree_context) : Type 0 where
   pub imported_once : Once c.imported
   pub defined_once : Once c.defined
 
-pub listing : (w : Place) (k : ℕ) (s : Tree_stack) → Settles w k s → s.outer ≡ [] → Listing s.top
-listing w k s h alone = record {
-  in_imports = λ r e. listed-root s alone r (free-listed s h.fine importing r e);
-  in_exports = λ r e. listed-root s alone r (free-listed s h.fine exporting r e);
+-- where what is free in an entry is its own
+pub listing-own : (w : Place) (k : ℕ) (s : Tree_stack) → Settles w k s → ((d : Side) (r : Name) → is_free_among tree_reader r (s.top.side d) ≡ true → In s.top r) → Listing s.top
+listing-own w k s h own = record {
+  in_imports = λ r e. own importing r e;
+  in_exports = λ r e. own exporting r e;
   apart = h.none_twice;
   imported_once = h.imported_once;
   defined_once = h.defined_once;
 }
+
+pub listing : (w : Place) (k : ℕ) (s : Tree_stack) → Settles w k s → s.outer ≡ [] → Listing s.top
+listing w k s h alone = listing-own w k s h (λ d r e. listed-root s alone r (free-listed s h.fine d r e))
 
 -- so before the names were renamed
 module _ (w : Renaming) (c : Tree_context) where

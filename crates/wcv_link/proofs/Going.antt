@@ -5,16 +5,16 @@ use Rattle.wcv_core.specs.Names.{Place, deeper}
 use Rattle.wcv_core.specs.declared.error.ErrorKind.{ErrorKind}
 use Rattle.wcv_core.specs.declared.features.WasmFeatures.{WasmFeatures}
 use Rattle.wcv_syntax.specs.Model.{Form, Items, no_items, next_item}
-use Rattle.wcv_lower.specs.Checks.{IsFree}
-use Rattle.wcv_lower.specs.Items.{read_item, item_causes}
+use Rattle.wcv_lower.specs.Items.{read_item}
 use Rattle.wcv_lower.specs.Mapped.{map_stack}
 use Rattle.wcv_lower.specs.Names.{Names, Under, AreRenamed}
 use Rattle.wcv_lower.specs.Renamed.{Renaming, renaming}
 use Rattle.wcv_lower.specs.Trees.{Tree_stack, tree_maker}
 use Rattle.wcv_lower.proofs.Agreeing.{SameNames}
-use Rattle.wcv_lower.proofs.ItemLaws.{read_item-agrees, item_causes-agree, read_item-renamed, item_causes-renamed}
+use Rattle.wcv_lower.proofs.ItemLaws.{read_item-agrees, read_item-renamed}
+use Rattle.wcv_link.proofs.ValidRead.{valid_item-agrees, valid_item-renamed}
 use Rattle.wcv_link.specs.Progress.{ValidAsFar}
-use Rattle.wcv_link.specs.Valid.{ValidFrom, RefusedFrom}
+use Rattle.wcv_link.specs.Valid.{ValidFrom, ValidItem, RefusedFrom}
 
 module _ (fs : WasmFeatures) (names : Names) (w : Place) where
   -- nothing was read yet
@@ -31,20 +31,20 @@ module _ (fs : WasmFeatures) (names : Names) (w : Place) where
 
   -- one more item
   pub one_further : (k : ℕ) (c : Tree_stack) (is : Items) (n : ℕ) (d e : Tree_stack) (at : ℕ) (f : Form) (rest : Items) → ValidAsFar fs names w k c is n d (next_item at f rest) →
-      IsFree (item_causes fs (tree_maker names) (deeper w n) d f) → read_item fs (tree_maker names) (deeper w n) d f ≡ Some e → ValidAsFar fs names w k c is (suc n) e rest
-  one_further k c no_items n d e at f rest (p, q, r) free grown = cc
-  one_further k c (next_item at' f' is) n d e at f rest (inl x) free grown =
+      ValidItem fs names (deeper w n) d f → read_item fs (tree_maker names) (deeper w n) d f ≡ Some e → ValidAsFar fs names w k c is (suc n) e rest
+  one_further k c no_items n d e at f rest (p, q, r) valid grown = cc
+  one_further k c (next_item at' f' is) n d e at f rest (inl x) valid grown =
       let t : next_item at f rest ≡ next_item at' f' is = x.2 in
       let ef : f ≡ f' = cc in
       let er : rest ≡ is = cc in
-      let free' : IsFree (item_causes fs (tree_maker names) (deeper w k) c f') =
-      subst (λ (z : ℕ). IsFree (item_causes fs (tree_maker names) (deeper w z) c f')) x.0
-      (subst (λ (z : Tree_stack). IsFree (item_causes fs (tree_maker names) (deeper w n) z f')) x.1 (subst (λ (z : Form). IsFree (item_causes fs (tree_maker names) (deeper w n) d z)) ef free)) in
+      let valid' : ValidItem fs names (deeper w k) c f' =
+      subst (λ (z : ℕ). ValidItem fs names (deeper w z) c f') x.0
+      (subst (λ (z : Tree_stack). ValidItem fs names (deeper w n) z f') x.1 (subst (λ (z : Form). ValidItem fs names (deeper w n) d z) ef valid)) in
       let grown' : read_item fs (tree_maker names) (deeper w k) c f' ≡ Some e =
       subst (λ (z : ℕ). read_item fs (tree_maker names) (deeper w z) c f' ≡ Some e) x.0
       (subst (λ (z : Tree_stack). read_item fs (tree_maker names) (deeper w n) z f' ≡ Some e) x.1 (subst (λ (z : Form). read_item fs (tree_maker names) (deeper w n) d z ≡ Some e) ef grown)) in
       inr (
-        free',
+        valid',
         (
           e,
           grown',
@@ -52,8 +52,8 @@ module _ (fs : WasmFeatures) (names : Names) (w : Place) where
               (subst (λ (z : Items). ValidAsFar fs names w (suc k) e is (suc k) e z) (sym er) (as_far_as_start (suc k) e is)),
         ),
       )
-  one_further k c (next_item at' f' is) n d e at f rest (inr x) free grown =
-      inr (x.0, (x.1.0, x.1.1, one_further (suc k) x.1.0 is n d e at f rest x.1.2 free grown))
+  one_further k c (next_item at' f' is) n d e at f rest (inr x) valid grown =
+      inr (x.0, (x.1.0, x.1.1, one_further (suc k) x.1.0 is n d e at f rest x.1.2 valid grown))
 
   -- what is read on decides the whole
   pub reads_on : (k : ℕ) (c : Tree_stack) (is : Items) (n : ℕ) (d e : Tree_stack) (left : Items) → ValidAsFar fs names w k c is n d left → ValidFrom fs names w n d left e → ValidFrom fs names w k c is e
@@ -90,7 +90,7 @@ as_far-agrees fs names other w k s (next_item at f is) n t left same (inr x) =
     let m : suc k ≤ n = not_back fs names w (suc k) x.1.0 is n t left x.1.2 in
     let here : SameNames (Under (deeper w k)) names other = same k (omega arith) (omega (arith, m)) in
     inr (
-      subst IsFree (sym (item_causes-agree names other (deeper w k) here fs s f)) x.0,
+      valid_item-agrees fs names other (deeper w k) s f here x.0,
       (
         x.1.0,
         read_item-agrees names other (deeper w k) here fs s f ∙ x.1.1,
@@ -105,7 +105,7 @@ as_far-renamed v fs names other w renamed k s no_items n t left r = (r.0, ap (ma
 as_far-renamed v fs names other w renamed k s (next_item at f is) n t left (inl x) = inl (x.0, ap (map_stack (renaming v)) x.1, x.2)
 as_far-renamed v fs names other w renamed k s (next_item at f is) n t left (inr x) =
     inr (
-      subst IsFree (sym (item_causes-renamed v names other (deeper w k) (renamed (deeper w k)) fs s f)) x.0,
+      valid_item-renamed v fs names other renamed (deeper w k) s f x.0,
       (
         map_stack (renaming v) x.1.0,
         read_item-renamed v names other (deeper w k) (renamed (deeper w k)) fs s f ∙ ap (option_map (map_stack (renaming v))) x.1.1,

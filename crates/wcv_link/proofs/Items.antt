@@ -5,7 +5,7 @@ use Rattle.wcv_core.specs.Names.{Name, Place}
 use Rattle.wcv_core.specs.declared.features.WasmFeatures.{WasmFeatures}
 use Rattle.wcv_core.proofs.Names.{and_right}
 use Rattle.wcv_syntax.specs.Built.{is_plain, is_built_ref, is_built_sort, is_built_written}
-use Rattle.wcv_syntax.specs.Model.{Form, core_type_item, core_module_item, core_instance_item, type_item, import_item, export_item, component_item, instance_item, alias_item, start_item, canon_item, unread}
+use Rattle.wcv_syntax.specs.Model.{Form, core_type_item, core_module_item, core_instance_item, type_item, import_item, export_item, component_item, instance_item, alias_item, start_item, canon_item}
 use Rattle.wcv_syntax.specs.declared.component_type.ComponentTypeRef.{ComponentTypeRef}
 use Rattle.wcv_syntax.specs.declared.instance.ComponentAlias.TheVariants as alias
 use Rattle.wcv_syntax.specs.declared.name.ComponentExternName.{ComponentExternName}
@@ -69,7 +69,6 @@ module _ (p : Place) (s : Tree_stack) (h : Ready p s) (g : Known) (y : AllEntrie
   step-does fs (alias_item (alias.Outer k n i)) x may b e = outer_alias-does p s h k n i x e
   step-does fs (start_item k args results) x may b e = cc
   step-does fs (canon_item f) x may b e = canon-does p s h f x e
-  step-does fs unread x may b e = cc
 
   -- ## What its entries own
 

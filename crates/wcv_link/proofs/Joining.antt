@@ -10,7 +10,7 @@ use Rattle.wcv_core.specs.CoreWritten.{closed_group}
 use Rattle.wcv_core.specs.Names.{Place, base}
 use Rattle.wcv_core.specs.declared.core_types.EntityType.TheVariants as entity
 use Rattle.wcv_core.specs.declared.features.WasmFeatures.{WasmFeatures}
-use Rattle.wcv_syntax.specs.Model.{Form, core_type_item, core_module_item, core_instance_item, type_item, import_item, export_item, component_item, instance_item, alias_item, start_item, canon_item, unread, Type_form, defined_type, func_type, component_type, instance_type, resource_type, Core_type_form, core_rec, core_module_type, Instance_form, instantiate, bag}
+use Rattle.wcv_syntax.specs.Model.{Form, core_type_item, core_module_item, core_instance_item, type_item, import_item, export_item, component_item, instance_item, alias_item, start_item, canon_item, Type_form, defined_type, func_type, component_type, instance_type, resource_type, Core_type_form, core_rec, core_module_type, Instance_form, instantiate, bag}
 use Rattle.wcv_syntax.specs.ModuleTypes.{Made}
 use Rattle.wcv_syntax.specs.declared.instance.ComponentAlias.{ComponentAlias}
 use Rattle.wcv_syntax.specs.declared.instance.ComponentAlias.TheVariants as alias
@@ -180,4 +180,3 @@ module _ (p : Place) (s : Tree_stack) where
   items-join fs (alias_item a) x e = of_some AllJoin (alias_step s a) x (aliases-join a) e
   items-join fs (start_item k args results) x e = cc
   items-join fs (canon_item c) x e = canon-holds s AllJoin (λ v y w. more (types_slots v) y tt w) (λ g. more (interns (grown s.groups g)) (core_appends core_funcs (func_item s.groups g) ∷ []) tt (one (core_appends core_funcs (func_item s.groups g)) tt)) (λ k t q. one (appends in_funcs t) tt) c x e
-  items-join fs unread x e = cc

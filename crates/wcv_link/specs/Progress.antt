@@ -5,23 +5,22 @@ use Rattle.wcv_core.specs.Refusal.{error_kind, error_offset}
 use Rattle.wcv_core.specs.declared.error.Error.{Error}
 use Rattle.wcv_core.specs.declared.error.ErrorKind.TheVariants as kind
 use Rattle.wcv_core.specs.declared.features.WasmFeatures.{WasmFeatures}
-use Rattle.wcv_syntax.specs.Model.{Form, type_item, core_type_item, alias_item, Items, no_items, next_item}
+use Rattle.wcv_syntax.specs.Model.{Form, type_item, core_type_item, alias_item, component_item, Items, no_items, next_item}
 use Rattle.wcv_syntax.specs.declared.component_type.ComponentTypeRef.{ComponentTypeRef}
 use Rattle.wcv_syntax.specs.declared.name.ComponentExport.{ComponentExport}
 use Rattle.wcv_types.specs.Arena.{Arena}
 use Rattle.wcv_types.specs.Standing.{Extends}
-use Rattle.wcv_lower.specs.Checks.{IsFree}
 use Rattle.wcv_lower.specs.Given.{GivenNames, names_of, no_numbers, GivesAt}
-use Rattle.wcv_lower.specs.Items.{read_item, item_causes}
+use Rattle.wcv_lower.specs.Items.{read_item}
 use Rattle.wcv_lower.specs.Names.{Names, Under}
 use Rattle.wcv_lower.specs.Trees.{Tree_context, Tree_stack, tree_maker}
 use Rattle.wcv_state.specs.Contents.{Contents, stack_of}
 use Rattle.wcv_state.specs.Instances.{MayOpen, ItemMayOpen}
-use Rattle.wcv_state.specs.Promises.{numbers_of, MemoryOrCausedBy, Keeps}
+use Rattle.wcv_state.specs.Promises.{numbers_of, Keeps}
 use Rattle.wcv_decls.specs.Declaring.{innermost}
 use Rattle.wcv_decls.specs.Stack.{IsOpen, AreCalm, all_uncharged, contexts_around}
 use Rattle.wcv_link.specs.Instances.{AllMayInstantiate}
-use Rattle.wcv_link.specs.Valid.{start, Refused}
+use Rattle.wcv_link.specs.Valid.{ValidItem, RefusedItem, start, Refused}
 
 -- the states that are open may be used, the innermost last, their ids stand in the arena, and what stands in them owns apart
 pub record IsReady (a : Arena) (ss : List Contents) : Type 0 where
@@ -31,26 +30,31 @@ pub record IsReady (a : Arena) (ss : List Contents) : Type 0 where
 
 -- ## One item
 
--- the item is a type, a core type or an alias, which looks at the states around it too
+-- the item is a type, a core type, an alias or a component, which looks at the states around it too
 abbrev pub looks_around : Form → Bool
 looks_around (type_item t) = true
 looks_around (core_type_item t) = true
 looks_around (alias_item a) = true
+looks_around (component_item is end) = true
 looks_around f = false
 
+-- the error is out of memory, or one of that kind and that offset is a refusal of the item
+abbrev pub MemoryOrRefusedItem : {M : Type 0} → WasmFeatures → Names → Place → Tree_stack → ℕ → Form → Error M → Type 0
+MemoryOrRefusedItem fs names p s at f e = (error_kind e ≡ kind.OutOfMemory) ⊎ RefusedItem fs names p s at f (error_kind e) (error_offset e)
+
 -- the state grew by the item at that place, by names that the arena gave, in the contexts further out, which became others, and the item
--- has no cause
+-- is valid
 pub record GrewAt (a b : Arena) (outer outer' : List Tree_context) (s s' : Contents) (f : Form) (p : Place) : Type 0 where
   pub names : GivenNames
   pub given : GivesAt (Under p) (numbers_of a) (numbers_of b) names
   pub grown : read_item s.features (tree_maker (names_of names)) p (stack_of a s outer) f ≡ Some (stack_of b s' outer')
-  pub free : IsFree (item_causes s.features (tree_maker (names_of names)) p (stack_of a s outer) f)
+  pub free : ValidItem s.features (names_of names) p (stack_of a s outer) f
 
--- the error is out of memory, or a cause of the item at that place by names that the arena gave
+-- the error is out of memory, or the item at that place is refused so by names that the arena gave; it stands at that offset
 pub record RefusedAt {M : Type 0} (a b : Arena) (outer : List Tree_context) (s : Contents) (f : Form) (p : Place) (offset : ℕ) (e : Error M) : Type 0 where
   pub names : GivenNames
   pub given : GivesAt (Under p) (numbers_of a) (numbers_of b) names
-  pub caused : MemoryOrCausedBy (item_causes s.features (tree_maker (names_of names)) p (stack_of a s outer) f) offset e
+  pub caused : MemoryOrRefusedItem s.features (names_of names) p (stack_of a s outer) offset f e
 
 -- an instance may be made of each instance type that stands in the state, and of the type of each instance that is exported
 abbrev pub AllMayOpen : Arena → Contents → Type 0
@@ -96,12 +100,12 @@ pub record RefusesItem {M : Type 0} (a b : Arena) (ss : List Contents) (f : Form
 
 -- ## The items so far
 
--- the items from position k on were read without a cause as far as position n, where the stack is t and these are left
+-- the items from position k on are valid and were read as far as position n, where the stack is t and these are left
 abbrev pub ValidAsFar : WasmFeatures → Names → Place → ℕ → Tree_stack → Items → ℕ → Tree_stack → Items → Type 0
 ValidAsFar fs names w k s no_items n t left = (n ≡ k) × (t ≡ s) × (left ≡ no_items)
 ValidAsFar fs names w k s (next_item at f is) n t left =
     ((n ≡ k) × (t ≡ s) × (left ≡ next_item at f is)) ⊎
-    (IsFree (item_causes fs (tree_maker names) (deeper w k) s f) × ((u : Tree_stack) × (read_item fs (tree_maker names) (deeper w k) s f ≡ Some u) × ValidAsFar fs names w (suc k) u is n t left))
+    (ValidItem fs names (deeper w k) s f × ((u : Tree_stack) × (read_item fs (tree_maker names) (deeper w k) s f ≡ Some u) × ValidAsFar fs names w (suc k) u is n t left))
 
 -- in an item of the list that stands before position k
 abbrev pub Before : Place → ℕ → Place → Type 0

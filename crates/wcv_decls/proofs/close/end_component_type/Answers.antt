@@ -77,7 +77,7 @@ returns-clause-ok c =
     let w : ChangesLast stay ss (slice_set ss k t) = last_changed ss k s t c.requires.inside last here in
     let now : slice_set c.pop_type.new.components.items k t ≡ slice_set ss k t = ap (λ (xs : List Contents). slice_set xs k t) c.pop_type.ensures.left in
     let end = node_at_end a (innermost os) c.in_ok-ty.ty c.in_ok-ty.ensures.ok in
-    subst (Ends declares_component a b os) (sym now) (type_ends declares_component a b os c.requires.ready c.requires.inside each (n.Component c.in_ok-ty.ty) s t here c.in_ok-store_component.ensures.ok end.node end.made (sym (component_tree_same a (innermost os) c.in_ok-ty.ty c.in_ok-ty.ensures.ok) ∙ sym (end.tree (number (length a.nodes)))) c.in_ok-ty.ensures.ok.free k last)
+    subst (Ends declares_component a b os) (sym now) (type_ends declares_component refl a b os c.requires.ready c.requires.inside each (n.Component c.in_ok-ty.ty) s t here c.in_ok-store_component.ensures.ok end.node end.made (sym (component_tree_same a (innermost os) c.in_ok-ty.ty c.in_ok-ty.ensures.ok) ∙ sym (end.tree (number (length a.nodes)))) c.in_ok-ty.ensures.ok.free k last)
 
 pub returns-in_err-store_component-clause-around : goal.returns-in_err-store_component-clause-around
 returns-in_err-store_component-clause-around c =

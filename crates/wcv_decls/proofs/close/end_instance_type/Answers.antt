@@ -153,4 +153,4 @@ returns-clause-ok c =
     let now : slice_set c.pop_type.new.components.items k t ≡ slice_set ss k t = ap (λ (xs : List Contents). slice_set xs k t) c.pop_type.ensures.left in
     let x = c.in_ok-ty.ty in
     let same = instance_same a (innermost os) c.in_ok-pop_type.field-0 c.in_ok-pop_type.ensures.ok c.requires.declares x c.in_ok-ty.ensures.resources c.in_ok-ty.ensures.exports in
-    subst (Ends declares_instance a b os) (sym now) (type_ends declares_instance a b os c.requires.ready c.requires.inside each (n.Instance x) s t here c.in_ok-store_instance.ensures.ok (instance_made (context_of a (innermost os))) refl same tt k last)
+    subst (Ends declares_instance a b os) (sym now) (type_ends declares_instance refl a b os c.requires.ready c.requires.inside each (n.Instance x) s t here c.in_ok-store_instance.ensures.ok (instance_made (context_of a (innermost os))) refl same tt k last)
