@@ -34,7 +34,7 @@ use Rattle.wcv_lower.specs.CoreInstances.{space_of, core_module_at, core_instanc
 use Rattle.wcv_lower.specs.CoreItems.{core_entries, is_closable, types_join, closed_step, module_joins, core_type_made, core_type_step, core_module_made, core_module_step}
 use Rattle.wcv_lower.specs.Defined.{former, written_parts, handle_index, made_of, defined_made}
 use Rattle.wcv_lower.specs.Entries.{extern_name, module_type_at, again_brought, written, items_of, exported_at, exported_as, exported_by, exported, import_step, export_step}
-use Rattle.wcv_lower.specs.Names.{Names, Origin, introduced, again}
+use Rattle.wcv_lower.specs.Names.{Names, introduced, again}
 use Rattle.wcv_lower.specs.NewTypes.{path_or_none}
 use Rattle.wcv_lower.specs.Owned.{AllEntries}
 use Rattle.wcv_lower.specs.Readers.{New_node, func_node, defined_node, module_node, core_instance_node, core_exports_node, if_sort, Maker}
@@ -92,6 +92,10 @@ items_have P c all kind.Instance = all.space in_instances
 items_have P c all kind.Component = all.space in_components
 
 -- ## What a change brings
+
+-- the names at that place that resources are given
+abbrev pub AreNewAt : (Name → Type 0) → Names → Place → Type 0
+AreNewAt New names p = New (names.resource (introduced p)) × ((r : Name) → New (names.resource (again p r)))
 
 -- an entry has one property, a resource another
 abbrev pub Brings : (Type_tree → Type 0) → (Name → Type 0) → Change tree_reader → Type 0
@@ -190,7 +194,7 @@ module _ {P : Type_tree → Type 0} {In : Parts Name Name → Type 0} (law : Inh
 
     -- ## What is made
 
-    module _ (names : Names) (p : Place) (fresh : (o : Origin) → New (names.resource o)) where
+    module _ (names : Names) (p : Place) (fresh : AreNewAt New names p) where
       abbrev mk : Maker tree_reader
       mk = tree_maker names p
 
@@ -199,7 +203,7 @@ module _ {P : Type_tree → Type 0} {In : Parts Name Name → Type 0} (law : Inh
 
       resources_new : (f : Name → List ℕ) (own : List Name) → All (λ (x : Name × List ℕ). New x.0) (map (λ r. (names.resource (again p r), f r)) own)
       resources_new f [] = All-nil (λ (r : Name × List ℕ). New r.0)
-      resources_new f (r ∷ own) = All-cons (λ (r : Name × List ℕ). New r.0) (names.resource (again p r), f r) _ (fresh (again p r)) (resources_new f own)
+      resources_new f (r ∷ own) = All-cons (λ (r : Name × List ℕ). New r.0) (names.resource (again p r), f r) _ (fresh.1 r) (resources_new f own)
 
       instance_of_has : (x : Type_tree) → P x → BroughtOf (mk.instance_of x)
       instance_of_has x w = (instance_has law names p x w, resources_new (λ r. path_or_none (first_path r (exports x))) (owned x))
@@ -210,7 +214,7 @@ module _ {P : Type_tree → Type 0} {In : Parts Name Name → Type 0} (law : Inh
       written_has (ref.Instance k) = any_mapped P BroughtOf mk.instance_of instance_of_has (type_of_sort is_instance c k) (of_sort_has is_instance k)
       written_has (ref.Component k) = any_mapped P BroughtOf (bare tree_reader) bare_of (type_of_sort is_component c k) (of_sort_has is_component k)
       written_has (ref.Ty (bounds.Eq k)) = any_mapped P BroughtOf (again_brought mk) again_of (type_at c k) (type_has k)
-      written_has (ref.Ty bounds.SubResource) = (reference_has law names p, All-cons (λ (r : Name × List ℕ). New r.0) (mk.resource, []) [] (fresh (introduced p)) (All-nil (λ (r : Name × List ℕ). New r.0)))
+      written_has (ref.Ty bounds.SubResource) = (reference_has law names p, All-cons (λ (r : Name × List ℕ). New r.0) (mk.resource, []) [] fresh.0 (All-nil (λ (r : Name × List ℕ). New r.0)))
       written_has (ref.Value v) = tt
 
       exported_as_has : (k : ComponentExternalKind) (x : Type_tree) → P x → BroughtOf (exported_as mk k x)
@@ -240,7 +244,7 @@ module _ {P : Type_tree → Type 0} {In : Parts Name Name → Type 0} (law : Inh
       types_bring (instance_type ds) = tt
       types_bring (resource_type rep dtor) =
           any_cond (AllBring P New) (is_concrete c.kind) (defines mk.resource (Some rep) ∷ joins_types mk.reference)
-          (brings_more P New (defines mk.resource (Some rep)) (appends in_types mk.reference ∷ []) (fresh (introduced p)) (brings_one P New (appends in_types mk.reference) (reference_has law names p)))
+          (brings_more P New (defines mk.resource (Some rep)) (appends in_types mk.reference ∷ []) fresh.0 (brings_one P New (appends in_types mk.reference) (reference_has law names p)))
 
       pub imports_bring : (i : ComponentImport) → OfAny (AllBring P New) (import_step mk c i)
       imports_bring i = any_mapped BroughtOf (AllBring P New) (enters importing (extern_name i.name)) (enters_bring importing (extern_name i.name)) (written mk c i.ty) (written_has i.ty)
@@ -289,7 +293,7 @@ module _ {P : Type_tree → Type 0} {In : Parts Name Name → Type 0} (law : Inh
   any_made None = tt
   any_made (Some m) = tt
 
-  module _ (fs : WasmFeatures) (names : Names) (p : Place) (fresh : (o : Origin) → New (names.resource o)) (s : Tree_stack) (all : AllEntries P s.top) where
+  module _ (fs : WasmFeatures) (names : Names) (p : Place) (fresh : AreNewAt New names p) (s : Tree_stack) (all : AllEntries P s.top) where
     pub core_types_bring : (t : Core_type_form) → OfAny (AllBring P New) (core_type_step fs (tree_maker names p) s t)
     core_types_bring (core_rec w) =
         let g : Group = closed_group (core_entries s.top) w in

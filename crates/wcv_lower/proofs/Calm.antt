@@ -1,6 +1,6 @@
 -- A stack that is calm, and what keeps it so: contexts that open and close, and steps that bring no owner.
-use Rattle.std.proofs.Common.{◌≡◌, ℕ, zero, suc, ◌≤◌, List, [], ◌∷◌, refl, sym, ◌∙◌, ap, subst, arith, suc-ne-zero, ◌⊎◌, inl, inr, Some}
-use Rattle.std.specs.Prelude.{slice_get}
+use Rattle.std.proofs.Common.{◌≡◌, ℕ, zero, suc, List, [], ◌∷◌, refl, sym, ◌∙◌, ap, subst, arith, suc-ne-zero, ◌⊎◌, inl, inr, Some}
+use Rattle.std.specs.Prelude.{All, slice_get}
 use Rattle.std.proofs.Math.Nat.{suc_inj}
 use Rattle.std.proofs.lemmas.Bool.{false≢true}
 use Rattle.std.proofs.lemmas.List.Elements.{All-nil, All-weaker}
@@ -12,7 +12,7 @@ use Rattle.wcv_lower.specs.Context.{Kind, in_instances, at_distance, empty, type
 use Rattle.wcv_lower.specs.Declared.{inside, stack_of, around}
 use Rattle.wcv_lower.specs.Even.{IsBalanced}
 use Rattle.wcv_lower.specs.Given.{Numbers, AtMost}
-use Rattle.wcv_lower.specs.Owned.{OwnsNot, OwnsApart, OwnApart, AllEntries, Everywhere, own_resources, IsOwn, IsGiven, AllOwn, IsCalm}
+use Rattle.wcv_lower.specs.Owned.{OwnsNot, OwnsApart, OwnApart, AllEntries, Everywhere, own_resources, IsOwn, IsGiven, IsCalmBy, IsCalm}
 use Rattle.wcv_lower.specs.Step.{Step, apply}
 use Rattle.wcv_lower.specs.Trees.{tree_reader, Tree_context, Tree_stack}
 use Rattle.wcv_lower.proofs.Applied.{applied_has, StoodAt, applied_own}
@@ -30,42 +30,29 @@ given_later a b l (at p x) h = absurd h
 given_later a b l (stamped p) h = absurd h
 given_later a b l (aside x) h = absurd h
 
--- it was not given by then
-abbrev pub IsLate : Numbers → Name → Type 0
-IsLate a (number k) = a.resources ≤ k
-IsLate a _ = Unit {0}
-
-pub not_both : (a : Numbers) (r : Name) → IsGiven a r → IsLate a r → ⊥
-not_both a (number k) h l = omega (arith, h, l)
-not_both a (stamp k) h l = h
-not_both a (base p) h l = h
-not_both a (at p x) h l = h
-not_both a (stamped p) h l = h
-not_both a (aside x) h l = h
-
 -- ## Looking
 
-module _ (a : Numbers) (s : Tree_stack) (h : IsCalm a s) where
-  pub own_given : (j : ℕ) (c : Tree_context) (r : Name) → at_distance j s ≡ Some c → IsOwn c r → IsGiven a r
-  own_given j c r e o = all_member (IsGiven a) (own_resources c) (h.given j c e) r o
+module _ (G : Name → Type 0) (s : Tree_stack) (h : IsCalmBy G s) where
+  pub own_given : (j : ℕ) (c : Tree_context) (r : Name) → at_distance j s ≡ Some c → IsOwn c r → G r
+  own_given j c r e o = all_member G (own_resources c) (h.given j c e) r o
 
-  pub calm_opens : (k : ℕ) (t : Type_tree) → type_at s.top k ≡ Some t → OwnsApart t
-  calm_opens k t e = apart_outside t (of_some OwnApart (type_at s.top k) t (type_has own_apart_inherited (λ r. ⊥) s.top (h.apart zero s.top refl) k) e)
+  pub calm_opens_by : (k : ℕ) (t : Type_tree) → type_at s.top k ≡ Some t → OwnsApart t
+  calm_opens_by k t e = apart_outside t (of_some OwnApart (type_at s.top k) t (type_has own_apart_inherited (λ r. ⊥) s.top (h.apart zero s.top refl) k) e)
 
   -- so of an instance that stands there
-  pub calm_instance : (k : ℕ) (t : Type_tree) → slice_get (s.top.space in_instances) k ≡ Some t → OwnsApart t
-  calm_instance k t e = apart_outside t (of_some OwnApart (slice_get (s.top.space in_instances) k) t (any_at OwnApart (s.top.space in_instances) k ((h.apart zero s.top refl).space in_instances)) e)
+  pub calm_instance_by : (k : ℕ) (t : Type_tree) → slice_get (s.top.space in_instances) k ≡ Some t → OwnsApart t
+  calm_instance_by k t e = apart_outside t (of_some OwnApart (slice_get (s.top.space in_instances) k) t (any_at OwnApart (s.top.space in_instances) k ((h.apart zero s.top refl).space in_instances)) e)
 
 -- ## More is given
 
-pub calm_later : (a b : Numbers) (s : Tree_stack) → AtMost a b → IsCalm a s → IsCalm b s
-calm_later a b s l h = record {
-  given = λ j c e. All-weaker (IsGiven a) (IsGiven b) (given_later a b l) (own_resources c) (h.given j c e);
+pub calm_later_by : (G H : Name → Type 0) (s : Tree_stack) → ((r : Name) → G r → H r) → IsCalmBy G s → IsCalmBy H s
+calm_later_by G H s more h = record {
+  given = λ j c e. All-weaker G H more (own_resources c) (h.given j c e);
   differ = h.differ;
   apart = h.apart;
   spared = h.spared;
   balanced = h.balanced;
-  late = λ k m. h.late k (let x = l.resources in omega (arith, x, m));
+  late = λ r n. h.late r (λ g. n (more r g));
 }
 
 -- ## A context opens
@@ -82,11 +69,11 @@ module _ (k : Kind) (s : Tree_stack) where
   none_own : (c : Tree_context) (r : Name) → at_distance zero (inside k s) ≡ Some c → IsOwn c r → ⊥
   none_own c r e o = false≢true (subst (λ (x : Tree_context). IsOwn x r) (sym (some-inj e)) o)
 
-pub calm_inside : (a : Numbers) (k : Kind) (s : Tree_stack) → IsCalm a s → IsCalm a (inside k s)
-calm_inside a k s h = record { given = given; differ = differ; apart = inside_has k s OwnApart h.apart; spared = spared; late = λ n l. inside_has k s (OwnsNot (number n)) (h.late n l); balanced = (h.balanced.0, inside_has k s (IsBalanced h.balanced.0) h.balanced.1) }
+pub calm_inside_by : (G : Name → Type 0) (k : Kind) (s : Tree_stack) → IsCalmBy G s → IsCalmBy G (inside k s)
+calm_inside_by G k s h = record { given = given; differ = differ; apart = inside_has k s OwnApart h.apart; spared = spared; late = λ r n. inside_has k s (OwnsNot r) (h.late r n); balanced = (h.balanced.0, inside_has k s (IsBalanced h.balanced.0) h.balanced.1) }
   where
-    given : (j : ℕ) (c : Tree_context) → at_distance j (inside k s) ≡ Some c → AllOwn a c
-    given zero c e = subst (AllOwn a) (some-inj e) (All-nil (IsGiven a))
+    given : (j : ℕ) (c : Tree_context) → at_distance j (inside k s) ≡ Some c → All G (own_resources c)
+    given zero c e = subst (λ (x : Tree_context). All G (own_resources x)) (some-inj e) (All-nil G)
     given (suc j) c e = h.given j c e
 
     differ : (i j : ℕ) (c d : Tree_context) (r : Name) → at_distance i (inside k s) ≡ Some c → at_distance j (inside k s) ≡ Some d → IsOwn c r → IsOwn d r → i ≡ j
@@ -102,11 +89,11 @@ calm_inside a k s h = record { given = given; differ = differ; apart = inside_ha
 abbrev start : Kind → List Group → Tree_stack
 start k gs = record { top = empty tree_reader k; outer = []; groups = gs }
 
-pub calm_start : (a : Numbers) (k : Kind) (gs : List Group) → IsCalm a (record { top = empty tree_reader k; outer = []; groups = gs })
-calm_start a k gs = record { given = given; differ = λ i j c d r e f o q. absurd (none i c r e o); apart = has OwnApart; spared = λ j c r e o. absurd (none j c r e o); late = λ n l. has (OwnsNot (number n)); balanced = ((λ r. 0), has (IsBalanced (λ r. 0))) }
+pub calm_start_by : (G : Name → Type 0) (k : Kind) (gs : List Group) → IsCalmBy G (record { top = empty tree_reader k; outer = []; groups = gs })
+calm_start_by G k gs = record { given = given; differ = λ i j c d r e f o q. absurd (none i c r e o); apart = has OwnApart; spared = λ j c r e o. absurd (none j c r e o); late = λ r n. has (OwnsNot r); balanced = ((λ r. 0), has (IsBalanced (λ r. 0))) }
   where
-    given : (j : ℕ) (c : Tree_context) → at_distance j (start k gs) ≡ Some c → AllOwn a c
-    given zero c e = subst (AllOwn a) (some-inj e) (All-nil (IsGiven a))
+    given : (j : ℕ) (c : Tree_context) → at_distance j (start k gs) ≡ Some c → All G (own_resources c)
+    given zero c e = subst (λ (x : Tree_context). All G (own_resources x)) (some-inj e) (All-nil G)
     given (suc j) c e = cc
 
     none : (j : ℕ) (c : Tree_context) (r : Name) → at_distance j (start k gs) ≡ Some c → IsOwn c r → ⊥
@@ -133,64 +120,57 @@ module _ (u t : Tree_stack) (w : around u ≡ Some t) where
   pub around_has : (P : Type_tree → Type 0) → Everywhere P u → Everywhere P t
   around_has P h j c e = h (suc j) c (stood j c e)
 
-  pub calm_around : (a : Numbers) → IsCalm a u → IsCalm a t
-  calm_around a h = record {
+  pub calm_around : (G : Name → Type 0) → IsCalmBy G u → IsCalmBy G t
+  calm_around G h = record {
     given = λ j c e. h.given (suc j) c (stood j c e);
     differ = λ i j c d r e f o q. suc_inj (h.differ (suc i) (suc j) c d r (stood i c e) (stood j d f) o q);
     apart = around_has OwnApart h.apart;
     spared = λ j c r e o. around_has (OwnsNot r) (h.spared (suc j) c r (stood j c e) o);
-    late = λ n l. around_has (OwnsNot (number n)) (h.late n l);
+    late = λ r n. around_has (OwnsNot r) (h.late r n);
     balanced = (h.balanced.0, around_has (IsBalanced h.balanced.0) h.balanced.1);
   }
 
 -- ## A step
 
--- Resources that a step brings are late. What it brings owns apart, owns none of the open contexts' resources, and no late one, and is
--- balanced with what stands there.
-pub record IsGentle (a : Numbers) (s : Tree_stack) (p : Step tree_reader) : Type 0 where
-  pub apart : AllBring OwnApart (IsLate a) p
-  pub spared : (j : ℕ) (c : Tree_context) (r : Name) → at_distance j s ≡ Some c → IsOwn c r → AllBring (OwnsNot r) (IsLate a) p
-  pub late : (k : ℕ) → a.resources ≤ k → AllBring (OwnsNot (number k)) (IsLate a) p
-  pub balanced : (v : Name → ℕ) × Everywhere (IsBalanced v) s × AllBring (IsBalanced v) (IsLate a) p
+-- What a step brings owns apart, owns none of the open contexts' resources, and none that is not given, and is balanced with what stands there.
+pub record IsGentle (G New : Name → Type 0) (s : Tree_stack) (p : Step tree_reader) : Type 0 where
+  pub apart : AllBring OwnApart New p
+  pub spared : (j : ℕ) (c : Tree_context) (r : Name) → at_distance j s ≡ Some c → IsOwn c r → AllBring (OwnsNot r) New p
+  pub late : (r : Name) → (G r → ⊥) → AllBring (OwnsNot r) New p
+  pub balanced : (v : Name → ℕ) × Everywhere (IsBalanced v) s × AllBring (IsBalanced v) New p
 
 -- where it brings no owner of what nothing owns, and nothing that is not balanced
-pub gentle : (a : Numbers) (s : Tree_stack) (p : Step tree_reader) → IsCalm a s → (Everywhere OwnApart s → AllBring OwnApart (IsLate a) p) → ((r : Name) → Everywhere (OwnsNot r) s → AllBring (OwnsNot r) (IsLate a) p) →
-    ((v : Name → ℕ) → Everywhere (IsBalanced v) s → AllBring (IsBalanced v) (IsLate a) p) → IsGentle a s p
-gentle a s p h x y z = record { apart = x h.apart; spared = λ j c r e o. y r (h.spared j c r e o); late = λ k l. y (number k) (h.late k l); balanced = (h.balanced.0, h.balanced.1, z h.balanced.0 h.balanced.1) }
+pub gentle : (G New : Name → Type 0) (s : Tree_stack) (p : Step tree_reader) → IsCalmBy G s → (Everywhere OwnApart s → AllBring OwnApart New p) → ((r : Name) → Everywhere (OwnsNot r) s → AllBring (OwnsNot r) New p) →
+    ((v : Name → ℕ) → Everywhere (IsBalanced v) s → AllBring (IsBalanced v) New p) → IsGentle G New s p
+gentle G New s p h x y z = record { apart = x h.apart; spared = λ j c r e o. y r (h.spared j c r e o); late = λ r n. y r (h.late r n); balanced = (h.balanced.0, h.balanced.1, z h.balanced.0 h.balanced.1) }
 
-module _ (a b : Numbers) (s : Tree_stack) (p : Step tree_reader) (l : AtMost a b) (h : IsCalm a s) (g : IsGentle a s p) (top : AllOwn b (apply p s).top) where
+-- Its resources were not given before, and those that stand on top then are.
+module _ (G H New : Name → Type 0) (s : Tree_stack) (p : Step tree_reader) (more : (r : Name) → G r → H r) (new : (r : Name) → New r → G r → ⊥) (h : IsCalmBy G s) (g : IsGentle G New s p)
+    (given : (r : Name) → IsOwn (apply p s).top r → New r → H r) where
   abbrev t : Tree_stack
   t = apply p s
 
-  stood_at : (j : ℕ) (d : Tree_context) → at_distance j t ≡ Some d → StoodAt OwnApart (IsLate a) s j d
-  stood_at j d e = applied_own OwnApart (IsLate a) p s g.apart j d e
+  stood_at : (j : ℕ) (d : Tree_context) → at_distance j t ≡ Some d → StoodAt OwnApart New s j d
+  stood_at j d e = applied_own OwnApart New p s g.apart j d e
 
-  all_given : (j : ℕ) (d : Tree_context) → at_distance j t ≡ Some d → AllOwn b d
-  all_given zero d e = subst (AllOwn b) (some-inj e) top
-  all_given (suc j) d e =
-      let w = stood_at (suc j) d e in
-      all_from_members (IsGiven b) (own_resources d) (λ r o. go r w.0 w.1 (w.2 r o))
+  each_given : (j : ℕ) (d : Tree_context) (r : Name) → at_distance j t ≡ Some d → IsOwn d r → H r
+  each_given j d r e o =
+      let w = stood_at j d e in
+      go j w.0 e w.1 (w.2 r o)
     where
-      go : (r : Name) (c : Tree_context) → at_distance (suc j) s ≡ Some c → IsOwn c r ⊎ ((suc j ≡ zero) × IsLate a r) → IsGiven b r
-      go r c q (inl o) = given_later a b l r (own_given a s h (suc j) c r q o)
-      go r c q (inr n) = absurd (suc-ne-zero j n.0)
-
-  late_spared : (r : Name) → IsGiven b r → IsLate a r → Everywhere (OwnsNot r) t
-  late_spared (number k) f n = applied_has (OwnsNot (number k)) (IsLate a) p s (h.late k n) (g.late k n)
-  late_spared (stamp k) f n = absurd f
-  late_spared (base q) f n = absurd f
-  late_spared (at q x) f n = absurd f
-  late_spared (stamped q) f n = absurd f
-  late_spared (aside x) f n = absurd f
+      go : (i : ℕ) (c : Tree_context) → at_distance i t ≡ Some d → at_distance i s ≡ Some c → IsOwn c r ⊎ ((i ≡ zero) × New r) → H r
+      go i c f q (inl x) = more r (own_given G s h i c r q x)
+      go zero c f q (inr n) = given r (subst (λ (x : Tree_context). IsOwn x r) (sym (some-inj f)) o) n.1
+      go (suc i) c f q (inr n) = absurd (suc-ne-zero i n.0)
 
   all_spared : (j : ℕ) (d : Tree_context) (r : Name) → at_distance j t ≡ Some d → IsOwn d r → Everywhere (OwnsNot r) t
   all_spared j d r e o =
       let w = stood_at j d e in
       go w.0 w.1 (w.2 r o)
     where
-      go : (c : Tree_context) → at_distance j s ≡ Some c → IsOwn c r ⊎ ((j ≡ zero) × IsLate a r) → Everywhere (OwnsNot r) t
-      go c q (inl x) = applied_has (OwnsNot r) (IsLate a) p s (h.spared j c r q x) (g.spared j c r q x)
-      go c q (inr n) = late_spared r (all_member (IsGiven b) (own_resources d) (all_given j d e) r o) n.1
+      go : (c : Tree_context) → at_distance j s ≡ Some c → IsOwn c r ⊎ ((j ≡ zero) × New r) → Everywhere (OwnsNot r) t
+      go c q (inl x) = applied_has (OwnsNot r) New p s (h.spared j c r q x) (g.spared j c r q x)
+      go c q (inr n) = applied_has (OwnsNot r) New p s (h.late r (new r n.1)) (g.late r (new r n.1))
 
   all_differ : (i j : ℕ) (c d : Tree_context) (r : Name) → at_distance i t ≡ Some c → at_distance j t ≡ Some d → IsOwn c r → IsOwn d r → i ≡ j
   all_differ i j c d r e f o q =
@@ -198,20 +178,38 @@ module _ (a b : Numbers) (s : Tree_stack) (p : Step tree_reader) (l : AtMost a b
       let v = stood_at j d f in
       go w.0 v.0 w.1 v.1 (w.2 r o) (v.2 r q)
     where
-      go : (x y : Tree_context) → at_distance i s ≡ Some x → at_distance j s ≡ Some y → IsOwn x r ⊎ ((i ≡ zero) × IsLate a r) → IsOwn y r ⊎ ((j ≡ zero) × IsLate a r) → i ≡ j
+      go : (x y : Tree_context) → at_distance i s ≡ Some x → at_distance j s ≡ Some y → IsOwn x r ⊎ ((i ≡ zero) × New r) → IsOwn y r ⊎ ((j ≡ zero) × New r) → i ≡ j
       go x y u v (inl m) (inl n) = h.differ i j x y r u v m n
-      go x y u v (inl m) (inr n) = absurd (not_both a r (own_given a s h i x r u m) n.1)
-      go x y u v (inr m) (inl n) = absurd (not_both a r (own_given a s h j y r v n) m.1)
+      go x y u v (inl m) (inr n) = absurd (new r n.1 (own_given G s h i x r u m))
+      go x y u v (inr m) (inl n) = absurd (new r m.1 (own_given G s h j y r v n))
       go x y u v (inr m) (inr n) = m.0 ∙ sym n.0
 
-  pub calm_applied : IsCalm b (apply p s)
+  pub calm_applied : IsCalmBy H (apply p s)
   calm_applied = record {
-    given = all_given;
+    given = λ j d e. all_from_members H (own_resources d) (λ r o. each_given j d r e o);
     differ = all_differ;
-    apart = applied_has OwnApart (IsLate a) p s h.apart g.apart;
+    apart = applied_has OwnApart New p s h.apart g.apart;
     spared = all_spared;
-    balanced = (g.balanced.0, applied_has (IsBalanced g.balanced.0) (IsLate a) p s g.balanced.1 g.balanced.2);
-    late = λ k m.
-        let n : a.resources ≤ k = let x = l.resources in omega (arith, x, m) in
-        applied_has (OwnsNot (number k)) (IsLate a) p s (h.late k n) (g.late k n);
+    balanced = (g.balanced.0, applied_has (IsBalanced g.balanced.0) New p s g.balanced.1 g.balanced.2);
+    late = λ r n.
+        let m : G r → ⊥ = λ x. n (more r x) in
+        applied_has (OwnsNot r) New p s (h.late r m) (g.late r m);
   }
+
+-- ## Where an arena gives
+
+module _ (a : Numbers) (s : Tree_stack) (h : IsCalm a s) where
+  pub calm_opens : (k : ℕ) (t : Type_tree) → type_at s.top k ≡ Some t → OwnsApart t
+  calm_opens = calm_opens_by (IsGiven a) s h
+
+  pub calm_instance : (k : ℕ) (t : Type_tree) → slice_get (s.top.space in_instances) k ≡ Some t → OwnsApart t
+  calm_instance = calm_instance_by (IsGiven a) s h
+
+pub calm_later : (a b : Numbers) (s : Tree_stack) → AtMost a b → IsCalm a s → IsCalm b s
+calm_later a b s l h = calm_later_by (IsGiven a) (IsGiven b) s (given_later a b l) h
+
+pub calm_inside : (a : Numbers) (k : Kind) (s : Tree_stack) → IsCalm a s → IsCalm a (inside k s)
+calm_inside a k s h = calm_inside_by (IsGiven a) k s h
+
+pub calm_start : (a : Numbers) (k : Kind) (gs : List Group) → IsCalm a (record { top = empty tree_reader k; outer = []; groups = gs })
+calm_start a k gs = calm_start_by (IsGiven a) k gs

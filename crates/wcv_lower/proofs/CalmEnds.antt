@@ -1,9 +1,9 @@
 -- A stack stays calm where a declared type ends: what the type owns its context had, so no other type owns it and no other context has it.
-use Rattle.std.proofs.Common.{◌≡◌, ℕ, zero, suc, List, [], ◌∷◌, map, refl, sym, subst, arith, suc-ne-zero, Bool, true, false, cond, ◌||◌, ◌⊎◌, inl, inr, Some, None}
+use Rattle.std.proofs.Common.{◌≡◌, ℕ, zero, suc, List, [], ◌∷◌, map, refl, sym, subst, suc-ne-zero, Bool, true, false, cond, ◌||◌, ◌⊎◌, inl, inr, Some, None}
 use Rattle.std.specs.Prelude.{Option, All}
 use Rattle.std.specs.Option.{option_map}
 use Rattle.std.proofs.lemmas.Bool.{or_cases}
-use Rattle.wcv_core.specs.Names.{Name, Place, number, same, member}
+use Rattle.wcv_core.specs.Names.{Name, Place, same, member}
 use Rattle.wcv_core.specs.declared.core_types.ValType.{ValType}
 use Rattle.wcv_types.specs.Tree.{import, export, Parts, none, firsts, entries}
 use Rattle.wcv_types.specs.Unfold.{Type_tree}
@@ -15,13 +15,13 @@ use Rattle.wcv_lower.specs.Ending.{is_free_among, any_free, keep, kept, componen
 use Rattle.wcv_lower.specs.Even.{IsBalanced}
 use Rattle.wcv_lower.specs.Given.{Numbers}
 use Rattle.wcv_lower.specs.Names.{Names, introduced}
-use Rattle.wcv_lower.specs.Owned.{OwnsNot, OwnApart, AllEntries, Everywhere, IsOwn, IsCalm}
+use Rattle.wcv_lower.specs.Owned.{OwnsNot, OwnApart, AllEntries, Everywhere, IsOwn, IsGiven, IsCalmBy, IsCalm}
 use Rattle.wcv_lower.specs.Readers.{Named, New_node, func_node, defined_node, module_node, core_instance_node, core_exports_node, instance_node, component_node}
 use Rattle.wcv_lower.specs.Step.{appends, apply}
 use Rattle.wcv_lower.specs.Trees.{tree_reader, Tree_context, Tree_stack, tree_maker, node_tree, type_entry}
 use Rattle.wcv_lower.specs.Types.{added}
 use Rattle.wcv_lower.proofs.Bringing.{OfAny, of_some, map-some, any_mapped, any_then, brings_one}
-use Rattle.wcv_lower.proofs.Calm.{IsLate, not_both, own_given, stood, around_has, calm_around, IsGentle, calm_applied}
+use Rattle.wcv_lower.proofs.Calm.{own_given, stood, around_has, calm_around, IsGentle, calm_applied}
 use Rattle.wcv_lower.proofs.DeclaredLaws.{then-some}
 use Rattle.wcv_lower.proofs.EvenOwners.{with_owner, owned_high, raised_has}
 use Rattle.wcv_lower.proofs.EvenTypes.{balanced_inherited}
@@ -122,7 +122,7 @@ end_balanced v c i (core_exports_node n es) all high w = absurd w
 
 -- ## The end
 
-module _ (a : Numbers) (names : Names) (p : Place) (u t : Tree_stack) (h : IsCalm a u) (w : around u ≡ Some t) where
+module _ (G : Name → Type 0) (names : Names) (p : Place) (u t : Tree_stack) (h : IsCalmBy G u) (w : around u ≡ Some t) where
   abbrev entry : New_node tree_reader → Type_tree
   entry n = type_entry (node_tree (names.identity (introduced p)) n)
 
@@ -137,27 +137,32 @@ module _ (a : Numbers) (names : Names) (p : Place) (u t : Tree_stack) (h : IsCal
   raised_node n e =
       end_balanced (raised n) u.top (names.identity (introduced p)) n (raised_everywhere n zero u.top refl) (owned_high h.balanced.0 u.top (height (node_tree (names.identity (introduced p)) n))) e
 
-  ending : (n : New_node tree_reader) → Ends u.top n → IsGentle a t (added {X = tree_reader} (tree_maker names p) n)
+  -- it has no resources
+  abbrev None_new : Name → Type 0
+  None_new r = ⊥
+
+  ending : (n : New_node tree_reader) → Ends u.top n → IsGentle G None_new t (added {X = tree_reader} (tree_maker names p) n)
   ending n e = record {
-    apart = brings_one OwnApart (IsLate a) (appends in_types (entry n)) (entry_has own_apart_inherited _ (end_apart u.top (names.identity (introduced p)) (λ r o. h.spared zero u.top r refl o zero u.top refl) (h.apart zero u.top refl) n e));
-    spared = λ j c r f o. brings_one (OwnsNot r) (IsLate a) (appends in_types (entry n))
+    apart = brings_one OwnApart None_new (appends in_types (entry n)) (entry_has own_apart_inherited _ (end_apart u.top (names.identity (introduced p)) (λ r o. h.spared zero u.top r refl o zero u.top refl) (h.apart zero u.top refl) n e));
+    spared = λ j c r f o. brings_one (OwnsNot r) None_new (appends in_types (entry n))
         (entry_has (owns_not_inherited r) _ (end_spares u.top (names.identity (introduced p)) r (λ q. suc-ne-zero j (h.differ (suc j) zero c u.top r (stood u t w j c f) refl o q)) (h.spared (suc j) c r (stood u t w j c f) o zero u.top refl) n e));
-    late = λ k l. brings_one (OwnsNot (number k)) (IsLate a) (appends in_types (entry n))
-        (entry_has (owns_not_inherited (number k)) _ (end_spares u.top (names.identity (introduced p)) (number k) (λ q. not_both a (number k) (own_given a u h zero u.top (number k) refl q) l) (h.late k l zero u.top refl) n e));
+    late = λ r l. brings_one (OwnsNot r) None_new (appends in_types (entry n))
+        (entry_has (owns_not_inherited r) _ (end_spares u.top (names.identity (introduced p)) r (λ q. l (own_given G u h zero u.top r refl q)) (h.late r l zero u.top refl) n e));
     balanced = (
       raised n,
       around_has u t w (IsBalanced (raised n)) (raised_everywhere n),
-      brings_one (IsBalanced (raised n)) (IsLate a) (appends in_types (entry n)) (entry_has (balanced_inherited (raised n)) (node_tree (names.identity (introduced p)) n) (raised_node n e)),
+      brings_one (IsBalanced (raised n)) None_new (appends in_types (entry n)) (entry_has (balanced_inherited (raised n)) (node_tree (names.identity (introduced p)) n) (raised_node n e)),
     );
   }
 
-  closed_calm : (n : New_node tree_reader) → Ends u.top n → IsCalm a (apply (added {X = tree_reader} (tree_maker names p) n) t)
-  closed_calm n e =
-      let c = calm_around u t w a h in
-      calm_applied a a t (added {X = tree_reader} (tree_maker names p) n) (record { resources = omega arith; nodes = omega arith; stamps = omega arith }) c (ending n e) (c.given zero t.top refl)
+  closed_calm : (n : New_node tree_reader) → Ends u.top n → IsCalmBy G (apply (added {X = tree_reader} (tree_maker names p) n) t)
+  closed_calm n e = calm_applied G G None_new t (added {X = tree_reader} (tree_maker names p) n) (λ r g. g) (λ r x. absurd x) (calm_around u t w G h) (ending n e) (λ r o x. absurd x)
+
+pub calm_ended_by : (G : Name → Type 0) (k : Kind) (names : Names) (p : Place) (u v : Tree_stack) → IsCalmBy G u → ended k (tree_maker names p) u ≡ Some v → IsCalmBy G v
+calm_ended_by G k names p u v h e =
+    let t = then-some (λ t. option_map (λ n. apply (added (tree_maker names p) n) t) (declared_made k u.top)) (around u) v e in
+    let n = map-some (λ n. apply (added (tree_maker names p) n) t.0) (declared_made k u.top) v t.2 in
+    subst (IsCalmBy G) (some-inj n.2) (closed_calm G names p u t.0 h t.1 n.0 (of_some (Ends u.top) (declared_made k u.top) n.0 (node_ends k u.top) n.1))
 
 pub calm_ended : (a : Numbers) (k : Kind) (names : Names) (p : Place) (u v : Tree_stack) → IsCalm a u → ended k (tree_maker names p) u ≡ Some v → IsCalm a v
-calm_ended a k names p u v h e =
-    let t = then-some (λ t. option_map (λ n. apply (added (tree_maker names p) n) t) (declared_made k u.top)) (around u) v e in
-    let n = map-some (λ n. apply (added {X = tree_reader} (tree_maker names p) n) t.0) (declared_made k u.top) v t.2 in
-    subst (IsCalm a) (some-inj n.2) (closed_calm a names p u t.0 h t.1 n.0 (of_some (Ends u.top) (declared_made k u.top) n.0 (node_ends k u.top) n.1))
+calm_ended a k names p u v h e = calm_ended_by (IsGiven a) k names p u v h e

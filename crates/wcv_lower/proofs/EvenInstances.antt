@@ -14,10 +14,10 @@ use Rattle.wcv_lower.specs.Declared.{applied}
 use Rattle.wcv_lower.specs.Even.{Heights, IsEven, OwnsAt, IsBalanced, HasHeight, IsRegular}
 use Rattle.wcv_lower.specs.Instances.{component_at, arguments, instance_step}
 use Rattle.wcv_lower.specs.Instantiated.{opening}
-use Rattle.wcv_lower.specs.Names.{Names, Origin}
+use Rattle.wcv_lower.specs.Names.{Names}
 use Rattle.wcv_lower.specs.Owned.{InstanceApart, AllEntries, AreRegular}
 use Rattle.wcv_lower.specs.Trees.{Tree_stack, tree_maker}
-use Rattle.wcv_lower.proofs.Bringing.{of_some}
+use Rattle.wcv_lower.proofs.Bringing.{of_some, AreNewAt}
 use Rattle.wcv_lower.proofs.EvenOwners.{entries_so}
 use Rattle.wcv_lower.proofs.EvenTypes.{each_weaker, each_both, even_of, balanced-replaced, gives_high, balanced_inherited}
 use Rattle.wcv_lower.proofs.GivenHeights.{given_high, even_apart}
@@ -77,7 +77,7 @@ module _ (s : Tree_stack) (v : Name → ℕ) (all : AllEntries (IsBalanced v) s.
     pub regular_apart : (i : Instance_form) → applied s (instance_step (tree_maker names p) s i) ≡ Some t → InstanceApart names p s i
     regular_apart i e = even_apart heights_of names p s t i all_even e
 
-    pub keeps_balanced : (New : Name → Type 0) (fresh : (o : Origin) → New (names.resource o)) (i : Instance_form) → applied s (instance_step (tree_maker names p) s i) ≡ Some t → Keeps (balanced_inherited v) New names p fresh s all i
+    pub keeps_balanced : (New : Name → Type 0) (fresh : AreNewAt New names p) (i : Instance_form) → applied s (instance_step (tree_maker names p) s i) ≡ Some t → Keeps (balanced_inherited v) New names p fresh s all i
     keeps_balanced New fresh (instantiate i args) e = λ c q w.
         exports_balanced (opening names p (arguments s.top args) c) r.0 v (given_high heights_of names p s t i args all_even e c q)
         (opening_gives (balanced_inherited v) names p (arguments s.top args) c (arguments_have (IsBalanced v) s.top all args)) c (of_some (IsRegular r.0) (component_at s.top i) c (component_has (IsRegular r.0) s.top r.1 i) q).1 w

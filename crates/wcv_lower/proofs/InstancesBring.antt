@@ -25,12 +25,12 @@ use Rattle.wcv_lower.specs.Instances.{component_at, argument_at, arguments, if_o
 use Rattle.wcv_matching.specs.GivenTypes.{given_by, given_in, given_for}
 use Rattle.wcv_lower.specs.Instantiated.{opened_resource, opening, instantiated}
 use Rattle.wcv_lower.specs.Mapped.{map_entries}
-use Rattle.wcv_lower.specs.Names.{Names, Origin, introduced, again}
+use Rattle.wcv_lower.specs.Names.{Names, introduced, again}
 use Rattle.wcv_lower.specs.Owned.{OwnsNot, OwnsNotIn, OwnsApart, AllEntries}
 use Rattle.wcv_lower.specs.Readers.{New_node, instance_node}
 use Rattle.wcv_lower.specs.Step.{Brought, introduces, appends}
 use Rattle.wcv_lower.specs.Trees.{tree_reader, Tree_stack, tree_maker}
-use Rattle.wcv_lower.proofs.Bringing.{OfAny, any_mapped, any_cond, AllBring, brings_one, brings_more, BroughtOf}
+use Rattle.wcv_lower.proofs.Bringing.{OfAny, any_mapped, any_cond, AreNewAt, AllBring, brings_one, brings_more, BroughtOf}
 use Rattle.wcv_lower.proofs.Instantiating.{arguments_have, listed_have, component_has}
 use Rattle.wcv_lower.proofs.Owning.{Inherited, KeptWhereGiven, MadeOf, first_has, node_has}
 
@@ -145,10 +145,10 @@ module _ {P : Type_tree → Type 0} {In : Parts Name Name → Type 0} (law : Inh
   pub instantiated_has : (names : Names) (p : Place) (args : List (Text × Type_tree)) (c : Type_tree) → All (λ (e : Extern_name × Type_tree). P (replaced (opening names p args c) e.1)) (exports c) → P (instantiated names p args c)
   instantiated_has names p args c w = node_has law (names.identity (introduced p)) (instance_node [] (map_entries (replaced (opening names p args c)) (exports c))) (entries_kept (opening names p args c) (exports c) w)
 
-  module _ (New : Name → Type 0) (names : Names) (p : Place) (fresh : (o : Origin) → New (names.resource o)) where
+  module _ (New : Name → Type 0) (names : Names) (p : Place) (fresh : AreNewAt New names p) where
     made_new : (rs : List (Name × List ℕ)) → All (λ (x : Name × List ℕ). New x.0) (map (λ (r : Name × List ℕ). (names.resource (again p r.0), r.1)) rs)
     made_new [] = All-nil (λ (x : Name × List ℕ). New x.0)
-    made_new (r ∷ rs) = All-cons (λ (x : Name × List ℕ). New x.0) (names.resource (again p r.0), r.1) (map (λ (r : Name × List ℕ). (names.resource (again p r.0), r.1)) rs) (fresh (again p r.0)) (made_new rs)
+    made_new (r ∷ rs) = All-cons (λ (x : Name × List ℕ). New x.0) (names.resource (again p r.0), r.1) (map (λ (r : Name × List ℕ). (names.resource (again p r.0), r.1)) rs) (fresh.1 r.0) (made_new rs)
 
     joined : (b : Brought tree_reader) → BroughtOf law New b → AllBring P New (instance_joins b)
     joined b w = brings_more P New (introduces exporting b.resources) (appends in_instances b.entity ∷ []) w.1 (brings_one P New (appends in_instances b.entity) w.0)

@@ -6,16 +6,16 @@ use Rattle.wcv_syntax.specs.Model.{Form, core_type_item, core_module_item, core_
 use Rattle.wcv_types.specs.Tree.{Parts}
 use Rattle.wcv_types.specs.Unfold.{Type_tree}
 use Rattle.wcv_lower.specs.Growth.{step}
-use Rattle.wcv_lower.specs.Names.{Names, Origin}
+use Rattle.wcv_lower.specs.Names.{Names}
 use Rattle.wcv_lower.specs.Owned.{AllEntries, Everywhere}
 use Rattle.wcv_lower.specs.Trees.{Tree_stack, tree_maker}
-use Rattle.wcv_lower.proofs.Bringing.{OfAny, AllBring, types_bring, imports_bring, exports_bring, core_types_bring, core_modules_bring, core_instances_bring}
+use Rattle.wcv_lower.proofs.Bringing.{OfAny, AreNewAt, AllBring, types_bring, imports_bring, exports_bring, core_types_bring, core_modules_bring, core_instances_bring}
 use Rattle.wcv_lower.proofs.BroughtByAliases.{aliases_bring}
 use Rattle.wcv_lower.proofs.CanonsBring.{canons_bring}
 use Rattle.wcv_lower.proofs.InstancesBring.{Keeps, instances_bring, keeps_by}
 use Rattle.wcv_lower.proofs.Owning.{Inherited, KeptWhereGiven}
 
-module _ {P : Type_tree → Type 0} {In : Parts Name Name → Type 0} (law : Inherited P In) (New : Name → Type 0) (names : Names) (p : Place) (fresh : (o : Origin) → New (names.resource o)) (s : Tree_stack) (all : Everywhere P s) where
+module _ {P : Type_tree → Type 0} {In : Parts Name Name → Type 0} (law : Inherited P In) (New : Name → Type 0) (names : Names) (p : Place) (fresh : AreNewAt New names p) (s : Tree_stack) (all : Everywhere P s) where
   abbrev top : AllEntries P s.top
   top = all zero s.top refl
 

@@ -175,7 +175,7 @@ module _ (fs : WasmFeatures) where
       let o = written (mk q) s.top r in
       applied_grew q s u (declared_export_step (mk q) s.top x r) all
       (any_mapped (BroughtOf owns_once_inherited (λ r. Unit {0})) (AllBring OwnsOnce (λ r. Unit {0})) (enters exporting (extern_name x)) (enters_bring owns_once_inherited (λ r. Unit {0}) exporting (extern_name x)) o
-      (written_has owns_once_inherited (λ r. Unit {0}) s.top (all zero s.top refl) names_by_place q (λ o. tt) r))
+      (written_has owns_once_inherited (λ r. Unit {0}) s.top (all zero s.top refl) names_by_place q (tt, λ r. tt) r))
       (any_mapped (λ b. AreMade q (names_in b.resources)) (λ p. AreMade q (new_names p)) (enters exporting (extern_name x)) (enters_once q exporting (extern_name x)) o (written_once q s.top (all zero s.top refl) r)) e
 
   import_made : (q : Place) (s : Tree_stack) (i : _) → Everywhere OwnsOnce s → OfAny (λ p. AreMade q (new_names p)) (step fs (mk q) s (import_item i))
@@ -184,7 +184,7 @@ module _ (fs : WasmFeatures) where
       (written_once q s.top (all zero s.top refl) i.ty)
 
   item_grew : (q : Place) (s u : Tree_stack) (f : _) → Everywhere OwnsOnce s → OfAny (λ p. AreMade q (new_names p)) (step fs (mk q) s f) → applied s (step fs (mk q) s f) ≡ Some u → Grew q s u
-  item_grew q s u f all m e = applied_grew q s u (step fs (mk q) s f) all (items_bring_given owns_once_inherited (λ r. Unit {0}) names_by_place q (λ o. tt) s all owns_once_given fs f) m e
+  item_grew q s u f all m e = applied_grew q s u (step fs (mk q) s f) all (items_bring_given owns_once_inherited (λ r. Unit {0}) names_by_place q (tt, λ r. tt) s all owns_once_given fs f) m e
 
   -- before the first declaration
   start_before : (k : Kind) (s : Tree_stack) (q : Place) (r : Name) → IsOwn (inside k s).top r → MadeBefore q 0 r
@@ -253,5 +253,5 @@ reading_once fs p s u t all e =
 pub growing_once : (fs : WasmFeatures) (n : Names) (p : Place) (s u : Tree_stack) (f : Form) → Everywhere OwnsOnce s → grow fs (tree_maker n p) s f ≡ Some u → Everywhere OwnsOnce u
 growing_once fs n p s u f all e =
     let w = map-some (λ q. apply q s) (step fs (tree_maker n p) s f) u e in
-    let b = of_some (AllBring OwnsOnce (λ r. Unit {0})) (step fs (tree_maker n p) s f) w.0 (items_bring_given owns_once_inherited (λ r. Unit {0}) n p (λ o. tt) s all owns_once_given fs f) w.1 in
+    let b = of_some (AllBring OwnsOnce (λ r. Unit {0})) (step fs (tree_maker n p) s f) w.0 (items_bring_given owns_once_inherited (λ r. Unit {0}) n p (tt, λ r. tt) s all owns_once_given fs f) w.1 in
     subst (Everywhere OwnsOnce) (some-inj w.2) (applied_has OwnsOnce (λ r. Unit {0}) w.0 s all b)

@@ -1,5 +1,5 @@
 -- Which resources types own, inside and out: what a type owns, no type inside it owns, and none that stands elsewhere.
-use Rattle.std.specs.Prelude.{ℕ, List, [], ◌∷◌, ◌++◌, map, All, true, false, ◌≡◌, ◌≤◌, ◌<◌, Some}
+use Rattle.std.specs.Prelude.{ℕ, List, [], ◌∷◌, ◌++◌, map, All, true, false, ◌≡◌, ◌<◌, Some}
 use Rattle.wcv_core.specs.Names.{Name, Place, number, base, at, member}
 use Rattle.wcv_syntax.specs.Model.{Form, instance_item, Instance_form, instantiate, bag}
 use Rattle.wcv_types.specs.Identity.{Identity}
@@ -93,14 +93,18 @@ abbrev pub AreBalanced : Tree_stack → Type 0
 AreBalanced s = (v : Name → ℕ) × Everywhere (IsBalanced v) s
 
 -- The resources of the open contexts are given by then, and no two of these have one. The types that stand in them own apart, and own no
--- resource of an open context, and none that is given later. Owners of one resource are of one height, and so are both types of an entity.
-pub record IsCalm (a : Numbers) (s : Tree_stack) : Type 0 where
-  pub given : (j : ℕ) (c : Tree_context) → at_distance j s ≡ Some c → AllOwn a c
+-- resource of an open context, and none that is not given. Owners of one resource are of one height, and so are both types of an entity.
+pub record IsCalmBy (Given : Name → Type 0) (s : Tree_stack) : Type 0 where
+  pub given : (j : ℕ) (c : Tree_context) → at_distance j s ≡ Some c → All Given (own_resources c)
   pub differ : (j k : ℕ) (c d : Tree_context) (r : Name) → at_distance j s ≡ Some c → at_distance k s ≡ Some d → IsOwn c r → IsOwn d r → j ≡ k
   pub apart : Everywhere OwnApart s
   pub spared : (j : ℕ) (c : Tree_context) (r : Name) → at_distance j s ≡ Some c → IsOwn c r → Everywhere (OwnsNot r) s
-  pub late : (k : ℕ) → a.resources ≤ k → Everywhere (OwnsNot (number k)) s
+  pub late : (r : Name) → (Given r → ⊥) → Everywhere (OwnsNot r) s
   pub balanced : AreBalanced s
+
+-- where an arena gave them
+abbrev pub IsCalm : Numbers → Tree_stack → Type 0
+IsCalm a s = IsCalmBy (IsGiven a) s
 
 -- each entry of the context is regular, as it is where an arena holds it
 abbrev pub AreRegular : Tree_context → Type 0
