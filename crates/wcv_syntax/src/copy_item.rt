@@ -1,6 +1,5 @@
 // Equal items.
-ghost use Rattle.std.specs.Prelude.{◌≡◌, map, IfOk};
-ghost use Rattle.wcv_syntax.specs.Unread.{unread_of, unread_of_section};
+ghost use Rattle.std.specs.Prelude.{◌≡◌, IfOk};
 ghost use Rattle.wcv_syntax.specs.View.{item_view, section_view, entries};
 
 use crate::copy_canon::copy_canon;
@@ -16,8 +15,7 @@ impl Item {
     /// An equal item: it stands for the same entry, at every depth.
     #[cycle(copy_item)]
     pub fn copy(&self, alloc: Global) -> Result<Item, OutOfMemory>
-        ensures entry { IfOk result (λ copied. item_view copied ≡ item_view self.now) }
-        ensures unread { IfOk result (λ copied. unread_of copied ≡ unread_of self.now) }
+        ensures { IfOk result (λ copied. item_view copied ≡ item_view self.now) }
     {
         let section = copy_section(alloc, &self.section)?;
         Ok(Item {
@@ -30,8 +28,7 @@ impl Item {
 /// What an equal item has.
 #[cycle(copy_item)]
 fn copy_section(alloc: Global, section: &Section) -> Result<Section, OutOfMemory>
-    ensures form { IfOk result (λ copied. section_view copied ≡ section_view section.now) }
-    ensures unread { IfOk result (λ copied. unread_of_section copied ≡ unread_of_section section.now) }
+    ensures { IfOk result (λ copied. section_view copied ≡ section_view section.now) }
 {
     match section {
         Section::CoreType(ty) => Ok(Section::CoreType(copy_core_type(alloc, ty)?)),
@@ -62,15 +59,13 @@ fn copy_section(alloc: Global, section: &Section) -> Result<Section, OutOfMemory
             })
         }
         Section::Canon(canon) => Ok(Section::Canon(copy_canon(alloc, canon)?)),
-        Section::Unbuilt(form) => Ok(Section::Unbuilt(*form)),
     }
 }
 
 /// Equal items, in order.
 #[cycle(copy_item)]
 fn copy_items(alloc: Global, items: &Vec<Item>) -> Result<Vec<Item>, OutOfMemory>
-    ensures entries { IfOk result (λ copied. entries copied.items ≡ entries items.now.items) }
-    ensures unread { IfOk result (λ copied. map unread_of copied.items ≡ map unread_of items.now.items) }
+    ensures { IfOk result (λ copied. entries copied.items ≡ entries items.now.items) }
 {
     let mut copied = Vec::new(alloc);
     for item in items {

@@ -4,15 +4,11 @@ use crate::component_type::{
     ComponentType, ComponentTypeDeclaration, ComponentTypeRef, InstanceTypeDeclaration,
 };
 use crate::instance::{ComponentAlias, ComponentExternalKind, ComponentInstance};
-use crate::item::{ItemForm, Section};
+use crate::item::Section;
 use crate::name::{ComponentExport, ComponentImport};
 use std::fmt;
 
-/// Shows which bodies of a form of items are read, for a body that is none of them.
-#[derive(Clone, Copy)]
-pub struct UnreadForm(pub ItemForm);
-
-/// Shows what of an item is not built, where it holds a body that is not read.
+/// Shows what of an item is not built, where no item of its form is.
 #[derive(Clone, Copy)]
 pub struct SectionForm<'a>(pub &'a Section);
 
@@ -38,45 +34,10 @@ pub struct AliasForm<'a>(pub &'a ComponentAlias);
 
 impl fmt::Display for SectionForm<'_> {
     fn fmt<W: fmt::Write>(&self, f: &mut fmt::Formatter<W>) -> fmt::Result {
-        match self.0 {
-            Section::Unbuilt(form) => write!(f, "{}", UnreadForm(*form)),
-            _ => f.write_str("this form of item is not built yet"),
-        }
-    }
-}
-
-impl fmt::Display for UnreadForm {
-    fn fmt<W: fmt::Write>(&self, f: &mut fmt::Formatter<W>) -> fmt::Result {
         f.write_str(match self.0 {
-            ItemForm::Type => {
-                r#"the body of this "type" is none of {"func": {"params": [[NAME, TYPE], ..], "result": TYPE, "async": BOOL}}, {"defined": DEFINED}, {"resource": {"rep": CORE-TYPE, "dtor": INDEX}}, {"component": [DECLARATION, ..]} and {"instance": [DECLARATION, ..]}"#
-            }
-            ItemForm::Import => {
-                r#"the body of this "import" is not {"name": NAME, "type": TYPE} with a TYPE among {"module": INDEX}, {"func": INDEX}, {"value": VALUE-TYPE}, {"eq": INDEX}, "sub-resource", {"instance": INDEX} and {"component": INDEX}"#
-            }
-            ItemForm::Export => {
-                r#"the body of this "export" is not {"name": NAME, "sort": SORT, "index": INDEX, "type": TYPE}"#
-            }
-            ItemForm::CoreType => {
-                r#"the body of this "core-type" is neither {"rec": [CORE-TYPE, ..]} nor {"module": [DECLARATION, ..]}"#
-            }
-            ItemForm::CoreModule => {
-                r#"the body of this "core-module" is no list of {"type": [CORE-TYPE, ..]}, {"import": [MODULE, NAME, ITEM]} and {"export": [NAME, ITEM]}"#
-            }
-            ItemForm::CoreInstance => {
-                r#"the body of this "core-instance" is neither {"module": INDEX, "args": [[NAME, INDEX], ..]} nor {"exports": [[NAME, CORE-SORT, INDEX], ..]}"#
-            }
-            ItemForm::Component => r#"items of the form "component" are not built yet"#,
-            ItemForm::Instance => {
-                r#"the body of this "instance" is neither {"component": INDEX, "args": [[NAME, SORT, INDEX], ..]} nor {"exports": [EXPORT, ..]}"#
-            }
-            ItemForm::Alias => {
-                r#"the body of this "alias" is none of {"export": [INDEX, SORT, NAME]}, {"core-export": [INDEX, CORE-SORT, NAME]} and {"outer": [KIND, COUNT, INDEX]}"#
-            }
-            ItemForm::Start => r#"items of the form "start" are not built yet"#,
-            ItemForm::Canon => {
-                r#"the body of this "canon" is not {NAME: OPERANDS} with the NAME of a canonical function and the OPERANDS that it takes"#
-            }
+            Section::Component { .. } => r#"items of the form "component" are not built yet"#,
+            Section::Start { .. } => r#"items of the form "start" are not built yet"#,
+            _ => "this form of item is not built yet",
         })
     }
 }

@@ -1,7 +1,6 @@
-use Rattle.std.proofs.Common.{◌≡◌, ◌++◌, drop, map}
-use Rattle.wcv_syntax.specs.Unread.{unread_of}
+use Rattle.std.proofs.Common.{◌≡◌, ◌++◌, drop}
 use Rattle.wcv_syntax.specs.View.{entries}
 use Rattle.wcv_syntax.proofs.+copy_item.Given as goal
 
 abbrev pub invariant-copy_item::copy_items-loop-item : goal.invariant-copy_item::copy_items-loop-item
-invariant-copy_item::copy_items-loop-item l = (entries l.copied.items ++ entries (drop l.item-index l.item-items) ≡ entries l.item-items) × (map unread_of l.copied.items ++ map unread_of (drop l.item-index l.item-items) ≡ map unread_of l.item-items)
+invariant-copy_item::copy_items-loop-item l = entries l.copied.items ++ entries (drop l.item-index l.item-items) ≡ entries l.item-items
