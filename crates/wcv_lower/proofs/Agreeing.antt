@@ -10,14 +10,10 @@ use Rattle.wcv_matching.specs.OnePass.{argument_for, made_paths}
 use Rattle.wcv_matching.specs.SameTypes.{made_at}
 use Rattle.wcv_lower.specs.Instantiated.{opening}
 use Rattle.wcv_lower.specs.Mapped.{map_entries}
-use Rattle.wcv_lower.specs.Names.{Origin, introduced, again, stamp_at, place_of, Names}
+use Rattle.wcv_lower.specs.Names.{introduced, again, stamp_at, Names}
+pub use Rattle.wcv_lower.specs.Names.{SameNames}
 use Rattle.wcv_lower.specs.NewTypes.{renewed_head, renewed, owned_anew, instance_tree, path_or_none}
 use Rattle.wcv_lower.specs.Trees.{type_entry, node_tree, tree_maker}
-
--- names that are the same there
-pub record SameNames (In : Place → Type 0) (n m : Names) : Type 0 where
-  pub resource : (o : Origin) → In (place_of o) → m.resource o ≡ n.resource o
-  pub identity : (o : Origin) → In (place_of o) → m.identity o ≡ n.identity o
 
 module _ (n m : Names) (p : Place) (s : SameNames (λ q. q ≡ p) n m) where
   id_same : m.identity (introduced p) ≡ n.identity (introduced p)

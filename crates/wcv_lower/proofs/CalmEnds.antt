@@ -1,4 +1,5 @@
--- A stack stays calm where a declared type ends: what the type owns its context had, so no other type owns it and no other context has it.
+-- A stack stays calm where a declared type or a component ends: what the type owns its context had, so no other type owns it and no other
+-- context has it.
 use Rattle.std.proofs.Common.{◌≡◌, ℕ, zero, suc, List, [], ◌∷◌, map, refl, sym, subst, arith, suc-ne-zero, Bool, true, false, cond, ◌||◌, ◌⊎◌, inl, inr, Some, None}
 use Rattle.std.specs.Prelude.{Option, All}
 use Rattle.std.specs.Option.{option_map}
@@ -9,18 +10,17 @@ use Rattle.wcv_types.specs.Tree.{import, export, Parts, none, firsts, entries}
 use Rattle.wcv_types.specs.Unfold.{Type_tree}
 use Rattle.wcv_types.proofs.Lists.{some-inj}
 use Rattle.wcv_matching.specs.Orderly.{height}
-use Rattle.wcv_lower.specs.Context.{Kind, concrete, declares_instance, declares_component, importing, exporting, in_types}
-use Rattle.wcv_lower.specs.Declared.{around, ended}
+use Rattle.wcv_lower.specs.Context.{Kind, concrete, declares_instance, declares_component, importing, exporting, in_types, in_components}
+use Rattle.wcv_lower.specs.Declared.{around, closed_as, ended}
 use Rattle.wcv_lower.specs.Ending.{is_free_among, any_free, keep, kept, component_of, component_made, declared_made}
 use Rattle.wcv_lower.specs.Even.{IsBalanced}
 use Rattle.wcv_lower.specs.Given.{Numbers}
 use Rattle.wcv_lower.specs.Names.{Names, introduced}
-use Rattle.wcv_lower.specs.Owned.{OwnsNot, OwnApart, AllEntries, Everywhere, IsOwn, IsCalm}
-use Rattle.wcv_lower.specs.Readers.{Named, New_node, func_node, defined_node, module_node, core_instance_node, core_exports_node, instance_node, component_node}
-use Rattle.wcv_lower.specs.Step.{appends, apply}
+use Rattle.wcv_lower.specs.Owned.{OwnsNot, OwnApart, AllEntries, Everywhere, own_resources, IsOwn, IsGiven, IsCalm}
+use Rattle.wcv_lower.specs.Readers.{Maker, Named, New_node, func_node, defined_node, module_node, core_instance_node, core_exports_node, instance_node, component_node}
+use Rattle.wcv_lower.specs.Step.{appends, Step, apply}
 use Rattle.wcv_lower.specs.Trees.{tree_reader, Tree_context, Tree_stack, tree_maker, node_tree, type_entry}
-use Rattle.wcv_lower.specs.Types.{added}
-use Rattle.wcv_lower.proofs.Bringing.{OfAny, of_some, map-some, any_mapped, any_then, brings_one}
+use Rattle.wcv_lower.proofs.Bringing.{OfAny, of_some, map-some, any_mapped, any_then, AllBring, brings_one}
 use Rattle.wcv_lower.proofs.Calm.{IsLate, not_both, own_given, stood, around_has, calm_around, IsGentle, calm_applied}
 use Rattle.wcv_lower.proofs.DeclaredLaws.{then-some}
 use Rattle.wcv_lower.proofs.EvenOwners.{with_owner, owned_high, raised_has}
@@ -120,44 +120,59 @@ end_balanced v c i (module_node m) all high w = absurd w
 end_balanced v c i (core_instance_node t) all high w = absurd w
 end_balanced v c i (core_exports_node n es) all high w = absurd w
 
+-- ## What joins
+
+module _ {P : Type_tree → Type 0} {In : Parts Name Name → Type 0} (law : Inherited P In) (New : Name → Type 0) (n : New_node tree_reader) (names : Names) (p : Place) where
+  -- the node, or the entity of its type
+  pub closed_bring : (k : Kind) → P (node_tree (names.identity (introduced p)) n) → AllBring P New (closed_as k (tree_maker names p) n)
+  closed_bring concrete w = brings_one P New (appends in_components (node_tree (names.identity (introduced p)) n)) w
+  closed_bring declares_instance w = brings_one P New (appends in_types (type_entry (node_tree (names.identity (introduced p)) n))) (entry_has law (node_tree (names.identity (introduced p)) n) w)
+  closed_bring declares_component w = brings_one P New (appends in_types (type_entry (node_tree (names.identity (introduced p)) n))) (entry_has law (node_tree (names.identity (introduced p)) n) w)
+
+-- no resource
+pub closed_own : (k : Kind) (mk : Maker tree_reader) (n : New_node tree_reader) (t : Tree_stack) → own_resources (apply (closed_as k mk n) t).top ≡ own_resources t.top
+closed_own concrete mk n t = refl
+closed_own declares_instance mk n t = refl
+closed_own declares_component mk n t = refl
+
 -- ## The end
 
-module _ (a : Numbers) (names : Names) (p : Place) (u t : Tree_stack) (h : IsCalm a u) (w : around u ≡ Some t) where
-  abbrev entry : New_node tree_reader → Type_tree
-  entry n = type_entry (node_tree (names.identity (introduced p)) n)
+module _ (a : Numbers) (k : Kind) (names : Names) (p : Place) (u t : Tree_stack) (h : IsCalm a u) (w : around u ≡ Some t) where
+  abbrev made : New_node tree_reader → Type_tree
+  made n = node_tree (names.identity (introduced p)) n
+
+  abbrev closing : New_node tree_reader → Step tree_reader
+  closing n = closed_as k (tree_maker names p) n
 
   -- what its context has is owned by the new node from then on
   abbrev raised : New_node tree_reader → Name → ℕ
-  raised n = with_owner h.balanced.0 u.top (height (node_tree (names.identity (introduced p)) n))
+  raised n = with_owner h.balanced.0 u.top (height (made n))
 
   raised_everywhere : (n : New_node tree_reader) → Everywhere (IsBalanced (raised n)) u
-  raised_everywhere n = raised_has u h.balanced (λ r o. h.spared zero u.top r refl o) (height (node_tree (names.identity (introduced p)) n))
+  raised_everywhere n = raised_has u h.balanced (λ r o. h.spared zero u.top r refl o) (height (made n))
 
-  raised_node : (n : New_node tree_reader) → Ends u.top n → IsBalanced (raised n) (node_tree (names.identity (introduced p)) n)
-  raised_node n e =
-      end_balanced (raised n) u.top (names.identity (introduced p)) n (raised_everywhere n zero u.top refl) (owned_high h.balanced.0 u.top (height (node_tree (names.identity (introduced p)) n))) e
+  raised_node : (n : New_node tree_reader) → Ends u.top n → IsBalanced (raised n) (made n)
+  raised_node n e = end_balanced (raised n) u.top (names.identity (introduced p)) n (raised_everywhere n zero u.top refl) (owned_high h.balanced.0 u.top (height (made n))) e
 
-  ending : (n : New_node tree_reader) → Ends u.top n → IsGentle a t (added {X = tree_reader} (tree_maker names p) n)
+  ending : (n : New_node tree_reader) → Ends u.top n → IsGentle a t (closing n)
   ending n e = record {
-    apart = brings_one OwnApart (IsLate a) (appends in_types (entry n)) (entry_has own_apart_inherited _ (end_apart u.top (names.identity (introduced p)) (λ r o. h.spared zero u.top r refl o zero u.top refl) (h.apart zero u.top refl) n e));
-    spared = λ j c r f o. brings_one (OwnsNot r) (IsLate a) (appends in_types (entry n))
-        (entry_has (owns_not_inherited r) _ (end_spares u.top (names.identity (introduced p)) r (λ q. suc-ne-zero j (h.differ (suc j) zero c u.top r (stood u t w j c f) refl o q)) (h.spared (suc j) c r (stood u t w j c f) o zero u.top refl) n e));
-    late = λ k l. brings_one (OwnsNot (number k)) (IsLate a) (appends in_types (entry n))
-        (entry_has (owns_not_inherited (number k)) _ (end_spares u.top (names.identity (introduced p)) (number k) (λ q. not_both a (number k) (own_given a u h zero u.top (number k) refl q) l) (h.late k l zero u.top refl) n e));
-    balanced = (
-      raised n,
-      around_has u t w (IsBalanced (raised n)) (raised_everywhere n),
-      brings_one (IsBalanced (raised n)) (IsLate a) (appends in_types (entry n)) (entry_has (balanced_inherited (raised n)) (node_tree (names.identity (introduced p)) n) (raised_node n e)),
-    );
+    apart = closed_bring own_apart_inherited (IsLate a) n names p k (end_apart u.top (names.identity (introduced p)) (λ r o. h.spared zero u.top r refl o zero u.top refl) (h.apart zero u.top refl) n e);
+    spared = λ j c r f o. closed_bring (owns_not_inherited r) (IsLate a) n names p k
+        (end_spares u.top (names.identity (introduced p)) r (λ q. suc-ne-zero j (h.differ (suc j) zero c u.top r (stood u t w j c f) refl o q)) (h.spared (suc j) c r (stood u t w j c f) o zero u.top refl) n e);
+    late = λ m l. closed_bring (owns_not_inherited (number m)) (IsLate a) n names p k
+        (end_spares u.top (names.identity (introduced p)) (number m) (λ q. not_both a (number m) (own_given a u h zero u.top (number m) refl q) l) (h.late m l zero u.top refl) n e);
+    balanced = (raised n, around_has u t w (IsBalanced (raised n)) (raised_everywhere n), closed_bring (balanced_inherited (raised n)) (IsLate a) n names p k (raised_node n e));
   }
 
-  closed_calm : (n : New_node tree_reader) → Ends u.top n → IsCalm a (apply (added {X = tree_reader} (tree_maker names p) n) t)
+  closed_calm : (n : New_node tree_reader) → Ends u.top n → IsCalm a (apply (closing n) t)
   closed_calm n e =
       let c = calm_around u t w a h in
-      calm_applied a a t (added {X = tree_reader} (tree_maker names p) n) (record { resources = omega arith; nodes = omega arith; stamps = omega arith }) c (ending n e) (c.given zero t.top refl)
+      calm_applied a a t (closing n) (record { resources = omega arith; nodes = omega arith; stamps = omega arith }) c (ending n e)
+      (subst (All (IsGiven a)) (sym (closed_own k (tree_maker names p) n t)) (c.given zero t.top refl))
 
+-- of a declared type, and of a component
 pub calm_ended : (a : Numbers) (k : Kind) (names : Names) (p : Place) (u v : Tree_stack) → IsCalm a u → ended k (tree_maker names p) u ≡ Some v → IsCalm a v
 calm_ended a k names p u v h e =
-    let t = then-some (λ t. option_map (λ n. apply (added (tree_maker names p) n) t) (declared_made k u.top)) (around u) v e in
-    let n = map-some (λ n. apply (added {X = tree_reader} (tree_maker names p) n) t.0) (declared_made k u.top) v t.2 in
-    subst (IsCalm a) (some-inj n.2) (closed_calm a names p u t.0 h t.1 n.0 (of_some (Ends u.top) (declared_made k u.top) n.0 (node_ends k u.top) n.1))
+    let t = then-some (λ t. option_map (λ n. apply (closed_as k (tree_maker names p) n) t) (declared_made k u.top)) (around u) v e in
+    let n = map-some (λ n. apply (closed_as {X = tree_reader} k (tree_maker names p) n) t.0) (declared_made k u.top) v t.2 in
+    subst (IsCalm a) (some-inj n.2) (closed_calm a k names p u t.0 h t.1 n.0 (of_some (Ends u.top) (declared_made k u.top) n.0 (node_ends k u.top) n.1))

@@ -12,13 +12,13 @@ use Rattle.wcv_lower.specs.Aliases.{alias_step}
 use Rattle.wcv_lower.specs.Checks.{Checks, IsFree, no_type_room}
 use Rattle.wcv_lower.specs.Context.{Kind, declares_instance, declares_component, Context, Stack, exporting, charge, counts}
 use Rattle.wcv_lower.specs.CoreItems.{core_type_step}
-use Rattle.wcv_lower.specs.Declared.{Makers, inside, around, ended, full_stack, applied, declared_export_step, read_type, read_decl, read_decls, on_read, declared_checks, decl_checks, decls_checks}
+use Rattle.wcv_lower.specs.Declared.{Makers, inside, around, closed_as, ended, full_stack, applied, declared_export_step, read_type, read_decl, read_decls, on_read, declared_checks, decl_checks, decls_checks}
 use Rattle.wcv_lower.specs.Ending.{declared_made, declared_end_checks}
 use Rattle.wcv_lower.specs.Entries.{extern_name, written, written_checks, import_step}
 use Rattle.wcv_lower.specs.Growth.{step}
 use Rattle.wcv_lower.specs.Readers.{Reader}
 use Rattle.wcv_lower.specs.Step.{Change, appends, lists, introduces, defines, creates, core_appends, interns, charges, types_slots, Step, change_at, change, apply, enters}
-use Rattle.wcv_lower.specs.Types.{added, type_step}
+use Rattle.wcv_lower.specs.Types.{type_step}
 use Rattle.std.proofs.lemmas.Bool.{false≢true}
 use Rattle.wcv_lower.proofs.AliasLaws.{alias_does}
 use Rattle.wcv_lower.proofs.Causes.{free_left, free_right}
@@ -54,7 +54,7 @@ module _ {X : Reader} where
   apply-outer [] s = refl
   apply-outer (x ∷ p) s = apply-outer p (change x s) ∙ change-outer x s
 
-  applied-outer : (s u : Stack X) (o : Option (Step X)) → applied s o ≡ Some u → length u.outer ≡ length s.outer
+  pub applied-outer : (s u : Stack X) (o : Option (Step X)) → applied s o ≡ Some u → length u.outer ≡ length s.outer
   applied-outer s u None e = cc
   applied-outer s u (Some p) e = ap (λ (t : Stack X). length t.outer) (sym (some-inj e)) ∙ apply-outer p s
 
@@ -87,18 +87,18 @@ inside_built no_decls b = refl
 inside_built (declare d ds) b = (λ j. decl_built d (and_left _ _ b) j && inside_built ds (and_right _ _ b) j)
 
 module _ (X : Reader) (fs : WasmFeatures) (mk : Makers X) where
-  ended-outer : (c : Kind) (p : Place) (s u : Stack X) → ended c (mk p) s ≡ Some u → length s.outer ≡ suc (length u.outer)
+  pub ended-outer : (c : Kind) (p : Place) (s u : Stack X) → ended c (mk p) s ≡ Some u → length s.outer ≡ suc (length u.outer)
   ended-outer c p s u e =
-      let v = then-some (λ t. option_map (λ n. apply (added (mk p) n) t) (declared_made c s.top)) (around s) u e in
+      let v = then-some (λ t. option_map (λ n. apply (closed_as c (mk p) n) t) (declared_made c s.top)) (around s) u e in
       around-outer s v.0 v.1 ∙ ap suc (sym (go v.0 (declared_made c s.top) v.2))
     where
-      go : (t : Stack X) (o : Option _) → option_map (λ n. apply (added (mk p) n) t) o ≡ Some u → length u.outer ≡ length t.outer
+      go : (t : Stack X) (o : Option _) → option_map (λ n. apply (closed_as c (mk p) n) t) o ≡ Some u → length u.outer ≡ length t.outer
       go t None e = cc
-      go t (Some n) e = ap (λ (t : Stack X). length t.outer) (sym (some-inj e)) ∙ apply-outer (added (mk p) n) t
+      go t (Some n) e = ap (λ (t : Stack X). length t.outer) (sym (some-inj e)) ∙ apply-outer (closed_as c (mk p) n) t
 
   mutual
     -- as many as before
-    read_type-outer : (p : Place) (s u : Stack X) (t : Type_form) → read_type fs mk p s t ≡ Some u → length u.outer ≡ length s.outer
+    pub read_type-outer : (p : Place) (s u : Stack X) (t : Type_form) → read_type fs mk p s t ≡ Some u → length u.outer ≡ length s.outer
     read_type-outer p s u (component_type ds) e =
         let t = then-some (ended declares_component (mk p)) (read_decls fs mk p 0 (inside declares_component s) ds) u e in
         suc_inj (sym (ended-outer declares_component p t.0 u t.2) ∙ read_decls-outer p 0 (inside declares_component s) t.0 ds t.1)
@@ -127,11 +127,11 @@ module _ (X : Reader) (fs : WasmFeatures) (mk : Makers X) where
   applied_there : (s : Stack X) (o : Option (Step X)) → (x : Step X) × (o ≡ Some x) → (u : Stack X) × (applied s o ≡ Some u)
   applied_there s o w = (apply w.0 s, ap (applied s) w.1)
 
-  ended_there : (c : Kind) (p : Place) (s u : Stack X) → length u.outer ≡ suc (length s.outer) → IsFree (declared_end_checks c u.top) → (v : Stack X) × (ended c (mk p) u ≡ Some v)
+  pub ended_there : (c : Kind) (p : Place) (s u : Stack X) → length u.outer ≡ suc (length s.outer) → IsFree (declared_end_checks c u.top) → (v : Stack X) × (ended c (mk p) u ≡ Some v)
   ended_there c p s u e h =
       let v = around_there u (length s.outer) e in
       let n = has_node c u.top h in
-      (apply (added (mk p) n.0) v.0, (λ j. option_and_then (λ t. option_map (λ n. apply (added (mk p) n) t) (n.1 j)) (v.1 j)))
+      (apply (closed_as c (mk p) n.0) v.0, (λ j. option_and_then (λ t. option_map (λ n. apply (closed_as c (mk p) n) t) (n.1 j)) (v.1 j)))
 
   declared_there : (c : Kind) (p : Place) (s : Stack X) (ds : Decls) → (u : Stack X) × (read_decls fs mk p 0 (inside c s) ds ≡ Some u) × IsFree (declared_end_checks c u.top) →
       (v : Stack X) × (option_and_then (ended c (mk p)) (read_decls fs mk p 0 (inside c s) ds) ≡ Some v)

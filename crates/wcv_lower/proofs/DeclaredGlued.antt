@@ -38,7 +38,7 @@ module _ (A B : Place → Type 0) (a m b : Numbers) (apart : (p : Place) → A p
 
 -- ## Declarations
 
-later_item : (p : Place) (n : ℕ) (q : Place) → Under (deeper p n) q → FromDecl p (suc n) q → ⊥
+pub later_item : (p : Place) (n : ℕ) (q : Place) → Under (deeper p n) q → FromDecl p (suc n) q → ⊥
 later_item p n q u w =
     let e : n ≡ w.0 = one-item p n w.0 q u w.2 in
     let l = w.1 in
@@ -51,7 +51,7 @@ most_read fs p n s u (declare d ds) a b r =
     let y = r.3 in
     record { resources = omega (arith, x.resources, y.resources); nodes = omega (arith, x.nodes, y.nodes); stamps = omega (arith, x.stamps, y.stamps) }
 
-none_gives : (In : Place → Type 0) (a b : Numbers) → GivesAt In a b none_given
+pub none_gives : (In : Place → Type 0) (a b : Numbers) → GivesAt In a b none_given
 none_gives In a b = record { resources = tt; identities = tt }
 
 module _ (fs : WasmFeatures) (p : Place) where
@@ -60,7 +60,7 @@ module _ (fs : WasmFeatures) (p : Place) where
     abbrev both : GivenNames
     both = both_given one rest
 
-    both_given_at : GivesAt (FromDecl p n) a b both
+    pub both_given_at : GivesAt (FromDecl p n) a b both
     both_given_at =
         gives_both (Under (deeper p n)) (FromDecl p (suc n)) (FromDecl p n) a m b l l' (later_item p n) (λ q u. (n, omega arith, u)) (λ q w. let x = w.1 in (w.0, omega (arith, x), w.2)) one rest g h
 
@@ -125,10 +125,10 @@ module _ (fs : WasmFeatures) (p : Place) where
 
   -- ## The type
 
-  own_place : (q : Place) → FromDecl p 0 q → q ≡ p → ⊥
+  pub own_place : (q : Place) → FromDecl p 0 q → q ≡ p → ⊥
   own_place q w e = false≢true (sym (not-inside p w.0) ∙ subst (λ (x : Place). under (deeper p w.0) x ≡ true) e w.2)
 
-  inside_it : (q : Place) → FromDecl p 0 q → Under p q
+  pub inside_it : (q : Place) → FromDecl p 0 q → Under p q
   inside_it q w = under-deeper p w.0 q w.2
 
   it_itself : (q : Place) → q ≡ p → Under p q
@@ -139,13 +139,13 @@ module _ (fs : WasmFeatures) (p : Place) where
     abbrev all : GivenNames
     all = both_given each own
 
-    all_given_at : GivesAt (Under p) a b all
+    pub all_given_at : GivesAt (Under p) a b all
     all_given_at = gives_both (FromDecl p 0) (λ q. q ≡ p) (Under p) a m b l l' own_place inside_it it_itself each own g h
 
     each_made : MakeSame {X = tree_reader} (tree_maker (names_of each)) (tree_maker (names_of all)) (FromDecl p 0)
     each_made = makers_agree (names_of each) (names_of all) (FromDecl p 0) (first_same (FromDecl p 0) (λ q. q ≡ p) a m b own_place each own g h)
 
-    own_made : tree_maker (names_of all) p ≡ tree_maker (names_of own) p
+    pub own_made : tree_maker (names_of all) p ≡ tree_maker (names_of own) p
     own_made = makers_agree (names_of own) (names_of all) (λ q. q ≡ p) (second_same (FromDecl p 0) (λ q. q ≡ p) a m b own_place each own g h) p refl
 
     all_read : (k : Kind) (s u : Tree_stack) (ds : Decls) → read_decls fs (tree_maker (names_of each)) p 0 (inside k s) ds ≡ Some u →

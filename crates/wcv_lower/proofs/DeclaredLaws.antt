@@ -1,7 +1,8 @@
 -- Declared types: what is read and its causes under a map of entries.
-use Rattle.std.proofs.Common.{◌≡◌, ℕ, suc, List, [], ◌∷◌, ◌++◌, refl, ◌∙◌, ap, subst, Bool, true, Some, None}
+use Rattle.std.proofs.Common.{◌≡◌, ℕ, suc, List, [], ◌∷◌, ◌++◌, refl, sym, ◌∙◌, ap, subst, Bool, true, false, Some, None}
 use Rattle.std.specs.Prelude.{Option}
 use Rattle.std.specs.Option.{option_map, option_and_then}
+use Rattle.std.proofs.lemmas.Bool.{false≢true}
 use Rattle.wcv_core.specs.Limits.{max_open}
 use Rattle.wcv_core.specs.Names.{Place, deeper}
 use Rattle.wcv_core.specs.declared.features.WasmFeatures.{WasmFeatures}
@@ -10,14 +11,14 @@ use Rattle.wcv_syntax.specs.declared.component_type.ComponentTypeRef.{ComponentT
 use Rattle.wcv_syntax.specs.declared.name.ComponentExternName.{ComponentExternName}
 use Rattle.wcv_lower.specs.Aliases.{alias_step}
 use Rattle.wcv_lower.specs.Checks.{Checks, too_many, no_type_room}
-use Rattle.wcv_lower.specs.Context.{Kind, declares_instance, declares_component, Context, Stack, exporting}
-use Rattle.wcv_lower.specs.Declared.{Makers, inside, around, ended, full_stack, applied, declared_export_step, declared_export_checks, read_type, read_decl, read_decls, on_read, declared_checks, decl_checks, decls_checks}
+use Rattle.wcv_lower.specs.Context.{Kind, concrete, declares_instance, declares_component, is_concrete, in_components, Context, Stack, exporting}
+use Rattle.wcv_lower.specs.Declared.{Makers, inside, around, closed_as, ended, full_stack, applied, declared_export_step, declared_export_checks, read_type, read_decl, read_decls, on_read, declared_checks, decl_checks, decls_checks}
 use Rattle.wcv_lower.specs.DeclaredMaps.{TypeAlike, DeclAlike, DeclsAlike}
 use Rattle.wcv_lower.specs.Ending.{declared_made}
 use Rattle.wcv_lower.specs.Entries.{extern_name, written, written_checks}
 use Rattle.wcv_lower.specs.Mapped.{Map, Commutes, IsKnown, MakesSame, map_context, map_stack, map_step, map_node}
-use Rattle.wcv_lower.specs.Readers.{Reader, New_node}
-use Rattle.wcv_lower.specs.Step.{Step, apply, joins_types}
+use Rattle.wcv_lower.specs.Readers.{Reader, Maker, New_node}
+use Rattle.wcv_lower.specs.Step.{appends, Step, apply, joins_types}
 use Rattle.wcv_lower.specs.Types.{added}
 use Rattle.wcv_lower.specs.Uses.{ref_uses, uses_node}
 use Rattle.wcv_lower.proofs.AliasLaws.{alias_step-mapped, alias_checks-mapped}
@@ -31,7 +32,7 @@ use Rattle.wcv_types.proofs.Each.{length-mapped}
 use Rattle.wcv_types.proofs.Lists.{some-inj}
 
 -- what is read after that, where each way is the same
-then-mapped : {A B C D : Type 0} (f : A → Option B) (g : C → Option D) (u : A → C) (v : B → D) (o : Option A) → ((x : A) → o ≡ Some x → g (u x) ≡ option_map v (f x)) → option_and_then g (option_map u o) ≡ option_map v (option_and_then f o)
+pub then-mapped : {A B C D : Type 0} (f : A → Option B) (g : C → Option D) (u : A → C) (v : B → D) (o : Option A) → ((x : A) → o ≡ Some x → g (u x) ≡ option_map v (f x)) → option_and_then g (option_map u o) ≡ option_map v (option_and_then f o)
 then-mapped f g u v None h = refl
 then-mapped f g u v (Some x) h = h x refl
 
@@ -39,6 +40,12 @@ then-mapped f g u v (Some x) h = h x refl
 pub then-some : {A B : Type 0} (f : A → Option B) (o : Option A) (y : B) → option_and_then f o ≡ Some y → (x : A) × (o ≡ Some x) × (f x ≡ Some y)
 then-some f None y e = cc
 then-some f (Some x) y e = (x, refl, e)
+
+-- the node of a declared type joins the types
+pub closed_as-declared : {X : Reader} (k : Kind) (mk : Maker X) (n : New_node X) → is_concrete k ≡ false → closed_as k mk n ≡ added mk n
+closed_as-declared concrete mk n e = absurd (false≢true (sym e))
+closed_as-declared declares_instance mk n e = refl
+closed_as-declared declares_component mk n e = refl
 
 module _ {X Y : Reader} (m : Map X Y) {Known : X.Entry → Type 0} (law : Commutes m Known) (fs : WasmFeatures) (k : Makers X) (l : Makers Y) where
   applied-mapped : (s : Stack X) (o : Option (Step X)) (p : Option (Step Y)) → p ≡ option_map (map_step m) o → applied (map_stack m s) p ≡ option_map (map_stack m) (applied s o)
@@ -53,18 +60,24 @@ module _ {X Y : Reader} (m : Map X Y) {Known : X.Entry → Type 0} (law : Commut
 
   -- ## Ends
 
-  ended-mapped : (p : Place) (c : Kind) (s : Stack X) → MakesSame m Known (k p) (l p) (uses_node (declared_made c s.top)) → ended c (l p) (map_stack m s) ≡ option_map (map_stack m) (ended c (k p) s)
+  -- what it is joins what stands around it
+  closed_as-mapped : (p : Place) (c : Kind) (o : Option (New_node X)) → MakesSame m Known (k p) (l p) (uses_node o) → (n : New_node X) → o ≡ Some n → closed_as c (l p) (map_node m n) ≡ map_step m (closed_as c (k p) n)
+  closed_as-mapped p concrete o u n e = ap (λ (y : Y.Entry). appends in_components y ∷ []) (u.build n e)
+  closed_as-mapped p declares_instance o u n e = ap joins_types (u.build_type n e)
+  closed_as-mapped p declares_component o u n e = ap joins_types (u.build_type n e)
+
+  pub ended-mapped : (p : Place) (c : Kind) (s : Stack X) → MakesSame m Known (k p) (l p) (uses_node (declared_made c s.top)) → ended c (l p) (map_stack m s) ≡ option_map (map_stack m) (ended c (k p) s)
   ended-mapped p c s u =
-      ap (option_and_then (λ t. option_map (λ n. apply (added (l p) n) t) (declared_made c (map_context m s.top)))) (around-mapped s) ∙
-      then-mapped (λ t. option_map (λ n. apply (added (k p) n) t) (declared_made c s.top)) (λ t. option_map (λ n. apply (added (l p) n) t) (declared_made c (map_context m s.top))) (map_stack m) (map_stack m) (around s) (λ t e. joined t)
+      ap (option_and_then (λ t. option_map (λ n. apply (closed_as c (l p) n) t) (declared_made c (map_context m s.top)))) (around-mapped s) ∙
+      then-mapped (λ t. option_map (λ n. apply (closed_as c (k p) n) t) (declared_made c s.top)) (λ t. option_map (λ n. apply (closed_as c (l p) n) t) (declared_made c (map_context m s.top))) (map_stack m) (map_stack m) (around s) (λ t e. joined t)
     where
-      joined : (t : Stack X) → option_map (λ n. apply (added (l p) n) (map_stack m t)) (declared_made c (map_context m s.top)) ≡ option_map (map_stack m) (option_map (λ n. apply (added (k p) n) t) (declared_made c s.top))
-      joined t = ap (option_map (λ n. apply (added (l p) n) (map_stack m t))) (declared_made-mapped m law c s.top) ∙ go (declared_made c s.top) u.build_type
+      joined : (t : Stack X) → option_map (λ n. apply (closed_as c (l p) n) (map_stack m t)) (declared_made c (map_context m s.top)) ≡ option_map (map_stack m) (option_map (λ n. apply (closed_as c (k p) n) t) (declared_made c s.top))
+      joined t = ap (option_map (λ n. apply (closed_as c (l p) n) (map_stack m t))) (declared_made-mapped m law c s.top) ∙ go (declared_made c s.top) (closed_as-mapped p c (declared_made c s.top) u)
         where
-          go : (o : Option (New_node X)) → ((n : New_node X) → o ≡ Some n → (l p).build_type (map_node m n) ≡ m.entry ((k p).build_type n)) →
-              option_map (λ n. apply (added (l p) n) (map_stack m t)) (option_map (map_node m) o) ≡ option_map (map_stack m) (option_map (λ n. apply (added (k p) n) t) o)
-          go None u = refl
-          go (Some n) u = ap (λ (y : Y.Entry). Some (apply (joins_types y) (map_stack m t))) (u n refl) ∙ ap Some (apply-mapped m law (added (k p) n) t)
+          go : (o : Option (New_node X)) → ((n : New_node X) → o ≡ Some n → closed_as c (l p) (map_node m n) ≡ map_step m (closed_as c (k p) n)) →
+              option_map (λ n. apply (closed_as c (l p) n) (map_stack m t)) (option_map (map_node m) o) ≡ option_map (map_stack m) (option_map (λ n. apply (closed_as c (k p) n) t) o)
+          go None w = refl
+          go (Some n) w = ap (λ (q : Step Y). Some (apply q (map_stack m t))) (w n refl) ∙ ap Some (apply-mapped m law (closed_as c (k p) n) t)
 
   -- ## Declarations
 
@@ -111,7 +124,7 @@ module _ {X Y : Reader} (m : Map X Y) {Known : X.Entry → Type 0} (law : Commut
 
   -- ## Causes
 
-  full-mapped : (s : Stack X) → full_stack (map_stack m s) ≡ full_stack s
+  pub full-mapped : (s : Stack X) → full_stack (map_stack m s) ≡ full_stack s
   full-mapped s = ap (λ (n : ℕ). too_many max_open (suc (suc n))) (length-mapped (map_context m) s.outer)
 
   on_read-mapped : (f : Stack X → Checks) (g : Stack Y → Checks) (o : Option (Stack X)) → ((t : Stack X) → o ≡ Some t → g (map_stack m t) ≡ f t) → on_read g (option_map (map_stack m) o) ≡ on_read f o

@@ -32,13 +32,13 @@ abbrev pub MakeSame : {X : Reader} → Makers X → Makers X → (Place → Type
 MakeSame k l In = (q : Place) → In q → l q ≡ k q
 
 module _ {X : Reader} (k l : Makers X) (p : Place) where
-  same_inside : (n : ℕ) → MakeSame k l (Under p) → MakeSame k l (FromDecl p n)
+  pub same_inside : (n : ℕ) → MakeSame k l (Under p) → MakeSame k l (FromDecl p n)
   same_inside n h q w = h q (under-deeper p w.0 q w.2)
 
-  same_first : (n : ℕ) → MakeSame k l (FromDecl p n) → MakeSame k l (Under (deeper p n))
+  pub same_first : (n : ℕ) → MakeSame k l (FromDecl p n) → MakeSame k l (Under (deeper p n))
   same_first n h q u = h q (n, omega arith, u)
 
-  same_rest : (n : ℕ) → MakeSame k l (FromDecl p n) → MakeSame k l (FromDecl p (suc n))
+  pub same_rest : (n : ℕ) → MakeSame k l (FromDecl p n) → MakeSame k l (FromDecl p (suc n))
   same_rest n h q w =
       let x = w.1 in
       h q (w.0, omega (arith, x), w.2)
@@ -90,10 +90,10 @@ makers_agree n m In h q u = maker_same n m q (record { resource = λ o e. h.reso
 -- ## Renamed names
 
 module _ (w : Renaming) (n m : Names) (fs : WasmFeatures) where
-  abbrev Renames : Place → Type 0
+  abbrev pub Renames : Place → Type 0
   Renames p = AreRenamed (Under p) w.resources.to w.identities.to n m
 
-  renamed_inside : (p : Place) (i : ℕ) → Renames p → Renames (deeper p i)
+  pub renamed_inside : (p : Place) (i : ℕ) → Renames p → Renames (deeper p i)
   renamed_inside p i r = record { resource = λ o h. r.resource o (under-deeper p i (place_of o) h); identity = λ o h. r.identity o (under-deeper p i (place_of o) h) }
 
   alike : (p : Place) (s : Tree_stack) (u : Uses tree_reader) → Renames p → Alike (renaming w) (λ t. Unit {0}) fs (tree_maker n) (tree_maker m) p s u

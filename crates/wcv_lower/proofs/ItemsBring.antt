@@ -2,7 +2,7 @@
 use Rattle.std.proofs.Common.{zero, refl}
 use Rattle.wcv_core.specs.Names.{Name, Place}
 use Rattle.wcv_core.specs.declared.features.WasmFeatures.{WasmFeatures}
-use Rattle.wcv_syntax.specs.Model.{Form, core_type_item, core_module_item, core_instance_item, type_item, import_item, export_item, component_item, instance_item, alias_item, start_item, canon_item, unread}
+use Rattle.wcv_syntax.specs.Model.{Form, core_type_item, core_module_item, core_instance_item, type_item, import_item, export_item, component_item, instance_item, alias_item, start_item, canon_item}
 use Rattle.wcv_types.specs.Tree.{Parts}
 use Rattle.wcv_types.specs.Unfold.{Type_tree}
 use Rattle.wcv_lower.specs.Growth.{step}
@@ -36,7 +36,6 @@ module _ {P : Type_tree → Type 0} {In : Parts Name Name → Type 0} (law : Inh
   items_bring fs (alias_item a) keep = aliases_bring law New s all a
   items_bring fs (start_item a b c) keep = tt
   items_bring fs (canon_item c) keep = canons_bring law New s top c
-  items_bring fs unread keep = tt
 
   kept_item : KeptWhereGiven P → (f : Form) → ItemKeeps f
   kept_item kept (instance_item i) = keeps_by law New names p fresh s top kept i

@@ -12,7 +12,7 @@ use Rattle.wcv_types.specs.Unfold.{Type_tree}
 use Rattle.wcv_types.proofs.Lists.{some-inj}
 use Rattle.wcv_lower.specs.Aliases.{alias_step}
 use Rattle.wcv_lower.specs.Context.{Kind, concrete, declares_instance, declares_component, importing, exporting, in_types, at_distance, charge}
-use Rattle.wcv_lower.specs.Declared.{inside, around, ended, applied, declared_export_step, read_type, read_decl, read_decls}
+use Rattle.wcv_lower.specs.Declared.{inside, around, closed_as, ended, applied, declared_export_step, read_type, read_decl, read_decls}
 use Rattle.wcv_lower.specs.Ending.{any_free, kept, component_of, component_made, instance_made, declared_made}
 use Rattle.wcv_lower.specs.Entries.{extern_name, written}
 use Rattle.wcv_lower.specs.Growth.{step, grow}
@@ -23,16 +23,16 @@ use Rattle.wcv_lower.specs.Step.{Change, appends, lists, introduces, defines, cr
 use Rattle.wcv_lower.specs.Trees.{tree_reader, Tree_context, Tree_stack, tree_maker, node_tree, type_entry}
 use Rattle.wcv_lower.specs.Types.{added}
 use Rattle.wcv_lower.proofs.Applied.{change_at_cases, applied_has}
-use Rattle.wcv_lower.proofs.Bringing.{OfAny, of_some, map-some, any_mapped, AllBring, brings_one, enters_bring, BroughtOf, written_has}
+use Rattle.wcv_lower.proofs.Bringing.{OfAny, of_some, map-some, any_mapped, AllBring, enters_bring, BroughtOf, written_has}
 use Rattle.wcv_lower.proofs.Calm.{inside_has, stood, around_has}
 use Rattle.wcv_lower.proofs.BroughtByAliases.{aliases_bring}
-use Rattle.wcv_lower.proofs.CalmEnds.{exports_in_it, sides_in_it}
+use Rattle.wcv_lower.proofs.CalmEnds.{exports_in_it, sides_in_it, closed_bring, closed_own}
 use Rattle.wcv_lower.proofs.DeclaredLaws.{then-some}
 use Rattle.wcv_lower.proofs.ItemsBring.{items_bring_given}
 use Rattle.wcv_lower.proofs.Members.{names_in, defined_own}
 use Rattle.wcv_lower.proofs.Once.{once_right, new_names, applied_cases, applied_once}
 use Rattle.wcv_lower.proofs.OnceSteps.{AreMade, enters_once, written_once, types_once, core_types_once, aliases_once}
-use Rattle.wcv_lower.proofs.Owning.{owns_once_inherited, owns_once_given, entry_has}
+use Rattle.wcv_lower.proofs.Owning.{owns_once_inherited, owns_once_given}
 
 -- ## Contexts further out
 
@@ -155,19 +155,19 @@ module _ (fs : WasmFeatures) where
 
   end_grew : (k : Kind) (q : Place) (s v u : Tree_stack) → AllGrew q (inside k s) v → ended k (mk q) v ≡ Some u → Grew q s u
   end_grew k q s v u g e =
-      let t = then-some (λ t. option_map (λ n. apply (added (mk q) n) t) (declared_made k v.top)) (around v) u e in
-      let n = map-some (λ n. apply (added {X = tree_reader} (mk q) n) t.0) (declared_made k v.top) u t.2 in
+      let t = then-some (λ t. option_map (λ n. apply (closed_as k (mk q) n) t) (declared_made k v.top)) (around v) u e in
+      let n = map-some (λ n. apply (closed_as {X = tree_reader} k (mk q) n) t.0) (declared_made k v.top) u t.2 in
       let i : Name = base q in
+      let closing : Step tree_reader = closed_as k (mk q) n.0 in
       let top = g.outer zero t.0.top (stood v t.0 t.1 zero t.0.top refl) in
-      let same : own_resources t.0.top ≡ own_resources s.top = top.3 ∙ ap (λ (c : Tree_context). own_resources c) (sym (some-inj top.1)) in
+      let same : own_resources (apply closing t.0).top ≡ own_resources s.top = closed_own k (mk q) n.0 t.0 ∙ (top.3 ∙ ap (λ (c : Tree_context). own_resources c) (sym (some-inj top.1))) in
       subst (Grew q s) (some-inj n.2)
       (record {
         own = λ r o. inl (subst (λ (xs : List Name). member r xs ≡ true) same o);
         once = λ a d. subst IsOnce (sym same) a;
-        outer = λ j d f. g.outer (suc j) d (stood v t.0 t.1 (suc j) d f);
-        has = applied_has OwnsOnce (λ r. Unit {0}) (added {X = tree_reader} (mk q) n.0) t.0 (around_has v t.0 t.1 OwnsOnce g.has)
-            (brings_one OwnsOnce (λ r. Unit {0}) (appends in_types (type_entry (node_tree i n.0)))
-            (entry_has owns_once_inherited (node_tree i n.0) (of_some (λ n. OwnsOnce (node_tree i n)) (declared_made k v.top) n.0 (node_once i k v.top (g.has zero v.top refl) g.once) n.1)));
+        outer = λ j d f. same_then s t.0 (suc j) d (λ c h. g.outer (suc j) c (stood v t.0 t.1 (suc j) c h)) (applied_outer closing t.0 j d f);
+        has = applied_has OwnsOnce (λ r. Unit {0}) closing t.0 (around_has v t.0 t.1 OwnsOnce g.has)
+            (closed_bring owns_once_inherited (λ r. Unit {0}) n.0 names_by_place q k (of_some (λ n. OwnsOnce (node_tree i n)) (declared_made k v.top) n.0 (node_once i k v.top (g.has zero v.top refl) g.once) n.1));
       })
 
   export_grew : (q : Place) (s u : Tree_stack) (x : _) (r : _) → Everywhere OwnsOnce s → applied s (declared_export_step (mk q) s.top x r) ≡ Some u → Grew q s u

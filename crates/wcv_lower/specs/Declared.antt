@@ -11,13 +11,13 @@ use Rattle.wcv_syntax.specs.declared.component_type.ComponentTypeRef.{ComponentT
 use Rattle.wcv_syntax.specs.declared.name.ComponentExternName.{ComponentExternName}
 use Rattle.wcv_lower.specs.Aliases.{alias_step, alias_checks, alias_left}
 use Rattle.wcv_lower.specs.Checks.{Checks, too_many, each_too_long, texts_of, no_type_room}
-use Rattle.wcv_lower.specs.Context.{Kind, declares_instance, declares_component, Context, Stack, empty, exporting, counts}
+use Rattle.wcv_lower.specs.Context.{Kind, concrete, declares_instance, declares_component, in_components, Context, Stack, empty, exporting, counts}
 use Rattle.wcv_lower.specs.CoreItems.{core_type_checks, core_type_left}
 use Rattle.wcv_lower.specs.Ending.{declared_made, declared_end_checks}
 use Rattle.wcv_lower.specs.Entries.{extern_name, written, written_checks, entry_checks, import_checks}
 use Rattle.wcv_lower.specs.Growth.{grow}
-use Rattle.wcv_lower.specs.Readers.{Reader, Maker}
-use Rattle.wcv_lower.specs.Step.{Step, apply, enters}
+use Rattle.wcv_lower.specs.Readers.{Reader, Maker, New_node}
+use Rattle.wcv_lower.specs.Step.{appends, Step, apply, enters}
 use Rattle.wcv_lower.specs.Types.{added, type_checks, type_left}
 
 -- what is made at each place
@@ -38,9 +38,15 @@ stack_of (c ∷ cs) gs = Some (record { top = c; outer = cs; groups = gs })
 abbrev pub around : {X : Reader} → Stack X → Option (Stack X)
 around s = stack_of s.outer s.groups
 
--- at its end it leaves the stack, and its type joins the types of the context around it
+-- what it is joins the types of the context around it, or of a component the components
+abbrev pub closed_as : {X : Reader} → Kind → Maker X → New_node X → Step X
+closed_as concrete mk n = appends in_components (mk.build n) ∷ []
+closed_as declares_instance mk n = added mk n
+closed_as declares_component mk n = added mk n
+
+-- at its end it leaves the stack, and what it is joins the context around it
 abbrev pub ended : {X : Reader} → Kind → Maker X → Stack X → Option (Stack X)
-ended k mk s = option_and_then (λ t. option_map (λ n. apply (added mk n) t) (declared_made k s.top)) (around s)
+ended k mk s = option_and_then (λ t. option_map (λ n. apply (closed_as k mk n) t) (declared_made k s.top)) (around s)
 
 -- no room for one more context on the stack
 abbrev pub full_stack : {X : Reader} → Stack X → Checks

@@ -1,7 +1,7 @@
 // Laws of the rules, over the definitions alone.
 ghost use Rattle.std.specs.Option.{option_map};
 ghost use Rattle.std.specs.Bool.{Decides};
-ghost use Rattle.std.specs.Prelude.{◌≡◌, ℕ, List, All, [], ◌∷◌, ◌++◌, Bool, Some, false, true};
+ghost use Rattle.std.specs.Prelude.{◌≡◌, ℕ, List, All, [], ◌∷◌, ◌++◌, map, Bool, Some, false, true};
 ghost use Rattle.wcv_core.specs.CoreForm.{Group};
 ghost use Rattle.wcv_core.specs.CoreGroups.{total};
 ghost use Rattle.wcv_core.specs.CoreSizes.{IsEntityWithin};
@@ -18,6 +18,7 @@ ghost use Rattle.wcv_syntax.specs.declared.instance.ComponentInstantiationArg.{C
 ghost use Rattle.wcv_types.specs.Arena.{Arena};
 ghost use Rattle.wcv_types.specs.Entities.{SlotStands};
 ghost use Rattle.wcv_types.specs.Identity.{Identity};
+ghost use Rattle.wcv_types.specs.Measure.{size};
 ghost use Rattle.wcv_types.specs.Replacing.{SparesOwn};
 ghost use Rattle.wcv_types.specs.Standing.{AllFit};
 ghost use Rattle.wcv_types.specs.Tree.{exports, firsts, head, imported_at, owned};
@@ -31,9 +32,9 @@ ghost use Rattle.wcv_matching.specs.Orderly.{Orderly};
 ghost use Rattle.wcv_matching.specs.TableMatching.{CoreWithin, Opens};
 ghost use Rattle.wcv_lower.specs.Aliases.{alias_step, alias_checks};
 ghost use Rattle.wcv_lower.specs.Checks.{IsFree};
-ghost use Rattle.wcv_lower.specs.Context.{Stack, in_types, importing};
+ghost use Rattle.wcv_lower.specs.Context.{Kind, Stack, in_types, in_components, importing};
 ghost use Rattle.wcv_lower.specs.CoreInstances.{all_served};
-ghost use Rattle.wcv_lower.specs.Declared.{Makers, read_type, declared_checks};
+ghost use Rattle.wcv_lower.specs.Declared.{Makers, inside, ended, read_type, declared_checks};
 ghost use Rattle.wcv_lower.specs.DeclaredMaps.{TypeAlike};
 ghost use Rattle.wcv_lower.specs.Entries.{extern_name, written, exported_at, exported, export_checks};
 ghost use Rattle.wcv_lower.specs.Even.{IsEven, IsBalanced, IsRegular};
@@ -41,8 +42,9 @@ ghost use Rattle.wcv_lower.specs.Given.{AtMost, GivenNames, GivesAt, Numbers, na
 ghost use Rattle.wcv_lower.specs.Growth.{grow, checks};
 ghost use Rattle.wcv_lower.specs.Instances.{component_at, arguments, instance_checks};
 ghost use Rattle.wcv_lower.specs.Instantiated.{opened_resource, opening, instantiated, instantiated_resources};
+ghost use Rattle.wcv_lower.specs.Items.{read_item, item_causes, EndsFree};
 ghost use Rattle.wcv_lower.specs.Mapped.{IsKnown, MakesSame, map_stack, map_step};
-ghost use Rattle.wcv_lower.specs.Names.{Names, names_by_place, Under, AreRenamed};
+ghost use Rattle.wcv_lower.specs.Names.{Names, names_by_place, Under, AreRenamed, SameNames};
 ghost use Rattle.wcv_lower.specs.Owned.{AllEntries, AllOwn, AreRegular, Everywhere, InstanceApart, ItemRegular, IsCalm, IsOnce, OwnsOnce, IsMadeAt};
 ghost use Rattle.wcv_lower.specs.Readers.{Brought, Maker, core_instance_node, core_exports_node, module_node};
 ghost use Rattle.wcv_lower.specs.Renamed.{Renaming, renaming};
@@ -51,6 +53,7 @@ ghost use Rattle.wcv_lower.specs.Step.{Step};
 ghost use Rattle.wcv_lower.specs.Trees.{Tree_stack, tree_reader, tree_maker, node_tree, type_entry};
 ghost use Rattle.wcv_lower.specs.Uses.{uses};
 ghost use Rattle.wcv_lower.specs.WorkedInstance.{made, third, worked_arguments, worked_component, worked_instance};
+ghost use Rattle.wcv_lower.specs.WorkedNested.{nested_root, nested_inside, made_func, made_component};
 ghost use Rattle.wcv_lower.specs.Worked.{imported_twice, own, made_type, made_instance};
 
 /// With renamed names, a renamed stack grows to the renamed one, and an item has the same causes. Where it
@@ -141,6 +144,29 @@ pub fn renaming_keeps_declared_types()
     ensures free { (n : Names) (p : Place) (fs : WasmFeatures) (limited : Bool) (s : Tree_stack) (t : Type_form) → is_built_type t ≡ true → IsFree (declared_checks limited fs (tree_maker n) p s t) → (u : Tree_stack) × (read_type fs (tree_maker n) p s t ≡ Some u) }
 {}
 
+/// With renamed names, an item in a renamed stack, also a component, is read to the renamed one, and has the same causes. Where it has
+/// none, and where the items of a component lead to an end that has none, it is read.
+pub fn renaming_keeps_items()
+    ensures growth { (w : Renaming) (n m : Names) (p : Place) → AreRenamed (Under p) w.resources.to w.identities.to n m → (fs : WasmFeatures) (s : Tree_stack) (f : Form) →
+        read_item fs (tree_maker m) p (map_stack (renaming w) s) f ≡ option_map (map_stack (renaming w)) (read_item fs (tree_maker n) p s f) }
+    ensures causes { (w : Renaming) (n m : Names) (p : Place) → AreRenamed (Under p) w.resources.to w.identities.to n m → (fs : WasmFeatures) (s : Tree_stack) (f : Form) →
+        item_causes fs (tree_maker m) p (map_stack (renaming w) s) f ≡ item_causes fs (tree_maker n) p s f }
+    ensures free { (n : Names) (p : Place) (fs : WasmFeatures) (s : Tree_stack) (f : Form) → IsFree (item_causes fs (tree_maker n) p s f) → EndsFree fs (tree_maker n) p s f → (t : Tree_stack) × (read_item fs (tree_maker n) p s f ≡ Some t) }
+{}
+
+/// An item, also a component, looks at the names of its own place and of the places inside it alone: by names that are the same there
+/// it is read to the same stack, and has the same causes.
+pub fn items_look_at_names_of_their_places_alone()
+    ensures growth { (n m : Names) (p : Place) → SameNames (Under p) n m → (fs : WasmFeatures) (s : Tree_stack) (f : Form) → read_item fs (tree_maker m) p s f ≡ read_item fs (tree_maker n) p s f }
+    ensures causes { (n m : Names) (p : Place) → SameNames (Under p) n m → (fs : WasmFeatures) (s : Tree_stack) (f : Form) → item_causes fs (tree_maker m) p s f ≡ item_causes fs (tree_maker n) p s f }
+{}
+
+/// A context that opens keeps a stack calm, and so does the end of a component, or of a declared type.
+pub fn a_component_keeps_a_stack_calm()
+    ensures opened { (a : Numbers) (k : Kind) (s : Tree_stack) → IsCalm a s → IsCalm a (inside k s) }
+    ensures closed { (a : Numbers) (k : Kind) (n : Names) (p : Place) (s t : Tree_stack) → IsCalm a s → ended k (tree_maker n p) s ≡ Some t → IsCalm a t }
+{}
+
 /// A declared type over ids of an arena is read to what it is read to over the trees that they stand for, and
 /// has the same causes, where at each declaration the makers make the same of what it uses.
 pub fn declared_types_of_ids_are_those_of_trees()
@@ -166,6 +192,16 @@ pub fn two_imports_of_a_type_have_two_resources()
     ensures types { (fs : WasmFeatures) (r f a b : ComponentExternName) (x : Text) → option_map (λ (s : Tree_stack). s.top.space in_types) (imported_twice fs r f x a b) ≡ Some (type_entry (made_type r f x) ∷ []) }
     ensures imports { (fs : WasmFeatures) (r f a b : ComponentExternName) (x : Text) → option_map (λ (s : Tree_stack). s.top.side importing) (imported_twice fs r f x a b) ≡ Some ((extern_name a, made_instance r f x 1) ∷ (extern_name b, made_instance r f x 2) ∷ []) }
     ensures imported { (fs : WasmFeatures) (r f a b : ComponentExternName) (x : Text) → option_map (λ (s : Tree_stack). s.top.imported) (imported_twice fs r f x a b) ≡ Some ((at (1 ∷ []) own, 0 ∷ 0 ∷ []) ∷ (at (2 ∷ []) own, 1 ∷ 0 ∷ []) ∷ []) }
+{}
+
+/// A worked root: a function type, and a component that aliases the type from the root and imports a function of it. Behind both the
+/// root has that type and that component, which imports the function by its name. What the alias brings over the boundary was charged
+/// to the component's context, and nothing to the root's.
+pub fn a_component_imports_by_a_type_of_its_root()
+    ensures types { (fs : WasmFeatures) (f : ComponentExternName) → option_map (λ (s : Tree_stack). s.top.space in_types) (nested_root fs f) ≡ Some (type_entry made_func ∷ []) }
+    ensures components { (fs : WasmFeatures) (f : ComponentExternName) → option_map (λ (s : Tree_stack). s.top.space in_components) (nested_root fs f) ≡ Some (made_component f ∷ []) }
+    ensures charged { (fs : WasmFeatures) (f : ComponentExternName) → option_map (λ (s : Tree_stack). map (λ c. c.aliased) (s.top ∷ s.outer)) (nested_inside fs f) ≡ Some (size (type_entry made_func) ∷ 0 ∷ []) }
+    ensures spared { (fs : WasmFeatures) (f : ComponentExternName) → option_map (λ (s : Tree_stack). s.top.aliased) (nested_root fs f) ≡ Some 0 }
 {}
 
 /// A worked component and its instance: the imported resource becomes that of the argument, and the reference that stands for the
