@@ -78,7 +78,7 @@ module _ (a : Arena) (c : Tree_context) (x : Defined_form) (s : ComponentDefined
   node_same : node_tree (number (length a.nodes)) shape_node ≡ tree_of (trees a.nodes) (n.Defined s)
   node_same = shape_tree (number (length a.nodes)) ∙ ap (λ (k : ℕ). node (defined (number k) (former_of s)) (slot_parts (trees a.nodes) (defined_slots s))) (sym (length-trees a.nodes))
 
-  pub defined_added : (b : Arena) (st st' : Contents) → c ≡ context_of a st → Stored a b st st' (n.Defined s) → Added a b st st' (defined_type x)
+  pub defined_added : (b : Arena) (st st' : Contents) → c ≡ context_of a st → Stored in_types a b st st' (n.Defined s) → Added a b st st' (defined_type x)
   defined_added b st st' e w = record {
     node = shape_node;
     made = ap (λ (d : Tree_context). defined_made d x) (sym e) ∙ shape_made;
@@ -129,7 +129,7 @@ module _ (a : Arena) (c : Tree_context) (f : Func_form) (s : ComponentFuncType) 
   func_same : node_tree (number (length a.nodes)) func_shape ≡ tree_of (trees a.nodes) (n.Func s)
   func_same = func_shape_tree (number (length a.nodes)) ∙ ap (λ (k : ℕ). node (func (number k) s.async_) (slot_parts (trees a.nodes) gives_slots)) (sym (length-trees a.nodes))
 
-  pub func_added : (b : Arena) (st st' : Contents) → c ≡ context_of a st → Stored a b st st' (n.Func s) → Added a b st st' (func_type f)
+  pub func_added : (b : Arena) (st st' : Contents) → c ≡ context_of a st → Stored in_types a b st st' (n.Func s) → Added a b st st' (func_type f)
   func_added b st st' e w = record {
     node = func_shape;
     made = ap (λ (d : Tree_context). func_made d f) (sym e) ∙ func_shape_made;

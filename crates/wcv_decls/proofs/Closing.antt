@@ -1,4 +1,4 @@
--- The end of a declared type: its node joins the types of the state around it.
+-- The end of a declared type or a component: its node joins a space of the state around it.
 use Rattle.std.proofs.Common.{◌≡◌, ℕ, ◌≤◌, ◌<◌, ◌-◌, List, [], ◌∷◌, ◌++◌, length, map, refl, sym, ◌∙◌, ap, subst, arith, Some, None, All, slice_set}
 use Rattle.std.specs.Prelude.{Option, reverse}
 use Rattle.std.specs.Option.{option_map, option_and_then}
@@ -23,26 +23,26 @@ use Rattle.wcv_types.proofs.EntryParts.{both_parts, component_imports, component
 use Rattle.wcv_types.proofs.Grown.{length-trees}
 use Rattle.wcv_types.proofs.Knowing.{parts_in-append}
 use Rattle.wcv_lower.specs.Checks.{IsFree}
-use Rattle.wcv_lower.specs.Context.{Kind, in_types, push}
+use Rattle.wcv_lower.specs.Context.{Kind, concrete, declares_instance, declares_component, Space, in_types, in_components, push}
 use Rattle.wcv_lower.specs.Declared as rules
-use Rattle.wcv_lower.specs.Declared.{ended}
+use Rattle.wcv_lower.specs.Declared.{closed_as, ended}
 use Rattle.wcv_lower.specs.Ending.{type_at_end, component_made, declared_made, declared_end_checks}
 use Rattle.wcv_lower.specs.Given.{GivenNames, names_of}
+use Rattle.wcv_lower.specs.Names.{Names, introduced}
 use Rattle.wcv_lower.specs.Owned.{IsCalm}
 use Rattle.wcv_lower.specs.Readers.{New_node}
-use Rattle.wcv_lower.specs.Step.{apply}
-use Rattle.wcv_lower.specs.Trees.{type_entry, Tree_context, Tree_stack, tree_reader, tree_maker, node_tree}
-use Rattle.wcv_lower.specs.Types.{added}
+use Rattle.wcv_lower.specs.Step.{Step, apply}
+use Rattle.wcv_lower.specs.Trees.{Tree_context, Tree_stack, tree_reader, tree_maker, node_tree}
 use Rattle.wcv_lower.proofs.Calm.{calm_later}
 use Rattle.wcv_lower.proofs.CalmEnds.{calm_ended}
 use Rattle.wcv_state.specs.Contents.{Contents, context_of, stack_of}
 use Rattle.wcv_state.specs.Promises.{numbers_of, Finished}
 use Rattle.wcv_decls.specs.Declaring.{innermost, around, stack_in, top_in, AreReady, Ends}
-use Rattle.wcv_decls.specs.Items.{Stored}
+use Rattle.wcv_decls.specs.Items.{entry_in, Stored}
 use Rattle.wcv_decls.specs.Stack.{IsOpen, stay, ChangesLast, contexts_around}
 use Rattle.wcv_decls.proofs.InnermostStates.{stack_after, stays, last_changed, body_stays}
 use Rattle.wcv_decls.proofs.Looking.{refs_of}
-use Rattle.wcv_decls.proofs.Naming.{node_names, node_given_there, node_reached}
+use Rattle.wcv_decls.proofs.Naming.{node_names, node_given_there, joins_under, node_reached}
 use Rattle.wcv_decls.proofs.Plain.{SameSides, same_body}
 use Rattle.wcv_decls.proofs.ReadingOn.{grown_numbers}
 
@@ -116,7 +116,18 @@ module _ (a : Arena) (s : Contents) (ty : ComponentType) (f : Finished a s ty) w
 pub nearest : (a : Arena) (outer : List Contents) (s : Contents) → contexts_around a (outer ++ s ∷ []) ≡ context_of a s ∷ contexts_around a outer
 nearest a outer s = ap reverse (map-append (context_of a) outer (s ∷ [])) ∙ reverse-append (map (context_of a) outer) (context_of a s ∷ [])
 
-module _ (k : Kind) (a b : Arena) (ss : List Contents) (h : AreReady a ss) (some : 0 < length (around ss)) (each : All (IsOpen a) (around ss)) (x : Node) (s s' : Contents) (i : s ≡ innermost (around ss)) (w : Stored a b s s' x)
+-- the space that it joins
+abbrev pub closed_space : Kind → Space
+closed_space concrete = in_components
+closed_space declares_instance = in_types
+closed_space declares_component = in_types
+
+closed_as-joins : (k : Kind) (names : Names) (p : Place) (n : New_node tree_reader) → closed_as k (tree_maker names p) n ≡ joins_under (closed_space k) (names.identity (introduced p)) n
+closed_as-joins concrete names p n = refl
+closed_as-joins declares_instance names p n = refl
+closed_as-joins declares_component names p n = refl
+
+module _ (k : Kind) (a b : Arena) (ss : List Contents) (h : AreReady a ss) (some : 0 < length (around ss)) (each : All (IsOpen a) (around ss)) (x : Node) (s s' : Contents) (i : s ≡ innermost (around ss)) (w : Stored (closed_space k) a b s s' x)
     (node : New_node tree_reader) (made : declared_made k (top_in a ss) ≡ Some node) (same : tree_of (trees a.nodes) x ≡ node_tree (number (length a.nodes)) node) (free : IsFree (declared_end_checks k (top_in a ss)))
     (last : ℕ) (e : last ≡ length (around ss) - 1) where
   abbrev pub after : List Contents
@@ -131,8 +142,8 @@ module _ (k : Kind) (a b : Arena) (ss : List Contents) (h : AreReady a ss) (some
   abbrev names_at : Place → GivenNames
   names_at p = node_names a b p w.nodes
 
-  grown : context_of b s' ≡ push in_types (type_entry (node_tree (number (length a.nodes)) node)) (context_of a s)
-  grown = w.grown ∙ ap (λ (t : Type_tree). push in_types (type_entry t) (context_of a s)) same
+  grown : context_of b s' ≡ push (closed_space k) (entry_in (closed_space k) (node_tree (number (length a.nodes)) node)) (context_of a s)
+  grown = w.grown ∙ ap (λ (t : Type_tree). push (closed_space k) (entry_in (closed_space k) t) (context_of a s)) same
 
   stack_around : rules.around (stack_in a ss) ≡ Some (stack_of a s cs)
   stack_around = ap (λ (os : List Tree_context). rules.stack_of os a.core) (ap (contexts_around a) change.was ∙ nearest a (around (around ss)) s)
@@ -140,8 +151,9 @@ module _ (k : Kind) (a b : Arena) (ss : List Contents) (h : AreReady a ss) (some
   ended_at : (p : Place) → ended k (tree_maker (names_of (names_at p)) p) (stack_in a ss) ≡ Some (stack_of b s' cs)
   ended_at p =
       let mk = tree_maker (names_of (names_at p)) p in
-      ap (option_and_then (λ (t : Tree_stack). option_map (λ (m : New_node tree_reader). apply (added mk m) t) (declared_made k (top_in a ss)))) stack_around ∙
-      ap (option_map (λ (m : New_node tree_reader). apply (added mk m) (stack_of a s cs))) made ∙ ap Some (node_reached a b s s' node w.nodes w.core grown cs p)
+      ap (option_and_then (λ (t : Tree_stack). option_map (λ (m : New_node tree_reader). apply (closed_as k mk m) t) (declared_made k (top_in a ss)))) stack_around ∙
+      ap (option_map (λ (m : New_node tree_reader). apply (closed_as k mk m) (stack_of a s cs))) made ∙
+      ap (λ (q : Step tree_reader). Some (apply q (stack_of a s cs))) (closed_as-joins k (names_of (names_at p)) p node) ∙ ap Some (node_reached (closed_space k) a b s s' node w.nodes w.core grown cs p)
 
   calm_after : IsCalm (numbers_of b) (stack_of b s' cs)
   calm_after =

@@ -1,4 +1,4 @@
--- The names that a type item gives.
+-- The names that a type item gives, and the end of a declared type or a component.
 use Rattle.std.proofs.Common.{◌≡◌, suc, List, [], ◌∷◌, length, refl, sym, ◌∙◌, ap, arith, Bool, cond, Some, None}
 use Rattle.std.specs.Prelude.{Option}
 use Rattle.std.specs.Option.{option_map}
@@ -6,18 +6,18 @@ use Rattle.wcv_core.specs.Names.{Name, Place, number}
 use Rattle.wcv_core.proofs.Places.{under-refl}
 use Rattle.wcv_syntax.specs.Model.{Type_form, defined_type, func_type, component_type, instance_type, resource_type, type_item}
 use Rattle.wcv_types.specs.Arena.{Arena}
-use Rattle.wcv_lower.specs.Context.{in_types, push}
-use Rattle.wcv_lower.specs.Given.{GivenNames, names_of, none_given, named, or_by_place, GivesAt}
+use Rattle.wcv_lower.specs.Context.{Space, in_types, push}
+use Rattle.wcv_lower.specs.Given.{GivenNames, names_of, named, or_by_place, GivesAt}
 use Rattle.wcv_lower.specs.Growth.{grow}
 use Rattle.wcv_lower.specs.Names.{introduced, Under}
 use Rattle.wcv_lower.specs.Readers.{New_node, Maker}
-use Rattle.wcv_lower.specs.Step.{Step, apply}
-use Rattle.wcv_lower.specs.Trees.{type_entry, Tree_context, Tree_stack, tree_reader, tree_maker, node_tree}
+use Rattle.wcv_lower.specs.Step.{appends, Step, apply}
+use Rattle.wcv_lower.specs.Trees.{Tree_context, Tree_stack, tree_reader, tree_maker, node_tree}
 use Rattle.wcv_lower.specs.Types.{type_made, added}
 use Rattle.wcv_lower.proofs.Given.{same_origin-refl}
 use Rattle.wcv_state.specs.Contents.{Contents, context_of, stack_of}
 use Rattle.wcv_state.specs.Promises.{numbers_of}
-use Rattle.wcv_decls.specs.Items.{Added, Declares}
+use Rattle.wcv_decls.specs.Items.{entry_in, Added, Declares}
 
 -- the identity of the node, at a place
 module _ (a b : Arena) (p : Place) (k : length b.nodes ≡ suc (length a.nodes)) where
@@ -33,12 +33,16 @@ module _ (a b : Arena) (p : Place) (k : length b.nodes ≡ suc (length a.nodes))
   pub node_name : named node_names.identities (introduced p) ≡ number (length a.nodes)
   node_name = ap (λ (x : Bool). or_by_place (introduced p) (cond x (Some (number (length a.nodes))) None)) (same_origin-refl (introduced p))
 
--- the state once the node joined the types
-pub node_reached : (a b : Arena) (s s' : Contents) (n : New_node tree_reader) (k : length b.nodes ≡ suc (length a.nodes)) → b.core ≡ a.core → context_of b s' ≡ push in_types (type_entry (node_tree (number (length a.nodes)) n)) (context_of a s) →
-    (outer : List Tree_context) (p : Place) → apply (added (tree_maker (names_of (node_names a b p k)) p) n) (stack_of a s outer) ≡ stack_of b s' outer
-node_reached a b s s' n k core grown outer p =
-    let e : push in_types (type_entry (node_tree (named (node_names a b p k).identities (introduced p)) n)) (context_of a s) ≡ context_of b s' =
-    ap (λ (i : Name). push in_types (type_entry (node_tree i n)) (context_of a s)) (node_name a b p k) ∙ sym grown in
+-- a node joins a space under a name
+abbrev pub joins_under : Space → Name → New_node tree_reader → Step tree_reader
+joins_under k i n = appends k (entry_in k (node_tree i n)) ∷ []
+
+-- the state once the node joined a space
+pub node_reached : (k : Space) (a b : Arena) (s s' : Contents) (n : New_node tree_reader) (m : length b.nodes ≡ suc (length a.nodes)) → b.core ≡ a.core → context_of b s' ≡ push k (entry_in k (node_tree (number (length a.nodes)) n)) (context_of a s) →
+    (outer : List Tree_context) (p : Place) → apply (joins_under k (named (node_names a b p m).identities (introduced p)) n) (stack_of a s outer) ≡ stack_of b s' outer
+node_reached k a b s s' n m core grown outer p =
+    let e : push k (entry_in k (node_tree (named (node_names a b p m).identities (introduced p)) n)) (context_of a s) ≡ context_of b s' =
+    ap (λ (i : Name). push k (entry_in k (node_tree i n)) (context_of a s)) (node_name a b p m) ∙ sym grown in
     λ j. record { top = e j; outer = outer; groups = sym core j }
 
 -- the node of a type item joined the types
@@ -50,7 +54,7 @@ module _ (a b : Arena) (s s' : Contents) (t : Type_form) (w : Added a b s s' t) 
   maker_at p = tree_maker (names_of (given_at p)) p
 
   reached : (outer : List Tree_context) (p : Place) → apply (added (maker_at p) w.node) (stack_of a s outer) ≡ stack_of b s' outer
-  reached outer p = node_reached a b s s' w.node w.nodes w.core w.grown outer p
+  reached outer p = node_reached in_types a b s s' w.node w.nodes w.core w.grown outer p
 
   grows : (u : Type_form) → type_made (context_of a s) u ≡ Some w.node → (outer : List Tree_context) (p : Place) → grow s.features (maker_at p) (stack_of a s outer) (type_item u) ≡ Some (stack_of b s' outer)
   grows u e outer p = go u e

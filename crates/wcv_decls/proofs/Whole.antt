@@ -54,6 +54,17 @@ innermost_uncharged [] = refl
 innermost_uncharged (s ∷ []) = refl
 innermost_uncharged (s ∷ t ∷ ss) = innermost_uncharged (t ∷ ss)
 
+-- states that are the same but for these sizes
+module _ (ss ts : List Contents) (e : all_uncharged ts ≡ all_uncharged ss) where
+  pub same_around : all_uncharged (around ts) ≡ all_uncharged (around ss)
+  same_around = sym (around_uncharged ts) ∙ ap around e ∙ around_uncharged ss
+
+  pub same_innermost : uncharged (innermost ts) ≡ uncharged (innermost ss)
+  same_innermost = sym (innermost_uncharged ts) ∙ ap innermost e ∙ innermost_uncharged ss
+
+  pub some_too : 0 < length ss → 0 < length ts
+  some_too h = subst (λ (n : ℕ). 0 < n) (sym (length-map ss uncharged) ∙ sym (ap length e) ∙ length-map ts uncharged) h
+
 -- the sides of a context do not tell these
 uncharged_sides : (a : Arena) (s : Contents) → SameSides (context_of a s) (context_of a (uncharged s))
 uncharged_sides a s = record { kind = refl; side = λ j. refl; defined = refl }
@@ -122,10 +133,10 @@ module _ (k : Kind) (a : Arena) (ss ts : List Contents) (h : AreReady a ss) (w :
 
       -- and those around them
       same_further : all_uncharged (around (around us)) ≡ all_uncharged (around ss)
-      same_further = sym (around_uncharged (around us)) ∙ ap around same_states ∙ around_uncharged ss
+      same_further = same_around ss (around us) same_states
 
       pub some_around : 0 < length (around us)
-      some_around = subst (λ (n : ℕ). 0 < n) (sym (length-map ss uncharged) ∙ sym (ap length same_states) ∙ length-map (around us) uncharged) h.some
+      some_around = some_too ss (around us) same_states h.some
 
       -- a refusal at its end leaves them so
       pub marks_further : (vs : List Contents) → SameAround (around us) vs → SameAround ss vs
@@ -135,7 +146,7 @@ module _ (k : Kind) (a : Arena) (ss ts : List Contents) (h : AreReady a ss) (w :
       pub body_around : DeclaresInstance a ss → DeclaresInstance m (around us)
       body_around i =
           let c : context_of m (innermost ss) ≡ context_of a (innermost ss) = same_context a m (extends_on a m ss (around us) h.some kept_around) (innermost ss) (open_here a ss h.some h.each).stands in
-          let n : uncharged (innermost ss) ≡ uncharged (innermost (around us)) = sym (innermost_uncharged ss) ∙ ap innermost (sym same_states) ∙ innermost_uncharged (around us) in
+          let n : uncharged (innermost ss) ≡ uncharged (innermost (around us)) = sym (same_innermost ss (around us) same_states) in
           let here : IsInstanceBody (context_of m (uncharged (innermost ss))) = same_body (context_of m (innermost ss)) (context_of m (uncharged (innermost ss))) (uncharged_sides m (innermost ss)) (subst (λ (x : Tree_context). IsInstanceBody x) (sym c) i) in
           same_body (context_of m (uncharged (innermost (around us)))) (context_of m (innermost (around us))) (charged_sides m (innermost (around us))) (subst (λ (s : Contents). IsInstanceBody (context_of m s)) n here)
 

@@ -1,5 +1,6 @@
--- Types that are read over the states that are open, declaration by declaration.
-use Rattle.std.specs.Prelude.{ℕ, List, [], Bool, All, length, ◌≡◌, ◌<◌, ◌⊎◌, Some}
+-- Types that are read over the states that are open, declaration by declaration, and how a component comes and leaves.
+use Rattle.std.specs.Prelude.{ℕ, List, [], ◌++◌, Bool, All, length, ◌≡◌, ◌<◌, ◌⊎◌, Some}
+use Rattle.wcv_core.specs.Limits.{max_list}
 use Rattle.wcv_core.specs.Names.{Place}
 use Rattle.wcv_core.specs.Refusal.{error_kind, error_offset}
 use Rattle.wcv_core.specs.declared.error.Error.{Error}
@@ -8,19 +9,23 @@ use Rattle.wcv_core.specs.declared.error.ErrorKind.TheVariants as kind
 use Rattle.wcv_core.specs.declared.features.WasmFeatures.{WasmFeatures}
 use Rattle.wcv_syntax.specs.Model.{Type_form, Decl, Decls}
 use Rattle.wcv_types.specs.Arena.{Arena}
-use Rattle.wcv_lower.specs.Checks.{Cause, IsFree}
-use Rattle.wcv_lower.specs.Context.{Kind, declares_instance, importing, empty}
-use Rattle.wcv_lower.specs.Declared.{ended, decl_checks}
+use Rattle.wcv_types.specs.Tree.{is_component}
+use Rattle.wcv_types.specs.declared.component_type.ComponentType.{ComponentType}
+use Rattle.wcv_types.specs.declared.ids.ComponentTypeId.{ComponentTypeId}
+use Rattle.wcv_lower.specs.Checks.{Checks, Cause, IsFree, no_room, too_many}
+use Rattle.wcv_lower.specs.Context.{Kind, declares_instance, importing, Stack, empty, counts}
+use Rattle.wcv_lower.specs.Declared.{full_stack, ended, decl_checks}
 use Rattle.wcv_lower.specs.DeclaredCalls.{TypeRead, TypeRefused, DeclRead, DeclsRead, DeclsRefused}
 use Rattle.wcv_lower.specs.Ending.{declared_end_checks}
 use Rattle.wcv_lower.specs.Given.{GivenNames, names_of, GivesAt}
 use Rattle.wcv_lower.specs.Names.{Under}
 use Rattle.wcv_lower.specs.Owned.{IsCalm, IsLed}
+use Rattle.wcv_lower.specs.Readers.{Reader}
 use Rattle.wcv_lower.specs.Trees.{Tree_context, Tree_stack, tree_reader, tree_maker}
 use Rattle.wcv_state.specs.Contents.{Contents}
-use Rattle.wcv_state.specs.Promises.{numbers_of}
+use Rattle.wcv_state.specs.Promises.{numbers_of, Finished}
 pub use Rattle.wcv_state.specs.Stack.{innermost, around}
-use Rattle.wcv_decls.specs.Items.{declare_checks}
+use Rattle.wcv_decls.specs.Items.{declare_checks, HoldsComponent}
 use Rattle.wcv_decls.specs.Stack.{IsOpen, stack_on, all_spent, all_uncharged}
 
 -- ## The states
@@ -64,6 +69,10 @@ pub record Opened (k : Kind) (a : Arena) (ss ss' : List Contents) : Type 0 where
   pub around : around ss' ≡ ss
   pub empty : top_in a ss' ≡ empty tree_reader k
   pub features : features_in ss' ≡ features_in ss
+
+-- a component of n items may not be opened: no room for one more context on the stack or for one more component, or too many items
+abbrev pub component_room : {X : Reader} → Stack X → ℕ → Checks
+component_room s n = full_stack s ++ (no_room (counts s.top) is_component ++ too_many max_list n)
 
 -- ## What is read
 
@@ -112,3 +121,9 @@ pub record Ends (k : Kind) (a b : Arena) (ss ss' : List Contents) : Type 0 where
   -- those around that stay
   pub ready : StayReady b (around ss) ss'
   pub declares : DeclaresInstance a (around ss) → DeclaresInstance b ss'
+
+-- the type of what the state read is the arena's node of that id
+pub record TypeKept (a b : Arena) (s : Contents) (id : ComponentTypeId) : Type 0 where
+  pub ty : ComponentType
+  pub finished : Finished a s ty
+  pub held : HoldsComponent b ty id

@@ -1,15 +1,18 @@
--- What a type item does to a state.
-use Rattle.std.specs.Prelude.{ℕ, suc, List, Bool, false, Some, length, ◌≡◌}
+-- What a type item does to a state, and the type of a component at its end.
+use Rattle.std.specs.Prelude.{ℕ, suc, List, Bool, false, Some, length, slice_get, ◌≡◌}
 use Rattle.wcv_core.specs.Names.{Place, number}
 use Rattle.wcv_core.specs.declared.error.Error.{Error}
 use Rattle.wcv_core.specs.declared.features.WasmFeatures.{WasmFeatures}
 use Rattle.wcv_syntax.specs.Built.{is_built_type}
 use Rattle.wcv_syntax.specs.Model.{Type_form, type_item}
 use Rattle.wcv_types.specs.Arena.{Arena}
-use Rattle.wcv_types.specs.Unfold.{tree_of, trees}
+use Rattle.wcv_types.specs.Unfold.{Type_tree, tree_of, trees}
 use Rattle.wcv_types.specs.declared.arena.Node.{Node}
+use Rattle.wcv_types.specs.declared.arena.Node.TheVariants as n
+use Rattle.wcv_types.specs.declared.component_type.ComponentType.{ComponentType}
+use Rattle.wcv_types.specs.declared.ids.ComponentTypeId.{ComponentTypeId}
 use Rattle.wcv_lower.specs.Checks.{Checks, IsFree}
-use Rattle.wcv_lower.specs.Context.{Stack, in_types, push}
+use Rattle.wcv_lower.specs.Context.{Space, in_types, Stack, push}
 use Rattle.wcv_lower.specs.Declared.{Makers, read_type, declared_checks}
 use Rattle.wcv_lower.specs.Given.{GivenNames, names_of, GivesAt}
 use Rattle.wcv_lower.specs.Growth.{grow}
@@ -24,13 +27,22 @@ use Rattle.wcv_state.specs.Promises.{MemoryOrCausedBy, numbers_of, Keeps, if_bui
 abbrev pub declare_checks : {X : Reader} → Bool → WasmFeatures → Makers X → Place → Stack X → Type_form → Checks
 declare_checks limited fs mk p s t = if_built (is_built_type t) (declared_checks limited fs mk p s t)
 
--- the node is the arena's next one, and joined the types
-pub record Stored (a b : Arena) (s s' : Contents) (x : Node) : Type 0 where
-  pub grown : context_of b s' ≡ push in_types (type_entry (tree_of (trees a.nodes) x)) (context_of a s)
+-- a type as an entry of a space: among types it stands for what it creates and for what it refers to
+abbrev pub entry_in : Space → Type_tree → Type_tree
+entry_in in_types t = type_entry t
+entry_in k t = t
+
+-- the node is the arena's next one, and joined the space
+pub record Stored (k : Space) (a b : Arena) (s s' : Contents) (x : Node) : Type 0 where
+  pub grown : context_of b s' ≡ push k (entry_in k (tree_of (trees a.nodes) x)) (context_of a s)
   pub nodes : length b.nodes ≡ suc (length a.nodes)
   pub core : b.core ≡ a.core
   pub live : s'.spent ≡ false
   pub keeps : Keeps a b s s'
+
+-- the component type is the node of that id
+abbrev pub HoldsComponent : Arena → ComponentType → ComponentTypeId → Type 0
+HoldsComponent a ty id = slice_get a.nodes id.index ≡ Some (n.Component ty)
 
 -- so of the node of a type item
 pub record Added (a b : Arena) (s s' : Contents) (t : Type_form) : Type 0 where

@@ -1,5 +1,5 @@
 // The ends of declared types: the state leaves, and its type joins the types of the state around it.
-ghost use Rattle.std.specs.Prelude.{◌≡◌, ◌<◌, ◌≤◌, false, map, length, All, OnOk, OnErr, IfOk, IfErr};
+ghost use Rattle.std.specs.Prelude.{◌≡◌, ◌<◌, ◌≤◌, false, length, All, OnOk, OnErr, IfOk, IfErr};
 ghost use Rattle.wcv_core.specs.Refusal.{error_kind};
 ghost use Rattle.wcv_core.specs.declared.error.ErrorKind.TheVariants as kinds;
 ghost use Rattle.wcv_types.specs.ByName.{NamesDiffer};
@@ -11,7 +11,7 @@ ghost use Rattle.wcv_types.specs.Standing.{Fits};
 ghost use Rattle.wcv_types.specs.Tree.{firsts};
 ghost use Rattle.wcv_types.specs.Unfold.{trees};
 ghost use Rattle.wcv_types.specs.declared.arena.Node.TheVariants as node;
-ghost use Rattle.wcv_lower.specs.Context.{declares_instance, declares_component};
+ghost use Rattle.wcv_lower.specs.Context.{in_types, declares_instance, declares_component};
 ghost use Rattle.wcv_lower.specs.Ending.{end_checks};
 ghost use Rattle.wcv_state.specs.Contents.{context_of, StateStands};
 ghost use Rattle.wcv_state.specs.Promises.{MemoryOrCausedBy, Keeps, Finished};
@@ -45,7 +45,7 @@ fn type_at_end(
 }
 
 /// The type of what the innermost state read, which leaves.
-fn pop_type(
+pub fn pop_type(
     components: &mut Vec<ComponentState>,
     types: &TypeAlloc,
     offset: u64,
@@ -81,7 +81,7 @@ fn store_component(
     requires live { state.old.spent ≡ false }
     requires stands { StateStands types.old state.old }
     requires fits { Fits types.old (node.Component ty) }
-    ensures ok { OnOk result (Stored types.old types.new state.old state.new (node.Component ty)) }
+    ensures ok { OnOk result (Stored in_types types.old types.new state.old state.new (node.Component ty)) }
     ensures keeps { OnErr result (Keeps types.old types.new state.old state.new) }
 {
     let id: ComponentTypeId = types.push_ty(ty)?;
@@ -98,7 +98,7 @@ fn store_instance(
     requires live { state.old.spent ≡ false }
     requires stands { StateStands types.old state.old }
     requires fits { Fits types.old (node.Instance ty) }
-    ensures ok { OnOk result (Stored types.old types.new state.old state.new (node.Instance ty)) }
+    ensures ok { OnOk result (Stored in_types types.old types.new state.old state.new (node.Instance ty)) }
     ensures keeps { OnErr result (Keeps types.old types.new state.old state.new) }
 {
     let id: ComponentInstanceTypeId = types.push_ty(ty)?;
@@ -135,7 +135,7 @@ fn instance_of(ty: ComponentType, types: &TypeAlloc) -> Result<ComponentInstance
 }
 
 /// What the types of the two numbers say.
-fn look_at(info: &TypeInfo)
+pub fn look_at(info: &TypeInfo)
     ensures size { info.now.size ≤ 4294967295 }
     ensures depth { info.now.depth ≤ 4294967295 }
 {

@@ -5,6 +5,7 @@ mod add;
 mod alike;
 mod canon_limits;
 mod close;
+mod component;
 mod content;
 mod core_limits;
 mod core_module;
@@ -33,6 +34,7 @@ mod store;
 mod values;
 
 pub use canon_limits::check_canon_limits;
+pub use component::{end_component, open_component};
 pub use core_limits::{
     check_alias_limits, check_core_limits, check_core_module_limits, check_instance_limits,
 };

@@ -1,4 +1,5 @@
-// States of declared types, which stand on top of the others while their declarations are read.
+// States of declared types and of components, which stand on top of the others while what is inside them is
+// read.
 ghost use Rattle.std.specs.Prelude.{◌≡◌, ◌+◌, ◌++◌, OnOk, OnErr, IfErr};
 ghost use Rattle.wcv_core.specs.Limits.{max_open};
 ghost use Rattle.wcv_lower.specs.Checks.{IsFree, no_type_room, too_many};
@@ -15,16 +16,16 @@ use wcv_core::{Error, ErrorKind, OutOfMemory, Refusal, Why};
 use wcv_state::{ComponentKind, ComponentState};
 use wcv_types::TypeAlloc;
 
-/// Whether one more may be open.
-fn check_open(count: usize, offset: u64) -> Result<(), Refusal<'static>>
+/// Whether one more may be open. What it is, is for the message.
+pub fn check_open(count: usize, word: &'static str, offset: u64) -> Result<(), Refusal<'static>>
     ensures ok { OnOk result (IsFree (too_many max_open (count + 1))) }
     ensures err { IfErr result (MemoryOrCausedBy (too_many max_open (count + 1)) offset) }
 {
     if count >= MAX_OPEN {
         let why = Why::new(
-            "no room for one more open type: there are %1 open components and types, at most %2 are allowed",
+            "no room for one more open %w: there are %1 open components and types, at most %2 are allowed",
         );
-        let why = why.numbers([count as u64, MAX_OPEN as u64, 0]);
+        let why = why.word(word).numbers([count as u64, MAX_OPEN as u64, 0]);
         return Err(Error::new(ErrorKind::Limit, offset, why));
     }
     Ok(())
@@ -42,12 +43,12 @@ fn check_declared(
     ensures room { OnOk result (IsFree (no_type_room check_limit (counts (top_in types.now components.now)))) }
     ensures err { IfErr result (MemoryOrCausedBy (full_stack (stack_in types.now components.now) ++ no_type_room check_limit (counts (top_in types.now components.now))) offset) }
 {
-    check_open(components.len(), offset)?;
+    check_open(components.len(), "type", offset)?;
     check_types(check_limit, innermost(components), types, offset)
 }
 
 /// A state that is new stands on top of the others. Out of memory these stay as they were.
-fn push_state(
+pub fn push_state(
     kind: ComponentKind,
     components: &mut Vec<ComponentState>,
     types: &TypeAlloc,

@@ -4,6 +4,7 @@ ghost use Rattle.wcv_types.specs.Standing.{Fits};
 ghost use Rattle.wcv_types.specs.Unfold.{tree_of, trees};
 ghost use Rattle.wcv_types.specs.declared.arena.Node.TheVariants as node;
 ghost use Rattle.wcv_lower.specs.Checks.{IsFree};
+ghost use Rattle.wcv_lower.specs.Context.{in_types};
 ghost use Rattle.wcv_lower.specs.Defined.{size_checks};
 ghost use Rattle.wcv_lower.specs.Trees.{tree_reader};
 ghost use Rattle.wcv_state.specs.Contents.{StateStands};
@@ -29,7 +30,7 @@ pub fn store_defined(
     requires live { state.old.spent ≡ false }
     requires stands { StateStands types.old state.old }
     requires fits { Fits types.old (node.Defined shape) }
-    ensures ok { OnOk result (Stored types.old types.new state.old state.new (node.Defined shape)) }
+    ensures ok { OnOk result (Stored in_types types.old types.new state.old state.new (node.Defined shape)) }
     ensures free { OnOk result (IsFree (size_checks tree_reader (tree_of (trees types.old.nodes) (node.Defined shape)))) }
     ensures err { IfErr result (MemoryOrCausedBy (size_checks tree_reader (tree_of (trees types.old.nodes) (node.Defined shape))) offset) }
     ensures keeps { OnErr result (Keeps types.old types.new state.old state.new) }
@@ -52,7 +53,7 @@ pub fn store_func(
     requires live { state.old.spent ≡ false }
     requires stands { StateStands types.old state.old }
     requires fits { Fits types.old (node.Func shape) }
-    ensures ok { OnOk result (Stored types.old types.new state.old state.new (node.Func shape)) }
+    ensures ok { OnOk result (Stored in_types types.old types.new state.old state.new (node.Func shape)) }
     ensures free { OnOk result (IsFree (size_checks tree_reader (tree_of (trees types.old.nodes) (node.Func shape)))) }
     ensures err { IfErr result (MemoryOrCausedBy (size_checks tree_reader (tree_of (trees types.old.nodes) (node.Func shape))) offset) }
     ensures keeps { OnErr result (Keeps types.old types.new state.old state.new) }
