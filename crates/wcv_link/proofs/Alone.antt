@@ -1,31 +1,43 @@
 -- How a root is read, whose state alone is open.
-use Rattle.std.proofs.Common.{◌≡◌, ℕ, suc, List, [], ◌∷◌, ◌++◌, refl, sym, ◌∙◌, ap, subst, arith, slice_set, slice_index_or, All}
-use Rattle.std.specs.Prelude.{Result, IfOk, OnOk, Ok, Err}
+use Rattle.std.proofs.Common.{◌≡◌, List, [], ◌∷◌, ◌++◌, length, refl, sym, ◌∙◌, ap, subst, arith, slice_set, slice_index_or, All, ◌⊎◌}
+use Rattle.std.specs.Prelude.{ℕ, Result, IfOk, OnOk, Ok, Err}
 use Rattle.std.proofs.lemmas.List.Elements.{All-nil, All-cons, All-head}
-use Rattle.wcv_core.specs.Names.{Place, deeper}
+use Rattle.wcv_core.specs.Refusal.{error_kind, error_offset}
 use Rattle.wcv_core.specs.declared.error.Error.{Error}
+use Rattle.wcv_core.specs.declared.error.ErrorKind.TheVariants as kind
 use Rattle.wcv_core.specs.declared.features.WasmFeatures.{WasmFeatures}
-use Rattle.wcv_syntax.specs.Model.{Form, Items, no_items, next_item}
+use Rattle.wcv_syntax.specs.Model.{Items}
 use Rattle.wcv_types.specs.Arena.{Arena}
 use Rattle.wcv_types.specs.declared.component_type.ComponentType.{ComponentType}
 use Rattle.wcv_lower.specs.Context.{concrete}
 use Rattle.wcv_lower.specs.Ending.{end_checks}
 use Rattle.wcv_lower.specs.Owned.{IsCalm}
+use Rattle.wcv_lower.specs.Trees.{Tree_stack}
 use Rattle.wcv_lower.proofs.Calm.{calm_start}
-use Rattle.wcv_state.specs.Contents.{Contents, context_of, empty_state, finished, StateStands}
+use Rattle.wcv_state.specs.Contents.{Contents, context_of, stack_of, empty_state, finished}
 use Rattle.wcv_state.specs.Promises.{numbers_of, RefusesBy, Finished}
 use Rattle.wcv_state.specs.declared.kind.ComponentKind.TheVariants.{Component}
 use Rattle.wcv_state.proofs.Keeping.{empty_stands}
-use Rattle.wcv_decls.specs.Stack.{IsOpen, all_uncharged, contexts_around, stack_on}
-use Rattle.wcv_decls.proofs.InnermostStates.{calm_all}
+use Rattle.wcv_decls.specs.Declaring.{innermost, around, features_in, stack_in}
+use Rattle.wcv_decls.specs.Stack.{IsOpen, all_uncharged, stack_on}
+use Rattle.wcv_decls.proofs.InnermostStates.{parted, calm_all}
 use Rattle.wcv_link.specs.Accepts.{AcceptsWith}
-use Rattle.wcv_link.specs.Progress.{IsReady, GrewAt, AcceptsItem, RefusesItem, ValidSoFar, MemoryOrRefused}
-use Rattle.wcv_link.proofs.Leading.{empty_stack, read_none, read_one, refused_one, refused_end, read_all}
-use Rattle.wcv_link.proofs.Open.{same_end}
+use Rattle.wcv_link.specs.ItemCalls.{ItemsRead, ItemsRefused}
+use Rattle.wcv_link.specs.Progress.{IsReady, AcceptsItems, RefusesItems, MemoryOrRefused}
+use Rattle.wcv_link.specs.Valid.{start}
+use Rattle.wcv_link.proofs.Leading.{root_read, refused_root, refused_end, read_all}
+use Rattle.wcv_link.proofs.Reaching.{empty_stack}
 
 -- ## The beginning
 
-module _ (a : Arena) (features : WasmFeatures) (none : a.core ≡ []) where
+none_around : (ss : List Contents) → all_uncharged ss ≡ [] → ss ≡ []
+none_around [] e = refl
+none_around (s ∷ ss) e = absurd (cc)
+
+only : (s t : Contents) → s ∷ [] ≡ t ∷ [] → s ≡ t
+only s t e = cc
+
+module _ (a : Arena) (features : WasmFeatures) (none : a.core ≡ []) (ss : List Contents) (alone : ss ≡ empty_state Component features ∷ []) where
   abbrev root : Contents
   root = empty_state Component features
 
@@ -39,67 +51,58 @@ module _ (a : Arena) (features : WasmFeatures) (none : a.core ≡ []) where
     calm = calm_all a (root ∷ []) root_calm;
   }
 
-  pub begins : (ss : List Contents) (is : Items) → ss ≡ root ∷ [] → ValidSoFar a ss 0 features is is
-  begins ss is e = record { ready = subst (IsReady a) (sym e) root_ready; state = root; alone = e; valid = read_none a root features is none refl }
+  pub begins : IsReady a ss
+  begins = subst (IsReady a) (sym alone) root_ready
 
--- ## The next item
+  at_start : stack_in a ss ≡ start
+  at_start = ap (stack_in a) alone ∙ empty_stack a features none
 
-none_around : (ss : List Contents) → all_uncharged ss ≡ [] → ss ≡ []
-none_around [] e = refl
-none_around (s ∷ ss) e = absurd (cc)
+  same_features : features_in ss ≡ features
+  same_features = ap features_in alone
 
-module _ (a b : Arena) (ss : List Contents) (k : ℕ) (features : WasmFeatures) (is rest : Items) (at : ℕ) (f : Form) (h : ValidSoFar a ss k features is (next_item at f rest)) where
-  -- it was read
-  pub goes_on : (ss' : List Contents) → AcceptsItem a b ss ss' f → ValidSoFar b ss' (suc k) features is rest
-  goes_on ss' w =
-      let p : Place = deeper [] k in
-      let t = w.taken p in
-      let r = same_end [] t.outer h.state t.old (sym h.alone ∙ t.was) in
-      let none : t.outer' ≡ [] = none_around t.outer' (t.same ∙ ap all_uncharged (sym r.0)) in
-      let here : GrewAt a b [] [] h.state t.new f p =
-      subst (λ (s : Contents). GrewAt a b [] [] s t.new f p) (sym r.1)
-      (subst (λ (os : List Contents). GrewAt a b (contexts_around a os) [] t.old t.new f p) (sym r.0)
-      (subst (λ (os : List Contents). GrewAt a b (contexts_around a t.outer) (contexts_around b os) t.old t.new f p) none t.grew)) in
-      let same : t.new.features ≡ h.state.features = t.features ∙ sym (ap (λ (s : Contents). s.features) r.1) in
-      record {
-        ready = w.ready;
-        state = t.new;
-        alone = t.becomes ∙ ap (λ (os : List Contents). os ++ t.new ∷ []) none;
-        valid = read_one a b h.state t.new k features is rest at f h.valid here w.arena same;
-      }
+  module _ (b : Arena) (is : Items) where
+    -- what is said of the items by the states is said from the start
+    from_start : (P : WasmFeatures → Tree_stack → Type 0) → P (features_in ss) (stack_in a ss) → P features start
+    from_start P h = subst (λ (fs : WasmFeatures). P fs start) same_features (subst (P (features_in ss)) at_start h)
 
-  -- it was refused
-  pub stops : {M : Type 0} (end : ℕ) (x : Error M) → RefusesItem a b ss f at x → MemoryOrRefused features is end x
-  stops end x w = refused_one a b h.state k features is rest at f end x h.valid (w.refused [] h.state h.alone (deeper [] k)) w.arena
+    -- one of them was refused
+    pub stops : {M : Type 0} (end : ℕ) (x : Error M) → RefusesItems a b ss is x → MemoryOrRefused features is end x
+    stops end x w =
+        refused_root a b features is end x
+        (from_start (λ fs s. (error_kind x ≡ kind.OutOfMemory) ⊎ ItemsRefused fs [] 0 s is end (error_kind x) (error_offset x) (numbers_of a) (numbers_of b)) (w.refused [] end))
 
--- ## The end
+    -- they were read
+    module _ (ts : List Contents) (w : AcceptsItems a b ss ts is) where
+      still_alone : ts ≡ innermost ts ∷ []
+      still_alone =
+          let none_there : around ts ≡ [] = none_around (around ts) (w.goes_on.around ∙ ap (λ (xs : List Contents). all_uncharged (around xs)) alone) in
+          parted ts w.goes_on.ready.some ∙ ap (λ (os : List Contents). os ++ innermost ts ∷ []) none_there
 
-module _ (a : Arena) (ss : List Contents) (k : ℕ) (features : WasmFeatures) (is left : Items) (h : ValidSoFar a ss k features is left) where
-  pub alone_open : (s : Contents) → ss ≡ s ∷ [] → IsOpen a s
-  alone_open s e = All-head (IsOpen a) s [] (subst (All (IsOpen a)) e h.ready.usable)
+      -- the state is looked up as the first
+      module _ (s : Contents) (first : s ≡ slice_index_or ts 0 s) where
+        first_alone : ts ≡ s ∷ []
+        first_alone = still_alone ∙ ap (λ (t : Contents). t ∷ []) (sym (first ∙ ap (λ (xs : List Contents). slice_index_or xs 0 s) still_alone))
 
-  -- it is looked up as the first
-  pub first_alone : (s : Contents) → s ≡ slice_index_or ss 0 s → ss ≡ s ∷ []
-  first_alone s i = h.alone ∙ ap (λ (t : Contents). t ∷ []) (sym (i ∙ ap (λ (xs : List Contents). slice_index_or xs 0 s) h.alone))
+        pub alone_open : IsOpen b s
+        alone_open = All-head (IsOpen b) s [] (subst (All (IsOpen b)) first_alone w.goes_on.ready.usable)
 
-  -- it was refused
-  pub stops_at_end : {M : Type 0} (s s' : Contents) (end : ℕ) (x : Error M) → ss ≡ s ∷ [] → left ≡ no_items → RefusesBy (end_checks (context_of a s)) s' end x → MemoryOrRefused features is end x
-  stops_at_end s s' end x e done w =
-      let r = same_end [] [] h.state s (sym h.alone ∙ e) in
-      refused_end a h.state k features is left h.valid s' end x done (subst (λ (t : Contents). RefusesBy (end_checks (context_of a t)) s' end x) (sym r.1) w)
+        alone_read : ItemsRead features [] 0 start is (stack_of b s []) (numbers_of a) (numbers_of b)
+        alone_read =
+            subst (λ (xs : List Contents). ItemsRead features [] 0 start is (stack_in b xs) (numbers_of a) (numbers_of b)) first_alone
+            (from_start (λ fs t. ItemsRead fs [] 0 t is (stack_in b ts) (numbers_of a) (numbers_of b)) (w.reads []))
 
-  -- the type was taken
-  pub ends : (s s' : Contents) (ty : ComponentType) → ss ≡ s ∷ [] → left ≡ no_items → s' ≡ finished s → Finished a s ty → AcceptsWith features is a s' ty
-  ends s s' ty e done g w = λ x types state type nested.
-      let r = same_end [] [] h.state s (sym h.alone ∙ e) in
-      let stands = (alone_open s e).stands in
-      read_all a h.state k features is left h.valid (subst (StateStands a) (sym r.1) stands) x types done
-      (state ∙ g ∙ ap finished (sym r.1)) (subst (λ (t : Contents). Finished a t x.ty) (sym r.1) (subst (λ (u : ComponentType). Finished a s u) (sym type) w)) nested
+        -- the end was refused
+        pub stops_at_end : {M : Type 0} (s' : Contents) (end : ℕ) (x : Error M) → RefusesBy (end_checks (context_of b s)) s' end x → MemoryOrRefused features is end x
+        stops_at_end s' end x h = refused_end a b features is end x s alone_read s' h
 
-  pub ends_alone : (s s' t : Contents) (ty : ComponentType) → ss ≡ s ∷ [] → slice_set ss 0 s' ≡ t ∷ [] → left ≡ no_items → s' ≡ finished s → Finished a s ty → AcceptsWith features is a t ty
-  ends_alone s s' t ty e set done g w =
-      let r = same_end [] [] s' t (ap (λ (xs : List Contents). slice_set xs 0 s') (sym e) ∙ set) in
-      subst (λ (u : Contents). AcceptsWith features is a u ty) r.1 (ends s s' ty e done g w)
+        -- the type was taken
+        pub ends : (s' t : Contents) (ty : ComponentType) → slice_set ts 0 s' ≡ t ∷ [] → s' ≡ finished s → Finished b s ty → AcceptsWith features is b t ty
+        ends s' t ty set g h = λ x types state type nested.
+            let same : t ≡ s' = sym (only s' t (ap (λ (xs : List Contents). slice_set xs 0 s') (sym first_alone) ∙ set)) in
+            read_all a b s features is (root_read a b s features is w.goes_on.arena alone_read) alone_open.stands x types (state ∙ same ∙ g) (subst (Finished b s) (sym type) h) nested
+
+        pub still_one : (s' : Contents) → length (slice_set ts 0 s') ≡ 1
+        still_one s' = ap (λ (xs : List Contents). length (slice_set xs 0 s')) first_alone
 
 -- what two clauses say of a value
 pub ok_and : {T E : Type 0} (r : Result T E) {P R : T → Type 0} {Q : Type 0} → ((x : T) → P x → Q → R x) → IfOk r P → OnOk r Q → IfOk r R

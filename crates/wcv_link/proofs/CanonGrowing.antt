@@ -1,5 +1,5 @@
 -- What canonical functions do to a context: they append a core function, or a function of a type that stands there, and list no resource.
-use Rattle.std.proofs.Common.{◌≡◌, ℕ, zero, List, [], ◌∷◌, Bool, true, false, cond, refl, subst, Some, None}
+use Rattle.std.proofs.Common.{◌≡◌, ℕ, List, [], ◌∷◌, Bool, true, false, cond, refl, subst, Some, None}
 use Rattle.std.specs.Prelude.{Option}
 use Rattle.std.specs.Option.{option_map, option_and_then}
 use Rattle.wcv_core.specs.CoreForm.{CompositeForm, Group}
@@ -23,8 +23,9 @@ use Rattle.wcv_lower.specs.Values.{type_of_sort}
 use Rattle.wcv_lower.proofs.Bringing.{AllBring, brings_one, brings_more}
 use Rattle.wcv_link.proofs.CoreGrowing.{item-fine, if-some}
 use Rattle.wcv_link.proofs.Growing.{Ready, Does, SameLists, same-does}
-use Rattle.wcv_link.proofs.Known.{mapped-some, then-some, Fine, Listed, Any, After, listed-apply}
+use Rattle.wcv_link.proofs.Known.{mapped-some, then-some, Fine, Any}
 use Rattle.wcv_link.proofs.Looking.{sorted-fine}
+use Rattle.wcv_link.proofs.Near.{Near, After, near-apply}
 
 -- what holds of its steps: of one that appends a core function, of one that appends a function of a type that stands there, and of each
 -- that says the type of slots before such a one
@@ -62,7 +63,7 @@ module _ (s : Tree_stack) (Q : Step tree_reader → Type 0) (slots : (v : ValTyp
       subst Q m.2 (slots-hold (canon_row f).asks m.0 (row-holds f (canon_row f).appends m.0 m.1))
 
 module _ (p : Place) (s : Tree_stack) (h : Ready p s) where
-  module _ (P : Name → Type 0) (listed : (r : Name) → Listed s r → P r) where
+  module _ (P : Name → Type 0) (listed : (r : Name) → Near s r → P r) where
     -- what it brings is fine, and the lists stay
     abbrev Quiet : Step tree_reader → Type 0
     Quiet x = AllBring (Fine P) Any x × ((u : Tree_stack) → SameLists u.top (apply x u).top)
@@ -83,12 +84,12 @@ module _ (p : Place) (s : Tree_stack) (h : Ready p s) where
 
     typed-quiet : (k : ℕ) (t : Type_tree) → type_of_sort is_func s.top k ≡ Some t → Quiet (func_added t)
     typed-quiet k t e =
-        let w = sorted-fine (Listed s) s.top (h.fine zero s.top refl) is_func k t e in
+        let w = sorted-fine (Near s) s.top h.fine.0.entries is_func k t e in
         (brings_one (Fine P) Any (appends in_funcs t) ((λ r f. listed r (w.0 r f)), w.1), (λ u. record { imported = refl; defined = refl; imports = refl; exports = refl }))
 
   pub canon-does : (f : Canon_form) (x : Step tree_reader) → canon_step s f ≡ Some x → Does exporting p s x
   canon-does f x e =
       let P : Name → Type 0 = After x s in
-      let i : (r : Name) → Listed s r → P r = listed-apply x s in
+      let i : (r : Name) → Near s r → P r = near-apply x s in
       let w : Quiet P i x = canon-holds s (Quiet P i) (slots-quiet P i) (core-quiet P i) (typed-quiet P i) f x e in
       same-does p s h x w.0 (w.1 s)

@@ -1,4 +1,4 @@
--- The node at the end of a declared type: what is free in it is listed further out, it is sound, and it owns what its context lists.
+-- The node at the end of a declared type or of a component: what is free in it is near in the contexts around, it is sound, and it owns what its context lists.
 use Rattle.std.proofs.Common.{◌≡◌, ℕ, zero, List, [], ◌∷◌, Bool, true, false, ◌||◌, cond, refl, sym, ◌∙◌, ap, subst, Some, None, ◌⊎◌, inl, inr}
 use Rattle.std.specs.Prelude.{All, Option}
 use Rattle.std.specs.Option.{option_map}
@@ -24,7 +24,8 @@ use Rattle.wcv_lower.proofs.Members.{firsts_map}
 use Rattle.wcv_lower.proofs.Owning.{Inherited, owns_not_inherited, own_apart_inherited, entries_have}
 use Rattle.wcv_link.proofs.Having.{Has, Once, names_in, member-has, has-member}
 use Rattle.wcv_link.proofs.Kept.{any-free, kept-has, kept-old, kept-once, kept-leads}
-use Rattle.wcv_link.proofs.Known.{mapped-some, Fine, In, ListedAmong, Listed, IsFine}
+use Rattle.wcv_link.proofs.Known.{mapped-some, Fine, In}
+use Rattle.wcv_link.proofs.Near.{NearAmong, Near, IsFine}
 use Rattle.wcv_link.proofs.Settled.{Settles}
 use Rattle.wcv_link.proofs.Sound.{Differ, IsSound, entries-sound}
 
@@ -38,9 +39,9 @@ among-fine P (x ∷ es) r a e = go (is_free r x.1) refl e (λ w. among-fine P es
     go true f w later = (All-head (λ (e : Extern_name × Type_tree). Fine P e.1) x es a).0 r (is_free-free r x.1 f)
     go false f w later = later w
 
--- what is free in an entry of a side is listed
-pub free-listed : (u : Tree_stack) → IsFine u → (d : Side) (r : Name) → is_free_among tree_reader r (u.top.side d) ≡ true → Listed u r
-free-listed u h d r e = among-fine (Listed u) (u.top.side d) r ((h zero u.top refl).side d) e
+-- what is free in an entry of a side is near
+pub free-near : (u : Tree_stack) → IsFine u → (d : Side) (r : Name) → is_free_among tree_reader r (u.top.side d) ≡ true → Near u r
+free-near u h d r e = among-fine (Near u) (u.top.side d) r (h.0.entries.side d) e
 
 -- what is free in parts that are entries is free in an entry
 free-among : (role : Extern_name → Role) (es : Entries) (rest : Parts Name Name) (r : Name) → FreeIn r (entries role es rest) → (is_free_among tree_reader r es ≡ true) ⊎ FreeIn r rest
@@ -82,10 +83,14 @@ firsts-has rs r e = member-has rs r (subst (λ (xs : List Name). member r xs ≡
 
 -- ## The node
 
+-- it is near in the contexts around the top
+abbrev pub Around : Tree_stack → Name → Type 0
+Around u r = NearAmong (is_concrete u.top.kind) u.outer r
+
 -- the type of declarations that leave the stack
 pub record IsClosed (u : Tree_stack) (t : Type_tree) : Type 0 where
-  -- what is free in it is listed further out
-  pub within : (r : Name) → Free r t → ListedAmong u.outer r
+  -- what is free in it is near in the contexts around
+  pub within : (r : Name) → Free r t → Around u r
   pub sound : IsSound t
   -- it owns what its context lists, and what the entries of that own
   pub owns : (r : Name) → (In u.top r → ⊥) → AllEntries (OwnsNot r) u.top → OwnsNot r t
@@ -103,7 +108,7 @@ module _ (p : Place) (k : ℕ) (i : Name) (u : Tree_stack) (h : Settles p k u) w
   outs = c.side exporting
 
   sides-sound : (d : Side) → All (λ (e : Extern_name × Type_tree). IsSound e.1) (c.side d)
-  sides-sound d = All-weaker (λ (e : Extern_name × Type_tree). Fine (Listed u) e.1) (λ (e : Extern_name × Type_tree). IsSound e.1) (λ e w. w.1) (c.side d) ((h.fine zero c refl).side d)
+  sides-sound d = All-weaker (λ (e : Extern_name × Type_tree). Fine (Near u) e.1) (λ (e : Extern_name × Type_tree). IsSound e.1) (λ e w. w.1) (c.side d) (h.fine.0.entries.side d)
 
   -- parts that are exports, and imports before them
   exports-have : {P : Type_tree → Type 0} {In : Parts Name Name → Type 0} (law : Inherited P In) → AllEntries P c → In (entries export outs none)
@@ -129,16 +134,16 @@ module _ (p : Place) (k : ℕ) (i : Name) (u : Tree_stack) (h : Settles p k u) w
       owned : (r : Name) → member r (names_in c.defined) ≡ true → In c r
       owned r e = inr (member-has c.defined r e)
 
-      foreign : (r : Name) → member r (names_in c.defined) ≡ false → Listed u r → ListedAmong u.outer r
+      foreign : (r : Name) → member r (names_in c.defined) ≡ false → Near u r → Around u r
       foreign r o (inl (inl x)) = absurd (subst (λ (rs : List (Name × List ℕ)). Has rs r) no_imports x)
       foreign r o (inl (inr x)) = absurd (false≢true (sym o ∙ has-member c.defined r x))
       foreign r o (inr x) = x
 
-      inside : (r : Name) → member r (names_in c.defined) ≡ false → (is_free_among tree_reader r outs ≡ true) ⊎ FreeIn {I = Name} r none → ListedAmong u.outer r
-      inside r o (inl f) = foreign r o (free-listed u h.fine exporting r f)
+      inside : (r : Name) → member r (names_in c.defined) ≡ false → (is_free_among tree_reader r outs ≡ true) ⊎ FreeIn {I = Name} r none → Around u r
+      inside r o (inl f) = foreign r o (free-near u h.fine exporting r f)
       inside r o (inr f) = absurd f
 
-      free : (r : Name) → Free r (node_tree i (instance_made c)) → ListedAmong u.outer r
+      free : (r : Name) → Free r (node_tree i (instance_made c)) → Around u r
       free r (inl x) = absurd x
       free r (inr x) = inside r x.0 (free-among export outs none r x.1)
 
@@ -151,12 +156,12 @@ module _ (p : Place) (k : ℕ) (i : Name) (u : Tree_stack) (h : Settles p k u) w
     imported-own : (r : Name) → Has c.imported r → is_own r ≡ true
     imported-own r x = or_left (member r (firsts c.imported)) (member r (firsts ks)) (has-firsts c.imported r x)
 
-    foreign-import : (r : Name) → is_own r ≡ false → is_free_among tree_reader r ins ≡ true → Listed u r → ListedAmong u.outer r
+    foreign-import : (r : Name) → is_own r ≡ false → is_free_among tree_reader r ins ≡ true → Near u r → Around u r
     foreign-import r o f (inl (inl x)) = absurd (false≢true (sym o ∙ imported-own r x))
     foreign-import r o f (inl (inr x)) = absurd (false≢true (sym none_free ∙ any-free c.defined ins r x f))
     foreign-import r o f (inr x) = x
 
-    foreign-export : (r : Name) → is_own r ≡ false → is_free_among tree_reader r outs ≡ true → Listed u r → ListedAmong u.outer r
+    foreign-export : (r : Name) → is_own r ≡ false → is_free_among tree_reader r outs ≡ true → Near u r → Around u r
     foreign-export r o f (inl (inl x)) = absurd (false≢true (sym o ∙ imported-own r x))
     foreign-export r o f (inl (inr x)) = absurd (false≢true (sym o ∙ or_right (member r (firsts c.imported)) (member r (firsts ks)) (has-firsts ks r (kept-has outs c.defined ks r are_kept x f))))
     foreign-export r o f (inr x) = x
@@ -183,15 +188,15 @@ module _ (p : Place) (k : ℕ) (i : Name) (u : Tree_stack) (h : Settles p k u) w
         exports-lead : All (λ x. PathLeadsTo x.1 x.0 (exports_in (entries import ins (entries export outs none)))) ks
         exports-lead = subst (λ (es : Entries). All (λ x. PathLeadsTo x.1 x.0 es) ks) (sym (exports-behind ins (entries export outs none) ∙ all-exports outs)) (kept-leads outs c.defined ks are_kept)
 
-        in_exports : (r : Name) → is_own r ≡ false → (is_free_among tree_reader r outs ≡ true) ⊎ FreeIn {I = Name} r none → ListedAmong u.outer r
-        in_exports r o (inl f) = foreign-export r o f (free-listed u h.fine exporting r f)
+        in_exports : (r : Name) → is_own r ≡ false → (is_free_among tree_reader r outs ≡ true) ⊎ FreeIn {I = Name} r none → Around u r
+        in_exports r o (inl f) = foreign-export r o f (free-near u h.fine exporting r f)
         in_exports r o (inr f) = absurd f
 
-        in_either : (r : Name) → is_own r ≡ false → (is_free_among tree_reader r ins ≡ true) ⊎ FreeIn r (entries export outs none) → ListedAmong u.outer r
-        in_either r o (inl f) = foreign-import r o f (free-listed u h.fine importing r f)
+        in_either : (r : Name) → is_own r ≡ false → (is_free_among tree_reader r ins ≡ true) ⊎ FreeIn r (entries export outs none) → Around u r
+        in_either r o (inl f) = foreign-import r o f (free-near u h.fine importing r f)
         in_either r o (inr f) = in_exports r o (free-among export outs none r f)
 
-        free : (r : Name) → Free r (node_tree i (component_of c ks)) → ListedAmong u.outer r
+        free : (r : Name) → Free r (node_tree i (component_of c ks)) → Around u r
         free r (inl x) = absurd x
         free r (inr x) = in_either r x.0 (free-among import ins (entries export outs none) r x.1)
 

@@ -1,5 +1,5 @@
 -- What core items do to a context: they list no resource, and nothing is free in what they bring.
-use Rattle.std.proofs.Common.{◌≡◌, ℕ, zero, suc, List, [], ◌∷◌, Bool, true, false, not, refl, subst, Some, None, inl, inr}
+use Rattle.std.proofs.Common.{◌≡◌, ℕ, suc, List, [], ◌∷◌, Bool, true, false, not, refl, subst, Some, None, inl, inr}
 use Rattle.std.specs.Prelude.{Option, cond}
 use Rattle.std.specs.Option.{option_map, option_and_then}
 use Rattle.std.specs.List.{list_all}
@@ -30,7 +30,8 @@ use Rattle.wcv_lower.specs.Readers.{New_node, core_instance_node, core_exports_n
 use Rattle.wcv_lower.specs.Trees.{Type_tree, Tree_stack, tree_reader, tree_maker, module_tree, node_tree, of_module, of_items}
 use Rattle.wcv_lower.proofs.Bringing.{Brings, AllBring, brings_one, brings_more}
 use Rattle.wcv_link.proofs.Growing.{Ready, Does, SameLists, same-does}
-use Rattle.wcv_link.proofs.Known.{mapped-some, all-get, WithinParts, Fine, node-within, Listed, Any, After, later-fine}
+use Rattle.wcv_link.proofs.Known.{mapped-some, all-get, WithinParts, Fine, node-within, Any}
+use Rattle.wcv_link.proofs.Near.{Near, After, later-fine}
 use Rattle.wcv_link.proofs.Sound.{IsSoundNode, AreSound}
 
 -- nothing is free in core items, and they are sound
@@ -61,10 +62,10 @@ module _ (P : Name → Type 0) where
   pub item-fine : (e : EntityType) → Fine P (node (core_item e) none)
   item-fine e = leaf-fine (core_item e) (λ r x. x) (tt, tt)
 
-  sub-fine : (i : ℕ) → Fine P (sub_type i)
+  pub sub-fine : (i : ℕ) → Fine P (sub_type i)
   sub-fine i = leaf-fine (core_type i) (λ r x. x) (tt, tt)
 
-  made-fine : (i : Name) (m : Module_type) → Fine P (module_tree i m)
+  pub made-fine : (i : Name) (m : Module_type) → Fine P (module_tree i m)
   made-fine i m =
       (node-within P (core_module i (capped m.size)) (core_imports m.imports (core_exports m.exports none)) (λ r x. x) (imports-closed P m.imports m.exports), ((tt, tt), imports-sound m.imports m.exports))
 
@@ -139,7 +140,7 @@ module _ (p : Place) (s : Tree_stack) (h : Ready p s) where
       let o = if-some (list_all (λ (a : InstantiationArg). not (is_none (core_instance_at s.top a.index))) args) (option_map core_instance_node (core_module_at s.top i)) m.0 m.1 in
       let t = mapped-some core_instance_node (core_module_at s.top i) m.0 o in
       let y : Step tree_reader = joins_as (core_instance_node t.0) in
-      let w : Fine (After y s) t.0 = later-fine y s t.0 (all-get (Fine (Listed s)) (s.top.core core_modules) i t.0 ((h.fine zero s.top refl).core core_modules) t.1) in
+      let w : Fine (After y s) t.0 = later-fine y s t.0 (all-get (Fine (Near s)) (s.top.core core_modules) i t.0 (h.fine.0.entries.core core_modules) t.1) in
       subst (Does exporting p s) m.2 (subst (λ (n : New_node tree_reader). Does exporting p s (joins_as n)) t.2 (node-does (core_instance_node t.0) (of_module-fine (After y s) (base p) t.0 w)))
   core_instance-does (core_bag es) x e =
       let m = mapped-some joins_as (core_instance_made s (core_bag es)) x e in

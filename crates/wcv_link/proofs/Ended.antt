@@ -7,10 +7,10 @@ use Rattle.std.proofs.lemmas.Bool.{false≢true}
 use Rattle.std.proofs.lemmas.List.Elements.{All-contains}
 use Rattle.wcv_core.specs.Names.{Name, Place}
 use Rattle.wcv_core.specs.declared.features.WasmFeatures.{WasmFeatures}
-use Rattle.wcv_syntax.specs.Model.{Items, no_items}
+use Rattle.wcv_syntax.specs.Model.{Items}
 use Rattle.wcv_types.specs.Paths.{PathLeadsTo}
 use Rattle.wcv_types.specs.Tree.{import, export, Parts, none, entries, exports_in, imports_in, component_type}
-use Rattle.wcv_lower.specs.Context.{importing, exporting}
+use Rattle.wcv_lower.specs.Context.{importing, exporting, is_concrete}
 use Rattle.wcv_lower.specs.Ending.{is_free_among, any_free, kept, component_of, type_at_end}
 use Rattle.wcv_lower.specs.Mapped.{map_entries, map_context}
 use Rattle.wcv_lower.specs.Names.{names_by_place}
@@ -18,16 +18,17 @@ use Rattle.wcv_lower.specs.Renamed.{Renaming, renaming}
 use Rattle.wcv_lower.specs.Trees.{Type_tree, Entries, Tree_context, Tree_stack, tree_reader, node_tree}
 use Rattle.wcv_lower.proofs.EndingLaws.{any_free-mapped}
 use Rattle.wcv_lower.proofs.Renamed.{renaming_commutes}
-use Rattle.wcv_link.proofs.AsFar.{root_as_far, listed-root}
-use Rattle.wcv_link.proofs.Closed.{free-listed, all-exports, exports-behind}
-use Rattle.wcv_link.proofs.Going.{as_far_as_end}
+use Rattle.wcv_link.proofs.AsFar.{start-settles, start-tidy}
+use Rattle.wcv_link.proofs.Closed.{free-near, all-exports, exports-behind}
 use Rattle.wcv_link.proofs.Growing.{Leads}
 use Rattle.wcv_link.proofs.Having.{Has, has-contains, contains-has, has-renamed, Once, once-both, once-renamed_back, distinct}
 use Rattle.wcv_link.proofs.Kept.{any-free, kept-has, kept-old, kept-once, kept-leads}
 use Rattle.wcv_link.proofs.Known.{mapped-some, In, in-renamed_back}
+use Rattle.wcv_link.proofs.Near.{near-own}
 use Rattle.wcv_link.proofs.Settled.{Settles}
+use Rattle.wcv_link.proofs.TidyInside.{ItemsRead, items-behind}
 use Rattle.wcv_link.specs.Listed.{IsListed, IsImported, IsDefined, ListsResources}
-use Rattle.wcv_link.specs.Valid.{start, ValidTo}
+use Rattle.wcv_link.specs.Valid.{ValidFrom, start, ValidTo}
 
 -- ## Contexts
 
@@ -39,10 +40,11 @@ pub record Listing (c : Tree_context) : Type 0 where
   pub imported_once : Once c.imported
   pub defined_once : Once c.defined
 
-pub listing : (w : Place) (k : ℕ) (s : Tree_stack) → Settles w k s → s.outer ≡ [] → Listing s.top
-listing w k s h alone = record {
-  in_imports = λ r e. listed-root s alone r (free-listed s h.fine importing r e);
-  in_exports = λ r e. listed-root s alone r (free-listed s h.fine exporting r e);
+-- so in a component
+pub listing-own : (w : Place) (k : ℕ) (s : Tree_stack) → Settles w k s → is_concrete s.top.kind ≡ true → Listing s.top
+listing-own w k s h c = record {
+  in_imports = λ r e. near-own s c r (free-near s h.fine importing r e);
+  in_exports = λ r e. near-own s c r (free-near s h.fine exporting r e);
   apart = h.none_twice;
   imported_once = h.imported_once;
   defined_once = h.defined_once;
@@ -129,9 +131,18 @@ module _ (i : Name) (c : Tree_context) (h : Listing c) (leads : Leads c) where
           let m = mapped-some (component_of c) (kept tree_reader c.defined outs) n.0 n.1 in
           subst ListsResources (ap (node_tree i) m.2 ∙ n.2) (lists-kept m.0 f m.1)
 
+-- ## Roots
+
+module _ (fs : WasmFeatures) (is : Items) (s : Tree_stack) (v : ValidFrom fs names_by_place [] 0 start is s) where
+  root_behind : ItemsRead [] (λ i. None) start s
+  root_behind = items-behind fs [] 0 (λ i. None) start s is refl v (λ i u. refl) (start-settles []) (start-tidy [] (λ i. None))
+
+  -- where the items of a root lead to, what is free in an entry is listed
+  pub valid-listing : Listing s.top
+  valid-listing = listing-own [] root_behind.count s root_behind.settles (ap is_concrete root_behind.kind)
+
 -- a valid root lists the resources of its type
 pub valid_lists : (fs : WasmFeatures) (is : Items) (s : Tree_stack) (i : Name) (t : Type_tree) → ValidTo fs is s → type_at_end (node_tree i) s.top ≡ Some t → ListsResources t
 valid_lists fs is s i t v e =
-    let n = as_far_as_end fs names_by_place [] 0 start is s v.0 in
-    let r = root_as_far fs is n.0 s no_items n.1 in
-    lists i s.top (listing [] n.0 s r.settles r.alone) r.settles.leads t e
+    let r : ItemsRead [] (λ i. None) start s = root_behind fs is s v.0 in
+    lists i s.top (valid-listing fs is s v.0) r.settles.leads t e

@@ -32,8 +32,9 @@ use Rattle.wcv_lower.proofs.Owning.{apart_outside, owns_not_inherited, own_apart
 use Rattle.wcv_link.proofs.Bare.{OwnsNothing, IsBare, AreBare, bare-instance}
 use Rattle.wcv_link.proofs.Growing.{Leads, Ready, AreNew, Adds, Does, SameLists, same-leads, same-led, nothing-new}
 use Rattle.wcv_link.proofs.Having.{Has, has-right, has-beside, has-beside_back, once-beside}
-use Rattle.wcv_link.proofs.Known.{mapped-some, then-some, all-get, Fine, created-fine, Listed, Any, After, enters-bring, listed-apply, later-fine}
+use Rattle.wcv_link.proofs.Known.{mapped-some, then-some, all-get, Fine, created-fine, Any, enters-bring}
 use Rattle.wcv_link.proofs.Looking.{sorted-here, again-fine, reference-fine, type-fine, sorted-fine, sorted-sort, module-fine}
+use Rattle.wcv_link.proofs.Near.{Near, After, near-apply, later-fine}
 use Rattle.wcv_link.proofs.OpenedInstances.{free-opened, brought-placed, opened-once, opened-leads}
 use Rattle.wcv_link.proofs.Placed.{PlacedAt, placed_here}
 use Rattle.wcv_link.proofs.Sound.{instance-sound}
@@ -83,8 +84,8 @@ some-paths es k (r ∷ rs) w =
 -- ## An entry with the resources that it brings
 
 module _ (p : Place) (s : Tree_stack) (h : Ready p s) where
-  abbrev top-fine : AllEntries (Fine (Listed s)) s.top
-  top-fine = h.fine zero s.top refl
+  abbrev top-fine : AllEntries (Fine (Near s)) s.top
+  top-fine = h.fine.0.entries
 
   entered-leads : (d : Side) (n : Extern_name) (b : Brought tree_reader) → NewLead d n b s.top → Leads (entered d n b s).top
   entered-leads importing n b new =
@@ -136,7 +137,7 @@ module _ (p : Place) (s : Tree_stack) (h : Ready p s) where
   }
 
   -- one that introduces no resource
-  bare-does : (d : Side) (n : Extern_name) (t : Type_tree) → Fine (Listed s) t → Does d p s (enters d n (bare tree_reader t))
+  bare-does : (d : Side) (n : Extern_name) (t : Type_tree) → Fine (Near s) t → Does d p s (enters d n (bare tree_reader t))
   bare-does d n t w = brought-does d n (bare tree_reader t) (later-fine (enters d n (bare tree_reader t)) s t w) (nothing-new p) (All-nil _)
 
   -- a resource that is new
@@ -159,7 +160,7 @@ module _ (p : Place) (s : Tree_stack) (h : Ready p s) where
   abbrev instance_of : Type_tree → Brought tree_reader
   instance_of t = (tree_maker names_by_place p).instance_of t
 
-  instance-does : (d : Side) (n : Extern_name) (t : Type_tree) → same_sort is_instance (sort t) ≡ true → Fine (Listed s) t → OwnsApart t → ((r : Name) → PlacedAt p r → OwnsNot r t) → Does d p s (enters d n (instance_of t))
+  instance-does : (d : Side) (n : Extern_name) (t : Type_tree) → same_sort is_instance (sort t) ≡ true → Fine (Near s) t → OwnsApart t → ((r : Name) → PlacedAt p r → OwnsNot r t) → Does d p s (enters d n (instance_of t))
   instance-does d n (node (instance i own) ps) e w apart spares =
       brought-does d n b (inside, instance-sound names_by_place p (node (instance i own) ps) apart w.1) (record { placed = brought-placed p i own ps; once = opened-once p i own ps w.1.0.0 })
       (subst (All (λ q. PathLeadsTo q.1 q.0 (with_entry d n b.entity s.top))) (sym (map-map (λ (r : Name × List ℕ). (r.0, length (s.top.side d) ∷ r.1)) (λ r. (at p r, path_or_none (first_path r (exports_in ps)))) own))
@@ -172,7 +173,7 @@ module _ (p : Place) (s : Tree_stack) (h : Ready p s) where
       inside r f = go (free-opened p i own ps r f)
         where
           go : Free r (node (instance i own) ps) ⊎ Has b.resources r → After (enters d n b) s r
-          go (inl x) = listed-apply (enters d n b) s r (w.0 r x)
+          go (inl x) = near-apply (enters d n b) s r (w.0 r x)
           go (inr x) = brought-in d n b r x
   instance-does d n (node g ps) e w apart spares = absurd (false≢true e)
 
@@ -192,20 +193,20 @@ module _ (p : Place) (s : Tree_stack) (h : Ready p s) where
   pub written-does : (d : Side) (n : Extern_name) (x : ComponentTypeRef) (b : Brought tree_reader) → is_built_ref x ≡ true → written (tree_maker names_by_place p) s.top x ≡ Some b → Does d p s (enters d n b)
   written-does d n (ref.Func k) b i e =
       let m = mapped-some (bare tree_reader) (type_of_sort is_func s.top k) b e in
-      subst (Enters d n) m.2 (bare-does d n m.0 (sorted-fine (Listed s) s.top top-fine is_func k m.0 m.1))
+      subst (Enters d n) m.2 (bare-does d n m.0 (sorted-fine (Near s) s.top top-fine is_func k m.0 m.1))
   written-does d n (ref.Component k) b i e =
       let m = mapped-some (bare tree_reader) (type_of_sort is_component s.top k) b e in
-      subst (Enters d n) m.2 (bare-does d n m.0 (sorted-fine (Listed s) s.top top-fine is_component k m.0 m.1))
+      subst (Enters d n) m.2 (bare-does d n m.0 (sorted-fine (Near s) s.top top-fine is_component k m.0 m.1))
   written-does d n (ref.Instance k) b i e =
       let m = mapped-some instance_of (type_of_sort is_instance s.top k) b e in
-      subst (Enters d n) m.2 (instance-does d n m.0 (sorted-sort (Listed s) s.top top-fine is_instance k m.0 m.1) (sorted-fine (Listed s) s.top top-fine is_instance k m.0 m.1) (owns-apart k m.0 m.1) (spared k m.0 m.1))
+      subst (Enters d n) m.2 (instance-does d n m.0 (sorted-sort (Near s) s.top top-fine is_instance k m.0 m.1) (sorted-fine (Near s) s.top top-fine is_instance k m.0 m.1) (owns-apart k m.0 m.1) (spared k m.0 m.1))
   written-does d n (ref.Ty (bounds.Eq k)) b i e =
       let m = mapped-some (again_brought (tree_maker names_by_place p)) (type_at s.top k) b e in
-      subst (Enters d n) m.2 (bare-does d n (again_brought (tree_maker names_by_place p) m.0).entity (again-fine (Listed s) names_by_place p m.0 (type-fine (Listed s) s.top top-fine k m.0 m.1)))
+      subst (Enters d n) m.2 (bare-does d n (again_brought (tree_maker names_by_place p) m.0).entity (again-fine (Near s) names_by_place p m.0 (type-fine (Near s) s.top top-fine k m.0 m.1)))
   written-does d n (ref.Ty bounds.SubResource) b i e = subst (Enters d n) (some-inj e) (new_resource-does d n)
   written-does d n (ref.Module k) b i e =
       let m = mapped-some (bare tree_reader) (module_type_at s.top k) b e in
-      subst (Enters d n) m.2 (bare-does d n m.0 (module-fine (Listed s) s.top top-fine k m.0 m.1))
+      subst (Enters d n) m.2 (bare-does d n m.0 (module-fine (Near s) s.top top-fine k m.0 m.1))
   written-does d n (ref.Value v) b i e = absurd (false≢true i)
 
   -- ## Exported items
@@ -214,27 +215,27 @@ module _ (p : Place) (s : Tree_stack) (h : Ready p s) where
   item-does : (n : Extern_name) (k : Space) (i : ℕ) (b : Brought tree_reader) → option_map (bare tree_reader) (slice_get (s.top.space k) i) ≡ Some b → Enters exporting n b
   item-does n k i b e =
       let m = mapped-some (bare tree_reader) (slice_get (s.top.space k) i) b e in
-      subst (Enters exporting n) m.2 (bare-does exporting n m.0 (all-get (Fine (Listed s)) (s.top.space k) i m.0 (top-fine.space k) m.1))
+      subst (Enters exporting n) m.2 (bare-does exporting n m.0 (all-get (Fine (Near s)) (s.top.space k) i m.0 (top-fine.space k) m.1))
 
   -- an instance owns nothing, and so it is the instance that is made of it
   exported_instance-does : AreBare s.top → (n : Extern_name) (i : ℕ) (b : Brought tree_reader) → option_map (tree_maker names_by_place p).instance_of (slice_get (s.top.space in_instances) i) ≡ Some b → Enters exporting n b
   exported_instance-does alone n i b e =
       let m = mapped-some (tree_maker names_by_place p).instance_of (slice_get (s.top.space in_instances) i) b e in
       let own : OwnsNothing m.0 = (all-get IsBare (s.top.space in_instances) i m.0 (alone.space in_instances) m.1).0 in
-      subst (Enters exporting n) (sym (bare-instance names_by_place p m.0 own) ∙ m.2) (bare-does exporting n m.0 (all-get (Fine (Listed s)) (s.top.space in_instances) i m.0 (top-fine.space in_instances) m.1))
+      subst (Enters exporting n) (sym (bare-instance names_by_place p m.0 own) ∙ m.2) (bare-does exporting n m.0 (all-get (Fine (Near s)) (s.top.space in_instances) i m.0 (top-fine.space in_instances) m.1))
 
   export-does : AreBare s.top → (n : Extern_name) (x : ComponentExternalKind) (i : ℕ) (b : Brought tree_reader) → option_map (exported_as (tree_maker names_by_place p) x) (slice_get (items_of s.top x) i) ≡ Some b → Does exporting p s (enters exporting n b)
   export-does alone n kind.Ty i b e =
       let m = mapped-some (exported_as (tree_maker names_by_place p) kind.Ty) (slice_get (s.top.space in_types) i) b e in
       subst (Enters exporting n) m.2
-      (bare-does exporting n (again_brought (tree_maker names_by_place p) (referenced m.0)).entity (again-fine (Listed s) names_by_place p (referenced m.0) (type-fine (Listed s) s.top top-fine i (referenced m.0) (ap (option_map referenced) m.1))))
+      (bare-does exporting n (again_brought (tree_maker names_by_place p) (referenced m.0)).entity (again-fine (Near s) names_by_place p (referenced m.0) (type-fine (Near s) s.top top-fine i (referenced m.0) (ap (option_map referenced) m.1))))
   export-does alone n kind.Func i b e = item-does n in_funcs i b e
   export-does alone n kind.Value i b e = item-does n in_values i b e
   export-does alone n kind.Instance i b e = exported_instance-does alone n i b e
   export-does alone n kind.Component i b e = item-does n in_components i b e
   export-does alone n kind.Module i b e =
       let m = mapped-some (bare tree_reader) (slice_get (s.top.core core_modules) i) b e in
-      subst (Enters exporting n) m.2 (bare-does exporting n m.0 (all-get (Fine (Listed s)) (s.top.core core_modules) i m.0 (top-fine.core core_modules) m.1))
+      subst (Enters exporting n) m.2 (bare-does exporting n m.0 (all-get (Fine (Near s)) (s.top.core core_modules) i m.0 (top-fine.core core_modules) m.1))
 
   -- an item, with what is written beside it
   pub exported-does : AreBare s.top → (n : Extern_name) (e : ComponentExport) (o : Option ComponentTypeRef) (b : Brought tree_reader) → is_built_written o ≡ true → exported_by (tree_maker names_by_place p) s.top e o ≡ Some b → Does exporting p s (enters exporting n b)

@@ -1,10 +1,9 @@
 -- An instance of a component: what is looked up by ids is what the rules say of the trees, and what is made is what they make.
-use Rattle.std.proofs.Common.{◌≡◌, ℕ, List, [], ◌∷◌, ◌++◌, map, refl, sym, ◌∙◌, ap, subst, Bool, true, false, not, ◌&&◌, cond, Some, None, All}
+use Rattle.std.proofs.Common.{◌≡◌, ℕ, List, [], ◌∷◌, ◌++◌, refl, sym, ◌∙◌, ap, subst, Bool, true, not, ◌&&◌, cond, Some, None, All}
 use Rattle.std.specs.Prelude.{Option, Contains, slice_get}
 use Rattle.std.specs.Bool.{Decides}
 use Rattle.std.specs.List.{AllZip, list_all}
 use Rattle.std.specs.Option.{option_map, option_and_then}
-use Rattle.std.proofs.lemmas.Bool.{false≢true}
 use Rattle.std.proofs.lemmas.List.Elements.{All-nil, All-cons, All-head, All-tail, All-contains}
 use Rattle.wcv_core.specs.Checks.{Checks, Cause, IsFree, all_checks}
 use Rattle.wcv_core.specs.Names.{Name, Place}

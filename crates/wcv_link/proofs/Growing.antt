@@ -1,6 +1,6 @@
 -- What an item does to a context: it lists new resources that are given at its place, and brings sound entries in which each free
--- resource is listed.
-use Rattle.std.proofs.Common.{◌≡◌, ℕ, zero, List, [], ◌∷◌, ◌++◌, Bool, true, false, refl, sym, ◌∙◌, subst, append-nil, ◌⊎◌, inl, inr}
+-- resource is listed near by.
+use Rattle.std.proofs.Common.{◌≡◌, ℕ, List, [], ◌∷◌, ◌++◌, Bool, true, false, refl, sym, ◌∙◌, subst, append-nil, ◌⊎◌, inl, inr}
 use Rattle.std.specs.Prelude.{All, Option, Some, None, cond}
 use Rattle.std.proofs.lemmas.Bool.{false≢true}
 use Rattle.wcv_core.specs.Names.{Name, Place, base}
@@ -8,9 +8,8 @@ use Rattle.wcv_core.specs.declared.core_types.ValType.{ValType}
 use Rattle.wcv_syntax.specs.Model.{Type_form, defined_type, func_type, component_type, instance_type, resource_type}
 use Rattle.wcv_types.specs.Led.{HasPath}
 use Rattle.wcv_types.specs.Paths.{PathLeadsTo}
-use Rattle.wcv_types.specs.Tree.{is_instance, sort}
 use Rattle.wcv_types.proofs.Lists.{some-inj}
-use Rattle.wcv_lower.specs.Context.{in_types, in_instances, Side, importing, exporting, is_concrete}
+use Rattle.wcv_lower.specs.Context.{in_types, Side, importing, exporting, is_concrete}
 use Rattle.wcv_lower.specs.Even.{IsBalanced}
 use Rattle.wcv_lower.specs.Names.{names_by_place}
 use Rattle.wcv_lower.specs.NewTypes.{new_reference}
@@ -23,24 +22,20 @@ use Rattle.wcv_lower.proofs.Applied.{applied_has}
 use Rattle.wcv_lower.proofs.Bringing.{AllBring, brings_one, brings_more}
 use Rattle.wcv_link.proofs.Charged.{AllCharged, all_back, apply-charges, among-listed}
 use Rattle.wcv_link.proofs.Having.{Has, Once, has-right, has-both}
-use Rattle.wcv_link.proofs.Known.{mapped-some, Fine, Listed, IsFine, Any, After, grown-fine, apply-kind}
+use Rattle.wcv_link.proofs.Known.{mapped-some, Fine, Listed, Any, apply-kind}
 use Rattle.wcv_link.proofs.Looking.{entry-fine, reference-fine, node-fine}
+use Rattle.wcv_link.proofs.Near.{Near, AreSorted, IsFine, After, grown-fine}
 use Rattle.wcv_link.proofs.Placed.{PlacedAt, PlacedUnder, placed_here}
 
 -- the paths of the imported resources lead to them
 abbrev pub Leads : Tree_context → Type 0
 Leads c = All (λ p. PathLeadsTo p.1 p.0 (c.side importing)) c.imported
 
--- each entry of the instances is an instance
-abbrev pub AreInstances : Tree_context → Type 0
-AreInstances c = All (λ t. sort t ≡ is_instance) (c.space in_instances)
-
 -- what holds of a stack where an item stands at place p
 pub record Ready (p : Place) (s : Tree_stack) : Type 0 where
   pub fine : IsFine s
   pub leads : Leads s.top
   pub led : is_concrete s.top.kind ≡ false → IsLed s.top
-  pub instances : AreInstances s.top
   -- what is given there or inside is listed nowhere, and no type owns it
   pub unlisted : (r : Name) → PlacedUnder p r → Listed s r → ⊥
   pub fresh : (r : Name) → PlacedUnder p r → Everywhere (OwnsNot r) s
@@ -79,7 +74,6 @@ pub record Grows (e : Side) (p : Place) (s t : Tree_stack) : Type 0 where
   pub fine : IsFine t
   pub leads : Leads t.top
   pub led : is_concrete t.top.kind ≡ false → IsLed t.top
-  pub instances : AreInstances t.top
   pub adds : Adds e p s.top t.top
   pub late : (r : Name) → (PlacedUnder p r → ⊥) → Everywhere (OwnsNot r) s → Everywhere (OwnsNot r) t
   pub apart : Everywhere OwnApart t
@@ -133,14 +127,13 @@ module _ (p : Place) (s : Tree_stack) (x : Step tree_reader) (h : Ready p s) whe
     balanced = (h.balanced.0, h.balanced.1, balanced h.balanced.0 h.balanced.1);
   }
 
-  pub does-grow : (e : Side) → Owns p s x → AreInstances (apply x s).top → Does e p s x → Grows e p s (apply x s)
+  pub does-grow : (e : Side) → Owns p s x → AreSorted (apply x s).top → Does e p s x → Grows e p s (apply x s)
   does-grow e o i w = record {
     kind = apply-kind x s;
     outer = apply-charges x s;
-    fine = grown-fine x s w.brings h.fine;
+    fine = grown-fine x s w.brings i h.fine;
     leads = w.leads;
     led = λ k. w.led (sym (λ j. is_concrete (apply-kind x s j)) ∙ k);
-    instances = i;
     adds = w.adds;
     late = λ r n all. applied_has (OwnsNot r) Any x s all (o.late r n all);
     apart = applied_has OwnApart Any x s h.apart o.apart;
@@ -185,9 +178,9 @@ module _ (p : Place) (s : Tree_stack) (h : Ready p s) where
   -- ## Type items
 
   -- a node joins the types
-  pub node-does : (n : New_node tree_reader) → Fine (Listed s) (node_tree (base p) n) → Does exporting p s (added (tree_maker names_by_place p) n)
+  pub node-does : (n : New_node tree_reader) → Fine (Near s) (node_tree (base p) n) → Does exporting p s (added (tree_maker names_by_place p) n)
   node-does n w =
-      same-does (added (tree_maker names_by_place p) n) (brings_one (Fine (Listed s)) Any (appends in_types (type_entry (node_tree (base p) n))) (entry-fine (Listed s) (node_tree (base p) n) w))
+      same-does (added (tree_maker names_by_place p) n) (brings_one (Fine (Near s)) Any (appends in_types (type_entry (node_tree (base p) n))) (entry-fine (Near s) (node_tree (base p) n) w))
       (record { imported = refl; defined = refl; imports = refl; exports = refl })
 
   -- a resource that is defined
@@ -216,10 +209,10 @@ module _ (p : Place) (s : Tree_stack) (h : Ready p s) where
   pub type-does : (t : Type_form) (x : Step tree_reader) → type_step (tree_maker names_by_place p) s.top t ≡ Some x → Does exporting p s x
   type-does (defined_type d) x e =
       let m = mapped-some (added (tree_maker names_by_place p)) (type_made s.top (defined_type d)) x e in
-      subst (Does exporting p s) m.2 (node-does m.0 (node-fine (Listed s) s.top (h.fine zero s.top refl) (base p) (defined_type d) m.0 m.1))
+      subst (Does exporting p s) m.2 (node-does m.0 (node-fine (Near s) s.top h.fine.0.entries (base p) (defined_type d) m.0 m.1))
   type-does (func_type f) x e =
       let m = mapped-some (added (tree_maker names_by_place p)) (type_made s.top (func_type f)) x e in
-      subst (Does exporting p s) m.2 (node-does m.0 (node-fine (Listed s) s.top (h.fine zero s.top refl) (base p) (func_type f) m.0 m.1))
+      subst (Does exporting p s) m.2 (node-does m.0 (node-fine (Near s) s.top h.fine.0.entries (base p) (func_type f) m.0 m.1))
   type-does (component_type ds) x e = cc
   type-does (instance_type ds) x e = cc
   type-does (resource_type rep dtor) x e = go (is_concrete s.top.kind) refl e

@@ -1,4 +1,4 @@
--- The end of a declared type whose declarations settle: its node joins the types of the stack around it.
+-- The end of a declared type whose declarations settle, or of a component whose items do: its node joins the stack around it.
 use Rattle.std.proofs.Common.{◌≡◌, ℕ, zero, List, ◌∷◌, ◌++◌, Bool, true, false, cond, refl, sym, ◌∙◌, ap, subst, Some, ◌⊎◌, inl, inr}
 use Rattle.std.proofs.lemmas.Bool.{false≢true}
 use Rattle.wcv_core.specs.Names.{Name, Place, base, member}
@@ -9,8 +9,8 @@ use Rattle.wcv_types.specs.Tree.{Parts}
 use Rattle.wcv_types.specs.Unfold.{Type_tree}
 use Rattle.wcv_matching.specs.Orderly.{height}
 use Rattle.wcv_lower.specs.Checks.{Checks, IsFree}
-use Rattle.wcv_lower.specs.Context.{Kind, in_types, Side, importing, exporting, is_concrete}
-use Rattle.wcv_lower.specs.Declared.{ended}
+use Rattle.wcv_lower.specs.Context.{Kind, concrete, declares_instance, declares_component, in_components, Side, importing, exporting, is_concrete}
+use Rattle.wcv_lower.specs.Declared.{closed_as, ended}
 use Rattle.wcv_lower.specs.Ending.{declared_made}
 use Rattle.wcv_lower.specs.Even.{IsBalanced}
 use Rattle.wcv_lower.specs.Growth.{unbuilt}
@@ -18,20 +18,21 @@ use Rattle.wcv_lower.specs.Names.{names_by_place}
 use Rattle.wcv_lower.specs.Owned.{OwnsNot, OwnApart, Everywhere, IsOwn, IsLed}
 use Rattle.wcv_lower.specs.Readers.{New_node}
 use Rattle.wcv_lower.specs.Step.{appends, Step, apply}
-use Rattle.wcv_lower.specs.Trees.{Tree_context, Tree_stack, tree_reader, type_entry, node_tree, tree_maker}
-use Rattle.wcv_lower.specs.Types.{added}
+use Rattle.wcv_lower.specs.Trees.{Tree_context, Tree_stack, tree_reader, node_tree, tree_maker}
 use Rattle.wcv_lower.proofs.Bringing.{AllBring, brings_one}
 use Rattle.wcv_lower.proofs.Calm.{around_has}
+use Rattle.wcv_lower.proofs.CalmEnds.{closed_bring}
 use Rattle.wcv_lower.proofs.EvenOwners.{with_owner, owned_high, raised_has}
 use Rattle.wcv_lower.proofs.EvenTypes.{balanced_inherited}
 use Rattle.wcv_lower.proofs.Members.{member_cases}
-use Rattle.wcv_lower.proofs.Owning.{Inherited, owns_not_inherited, own_apart_inherited, entry_has}
+use Rattle.wcv_lower.proofs.Owning.{Inherited, owns_not_inherited, own_apart_inherited}
 use Rattle.wcv_link.proofs.Charged.{AllCharged, all_twice, all_back, AllAmong, everywhere-has, listed-charged}
-use Rattle.wcv_link.proofs.Closed.{IsClosed}
-use Rattle.wcv_link.proofs.Growing.{Leads, AreInstances, Ready, Grows, Owns, does-grow, node-does}
+use Rattle.wcv_link.proofs.Closed.{Around, IsClosed}
+use Rattle.wcv_link.proofs.Growing.{Leads, Ready, Grows, Does, Owns, does-grow, same-does, node-does}
 use Rattle.wcv_link.proofs.Having.{names_in, member-has}
-use Rattle.wcv_link.proofs.Known.{Fine, In, ListedAmong, Listed, Any, everywhere-weaker}
+use Rattle.wcv_link.proofs.Known.{Fine, In, ListedAmong, Listed, Any}
 use Rattle.wcv_link.proofs.MayMake.{is_own}
+use Rattle.wcv_link.proofs.Near.{NearAmong, Near, AreSorted, near-around, all-charged}
 use Rattle.wcv_link.proofs.Outer.{around-parts, ends}
 use Rattle.wcv_link.proofs.Placed.{PlacedAt, PlacedUnder, placed_here, in_list, not_in_list}
 use Rattle.wcv_link.proofs.Settled.{Settles}
@@ -49,10 +50,9 @@ module _ (s t : Tree_stack) (c : AllCharged (s.top ∷ s.outer) (t.top ∷ t.out
 
   charged-ready : (p : Place) → Ready p s → Ready p t
   charged-ready p h = record {
-    fine = everywhere-weaker (Fine (Listed s)) (Fine (Listed t)) t (λ x w. ((λ r f. listed-charged s t c r (w.0 r f)), w.1)) (everywhere-has (Fine (Listed s)) s t c h.fine);
+    fine = all-charged (s.top ∷ s.outer) (t.top ∷ t.outer) c h.fine;
     leads = subst Leads (sym c.0.1) h.leads;
     led = λ k. subst IsLed (sym c.0.1) (h.led (sym (ap (λ (x : Tree_context). is_concrete x.kind) c.0.1) ∙ k));
-    instances = subst AreInstances (sym c.0.1) h.instances;
     unlisted = λ r u l. h.unlisted r u (same-listed r l);
     fresh = λ r u. everywhere-has (OwnsNot r) s t c (h.fresh r u);
     apart = everywhere-has OwnApart s t c h.apart;
@@ -67,7 +67,6 @@ module _ (s t : Tree_stack) (c : AllCharged (s.top ∷ s.outer) (t.top ∷ t.out
     fine = g.fine;
     leads = g.leads;
     led = g.led;
-    instances = g.instances;
     adds = record {
       more = g.adds.more;
       new = g.adds.new;
@@ -90,13 +89,26 @@ own-in c r o = go (member_cases r (names_in c.imported) (names_in c.defined) o)
     go (inl e) = inl (member-has c.imported r e)
     go (inr e) = inr (member-has c.defined r e)
 
+-- its node joins the types, or the components
+closed-sorted : (c : Kind) (p : Place) (n : New_node tree_reader) (t : Tree_stack) → AreSorted t.top → AreSorted (apply (closed_as {X = tree_reader} c (tree_maker names_by_place p) n) t).top
+closed-sorted concrete p n t h = h
+closed-sorted declares_instance p n t h = h
+closed-sorted declares_component p n t h = h
+
+closed-does : (c : Kind) (p : Place) (t : Tree_stack) → Ready p t → (n : New_node tree_reader) → Fine (Near t) (node_tree (base p) n) → Does exporting p t (closed_as c (tree_maker names_by_place p) n)
+closed-does concrete p t ready n w =
+    same-does p t ready (closed_as concrete (tree_maker names_by_place p) n) (brings_one (Fine (Near t)) Any (appends in_components (node_tree (base p) n)) w)
+    (record { imported = refl; defined = refl; imports = refl; exports = refl })
+closed-does declares_instance p t ready n w = node-does p t ready n w
+closed-does declares_component p t ready n w = node-does p t ready n w
+
 module _ (p : Place) (k : ℕ) (u t : Tree_stack) (h : Settles p k u) (around_it : u.outer ≡ t.top ∷ t.outer) (rest : (P : Type_tree → Type 0) → Everywhere P u → Everywhere P t) (ready : Ready p t) where
   -- of the stack around it
   further-out : (r : Name) → Listed t r → ListedAmong u.outer r
   further-out r l = subst (λ (cs : List Tree_context). ListedAmong cs r) (sym around_it) l
 
-  back-in : (r : Name) → ListedAmong u.outer r → Listed t r
-  back-in r l = subst (λ (cs : List Tree_context). ListedAmong cs r) around_it l
+  back-in : (r : Name) → Around u r → Near t r
+  back-in r l = near-around (is_concrete u.top.kind) t r (subst (λ (cs : List Tree_context). NearAmong (is_concrete u.top.kind) cs r) around_it l)
 
   -- what its context lists is given inside it
   listed-inside : (r : Name) → In u.top r → PlacedUnder p r
@@ -107,15 +119,15 @@ module _ (p : Place) (k : ℕ) (u t : Tree_stack) (h : Settles p k u) (around_it
   not-here r q (inl x) = not_in_list p k r q (h.imported r x)
   not-here r q (inr x) = not_in_list p k r q (h.defined r x)
 
-  module _ (n : New_node tree_reader) (w : IsClosed u (node_tree (base p) n)) where
+  module _ (c : Kind) (n : New_node tree_reader) (w : IsClosed u (node_tree (base p) n)) where
     abbrev made : Type_tree
     made = node_tree (base p) n
 
     abbrev joins : Step tree_reader
-    joins = added {X = tree_reader} (tree_maker names_by_place p) n
+    joins = closed_as {X = tree_reader} c (tree_maker names_by_place p) n
 
     brings : {P : Type_tree → Type 0} {In : Parts Name Name → Type 0} (law : Inherited P In) → P made → AllBring P Any joins
-    brings {P} law x = brings_one P Any (appends in_types (type_entry made)) (entry_has law made x)
+    brings {P} law x = closed_bring law Any n names_by_place p c x
 
     abbrev high : Name → ℕ
     high = with_owner h.balanced.0 u.top (height made)
@@ -139,10 +151,10 @@ module _ (p : Place) (k : ℕ) (u t : Tree_stack) (h : Settles p k u) (around_it
         }
 
     node-joins : Grows exporting p t (apply joins t)
-    node-joins = does-grow p t joins ready exporting owns ready.instances (node-does p t ready n ((λ r f. back-in r (w.within r f)), w.sound))
+    node-joins = does-grow p t joins ready exporting owns (closed-sorted c p n t ready.fine.0.sorted) (closed-does c p t ready n ((λ r f. back-in r (w.within r f)), w.sound))
 
 module _ (fs : WasmFeatures) where
-  -- the end of a declared type whose declarations settle
+  -- the end of what settles
   pub closes-grow : (k : Kind) (p : Place) (n : ℕ) (s u v : Tree_stack) → Settles p n u → AllCharged (s.top ∷ s.outer) u.outer → ended k (tree_maker names_by_place p) u ≡ Some v → Ready p s →
       ((m : New_node tree_reader) → declared_made k u.top ≡ Some m → IsClosed u (node_tree (base p) m)) → Grows exporting p s v
   closes-grow k p n s u v h around_it e ready closed =
@@ -150,8 +162,8 @@ module _ (fs : WasmFeatures) where
       let parts : u.outer ≡ w.stack.top ∷ w.stack.outer = around-parts u w.stack w.stood in
       let c : AllCharged (s.top ∷ s.outer) (w.stack.top ∷ w.stack.outer) = subst (AllCharged (s.top ∷ s.outer)) parts around_it in
       subst (λ (x : Tree_stack). Grows exporting p s x) w.joined
-      (charged-grows s w.stack c p (apply (added (tree_maker names_by_place p) w.node) w.stack)
-      (node-joins p n u w.stack h parts (around_has u w.stack w.stood) (charged-ready s w.stack c p ready) w.node (closed w.node w.made)))
+      (charged-grows s w.stack c p (apply (closed_as k (tree_maker names_by_place p) w.node) w.stack)
+      (node-joins p n u w.stack h parts (around_has u w.stack w.stood) (charged-ready s w.stack c p ready) k w.node (closed w.node w.made)))
 
 -- ## Declarations
 

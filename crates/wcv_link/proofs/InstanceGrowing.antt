@@ -36,8 +36,9 @@ use Rattle.wcv_link.proofs.BareGiven.{given_for-each, looked-up}
 use Rattle.wcv_link.proofs.CoreGrowing.{if-some}
 use Rattle.wcv_link.proofs.Growing.{Ready, AreNew, Does, nothing-new}
 use Rattle.wcv_link.proofs.Having.{Has, has-right, has-beside, has-beside_back, Once, once-beside}
-use Rattle.wcv_link.proofs.Known.{mapped-some, then-some, all-get, Fine, node-within, Listed, Any, After, listed-apply}
+use Rattle.wcv_link.proofs.Known.{mapped-some, then-some, all-get, Fine, node-within, Any}
 use Rattle.wcv_link.proofs.MayMake.{opening-hygienic}
+use Rattle.wcv_link.proofs.Near.{Near, near-listed, After, near-apply}
 use Rattle.wcv_link.proofs.Opened.{FreeAmong, free-instantiated}
 use Rattle.wcv_link.proofs.Sound.{IsSoundNode, IsSound, entries-sound, exports-sound, replaced-sound}
 use Rattle.wcv_link.proofs.Tidy.{Known, TidyEntry, tidy-bare}
@@ -54,8 +55,8 @@ opened-pair args t y true e = (refl, some-inj e)
 opened-pair args t y false e = cc
 
 module _ (p : Place) (s : Tree_stack) (h : Ready p s) (c : is_concrete s.top.kind ≡ true) where
-  abbrev top-fine : AllEntries (Fine (Listed s)) s.top
-  top-fine = h.fine zero s.top refl
+  abbrev top-fine : AllEntries (Fine (Near s)) s.top
+  top-fine = h.fine.0.entries
 
   -- an instance whose resources are new
   joined-does : (b : Brought tree_reader) → Fine (After (instance_joins b) s) b.entity → AreNew p b.resources → Does exporting p s (instance_joins b)
@@ -80,11 +81,11 @@ module _ (p : Place) (s : Tree_stack) (h : Ready p s) (c : is_concrete s.top.kin
   instance_listed es = bare tree_reader (node_tree (base p) (listing es))
 
   listed-inside : (es : List ComponentExport) (r : Name) → FreeIn r (entries export (listed s.top es) none) → After (instance_joins (instance_listed es)) s r
-  listed-inside es r x = listed-apply (instance_joins (instance_listed es)) s r (within-entries (Listed s) (listed s.top es) (listed_have (Fine (Listed s)) s.top top-fine es) r x)
+  listed-inside es r x = near-apply (instance_joins (instance_listed es)) s r (within-entries (Near s) (listed s.top es) (listed_have (Fine (Near s)) s.top top-fine es) r x)
 
   listed-sound : (es : List ComponentExport) → IsSound (instance_listed es).entity
   listed-sound es =
-      ((tt, All-nil _), entries-sound export (listed s.top es) none (All-weaker (λ (e : Extern_name × Type_tree). Fine (Listed s) e.1) (λ (e : Extern_name × Type_tree). IsSound e.1) (λ e w. w.1) (listed s.top es) (listed_have (Fine (Listed s)) s.top top-fine es)) tt)
+      ((tt, All-nil _), entries-sound export (listed s.top es) none (All-weaker (λ (e : Extern_name × Type_tree). Fine (Near s) e.1) (λ (e : Extern_name × Type_tree). IsSound e.1) (λ e w. w.1) (listed s.top es) (listed_have (Fine (Near s)) s.top top-fine es)) tt)
 
   listed-fine : (es : List ComponentExport) → Fine (After (instance_joins (instance_listed es)) s) (instance_listed es).entity
   listed-fine es = (node-within (After (instance_joins (instance_listed es)) s) (instance (base p) []) (entries export (listed s.top es) none) (λ r x. x) (listed-inside es), listed-sound es)
@@ -157,19 +158,19 @@ module _ (p : Place) (s : Tree_stack) (h : Ready p s) (c : is_concrete s.top.kin
         gives : (i : Identity) (u : Type_tree) → m.nodes i ≡ Some u → IsSound u
         gives i u e = looked-up (λ (x : Identity × Type_tree). IsSound x.1) i (given_for args (named_imports t)) u (given_for-each IsSoundNode (tt, tt) args (named_imports t) a) e
 
-  among-in : (args : List (Text × Type_tree)) (r : Name) → All (λ (e : Text × Type_tree). Fine (Listed s) e.1) args → FreeAmong r args → Listed s r
+  among-in : (args : List (Text × Type_tree)) (r : Name) → All (λ (e : Text × Type_tree). Fine (Near s) e.1) args → FreeAmong r args → Near s r
   among-in [] r a f = absurd f
-  among-in (e ∷ es) r a (inl f) = (All-head (λ (e : Text × Type_tree). Fine (Listed s) e.1) e es a).0 r f
-  among-in (e ∷ es) r a (inr f) = among-in es r (All-tail (λ (e : Text × Type_tree). Fine (Listed s) e.1) e es a) f
+  among-in (e ∷ es) r a (inl f) = (All-head (λ (e : Text × Type_tree). Fine (Near s) e.1) e es a).0 r f
+  among-in (e ∷ es) r a (inr f) = among-in es r (All-tail (λ (e : Text × Type_tree). Fine (Near s) e.1) e es a) f
 
   -- what is free in an instance that is opened is free in the component or in an argument, or new
-  opened-inside : (args : List (Text × Type_tree)) (t : Type_tree) → All (λ (e : Text × Type_tree). Fine (Listed s) e.1) args → Fine (Listed s) t → All (λ (e : Text × Type_tree). IsBare e.1) args → IsBare t → tree_reader.opens s.groups args t ≡ true →
+  opened-inside : (args : List (Text × Type_tree)) (t : Type_tree) → All (λ (e : Text × Type_tree). Fine (Near s) e.1) args → Fine (Near s) t → All (λ (e : Text × Type_tree). IsBare e.1) args → IsBare t → tree_reader.opens s.groups args t ≡ true →
       (r : Name) → Free r (instance_of args t).entity → After (instance_joins (instance_of args t)) s r
   opened-inside args t a w b u o r f = go (free-instantiated s.groups p args b t u w.1 o r f)
     where
       go : Free r t ⊎ (FreeAmong r args ⊎ Has (instance_of args t).resources r) → After (instance_joins (instance_of args t)) s r
-      go (inl x) = listed-apply (instance_joins (instance_of args t)) s r (w.0 r x)
-      go (inr (inl x)) = listed-apply (instance_joins (instance_of args t)) s r (among-in args r a x)
+      go (inl x) = near-apply (instance_joins (instance_of args t)) s r (w.0 r x)
+      go (inr (inl x)) = near-apply (instance_joins (instance_of args t)) s r (among-in args r a x)
       go (inr (inr x)) = inl (inr (has-right s.top.defined (unknown (instance_of args t).resources) r (has-beside (λ x. None) (instance_of args t).resources r x)))
 
   module _ (g : Known) (y : AllEntries (TidyEntry g) s.top) where
@@ -177,11 +178,11 @@ module _ (p : Place) (s : Tree_stack) (h : Ready p s) (c : is_concrete s.top.kin
     are-bare = tidy-bare g s.top y
 
     -- no type owns what is free in a component, and it owns apart
-    opened-hygienic : (i : ℕ) (t : Type_tree) → component_at s.top i ≡ Some t → Fine (Listed s) t → (args : List (Text × Type_tree)) → All (λ (e : Extern_name × Type_tree). Hygienic (opening names_by_place p args t) e.1) (exports t)
+    opened-hygienic : (i : ℕ) (t : Type_tree) → component_at s.top i ≡ Some t → Fine (Near s) t → (args : List (Text × Type_tree)) → All (λ (e : Extern_name × Type_tree). Hygienic (opening names_by_place p args t) e.1) (exports t)
     opened-hygienic i t e w args =
         opening-hygienic g p t args (all-get (TidyEntry g) (s.top.space in_components) i t (y.space in_components) e)
         (apart_outside t (all-get OwnApart (s.top.space in_components) i t ((h.apart zero s.top refl).space in_components) e))
-        (λ r x. all-get (OwnsNot r) (s.top.space in_components) i t ((h.spared r (w.0 r x) zero s.top refl).space in_components) e)
+        (λ r x. all-get (OwnsNot r) (s.top.space in_components) i t ((h.spared r (near-listed s r (w.0 r x)) zero s.top refl).space in_components) e)
 
     instantiate-does : (i : ℕ) (given : List ComponentInstantiationArg) (x : Step tree_reader) → instance_step (tree_maker names_by_place p) s (instantiate i given) ≡ Some x → Does exporting p s x
     instantiate-does i given x e =
@@ -191,11 +192,11 @@ module _ (p : Place) (s : Tree_stack) (h : Ready p s) (c : is_concrete s.top.kin
         let n = if-some (list_all (λ (a : ComponentInstantiationArg). not (is_none (argument_at s.top a))) given) (option_and_then (if_opened tree_reader s.groups args) (component_at s.top i)) o.0 o.1 in
         let t = then-some (if_opened tree_reader s.groups args) (component_at s.top i) o.0 n in
         let q = opened-pair args t.0 o.0 (tree_reader.opens s.groups args t.0) t.2 in
-        let w : Fine (Listed s) t.0 = all-get (Fine (Listed s)) (s.top.space in_components) i t.0 (top-fine.space in_components) t.1 in
+        let w : Fine (Near s) t.0 = all-get (Fine (Near s)) (s.top.space in_components) i t.0 (top-fine.space in_components) t.1 in
         let v : IsBare t.0 = all-get IsBare (s.top.space in_components) i t.0 (are-bare.space in_components) t.1 in
-        let a : All (λ (e : Text × Type_tree). Fine (Listed s) e.1) args = arguments_have (Fine (Listed s)) s.top top-fine given in
+        let a : All (λ (e : Text × Type_tree). Fine (Near s) e.1) args = arguments_have (Fine (Near s)) s.top top-fine given in
         let sound : IsSound (instance_of args t.0).entity =
-        opened-sound args t.0 (All-weaker (λ (e : Text × Type_tree). Fine (Listed s) e.1) (λ (e : Text × Type_tree). IsSound e.1) (λ e w. w.1) args a) w.1 (opened-hygienic i t.0 t.1 w args) in
+        opened-sound args t.0 (All-weaker (λ (e : Text × Type_tree). Fine (Near s) e.1) (λ (e : Text × Type_tree). IsSound e.1) (λ e w. w.1) args a) w.1 (opened-hygienic i t.0 t.1 w args) in
         subst (Does exporting p s) m.2
         (subst (λ (b : Brought tree_reader). Does exporting p s (instance_joins b)) o.2
         (subst (λ (y : List (Text × Type_tree) × Type_tree). Does exporting p s (instance_joins (instance_of_component (tree_maker names_by_place p) y))) q.1

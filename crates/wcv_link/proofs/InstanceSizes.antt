@@ -1,5 +1,5 @@
 -- The size and the depth that a type is kept with are past a limit exactly where those of its tree are.
-use Rattle.std.proofs.Common.{◌≡◌, ◌<◌, ℕ, ◌++◌, Bool, min, ◌∙◌, ap, arith}
+use Rattle.std.proofs.Common.{◌≡◌, ◌<◌, ℕ, ◌++◌, min, ◌∙◌, ap, arith}
 use Rattle.std.specs.Prelude.{nat_lt, [], ◌∷◌}
 use Rattle.std.proofs.lemmas.Bool.Decides.{nat_tests}
 use Rattle.wcv_core.specs.declared.error.ErrorKind.TheVariants as kind

@@ -1,26 +1,29 @@
--- What items append to the instances is an instance.
+-- What items append to the instances is an instance, to the core modules a core module, and nothing is free in what they append to the
+-- core types.
 use Rattle.std.proofs.Common.{◌≡◌, ℕ, zero, suc, List, [], ◌∷◌, ◌++◌, Bool, true, false, ◌&&◌, not, cond, refl, Some, None}
-use Rattle.std.specs.Prelude.{All, Option}
+use Rattle.std.specs.Prelude.{All, Option, slice_get}
 use Rattle.std.specs.Option.{option_map}
 use Rattle.std.specs.List.{list_all}
 use Rattle.std.proofs.lemmas.List.Elements.{All-nil, All-cons, All-append, All-head, All-tail, All-push}
 use Rattle.wcv_core.specs.CoreForm.{Group}
 use Rattle.wcv_core.specs.CoreJoining.{first_id, group_ids, grown}
 use Rattle.wcv_core.specs.CoreWritten.{closed_group}
-use Rattle.wcv_core.specs.Names.{Place, base}
+use Rattle.wcv_core.specs.Names.{Name, Place, base}
 use Rattle.wcv_core.specs.declared.core_types.EntityType.TheVariants as entity
 use Rattle.wcv_core.specs.declared.features.WasmFeatures.{WasmFeatures}
-use Rattle.wcv_syntax.specs.Model.{Form, core_type_item, core_module_item, core_instance_item, type_item, import_item, export_item, component_item, instance_item, alias_item, start_item, canon_item, unread, Type_form, defined_type, func_type, component_type, instance_type, resource_type, Core_type_form, core_rec, core_module_type, Instance_form, instantiate, bag}
-use Rattle.wcv_syntax.specs.ModuleTypes.{Made}
+use Rattle.wcv_syntax.specs.Model.{Form, core_type_item, core_module_item, core_instance_item, type_item, import_item, export_item, component_item, instance_item, alias_item, start_item, canon_item, Type_form, defined_type, func_type, component_type, instance_type, resource_type, Core_type_form, core_rec, core_module_type, Instance_form, instantiate, bag}
+use Rattle.wcv_syntax.specs.ModuleTypes.{Module_type, Made}
+use Rattle.wcv_syntax.specs.declared.core_section.ExternalKind.{ExternalKind}
+use Rattle.wcv_syntax.specs.declared.core_section.ExternalKind.TheVariants as external
 use Rattle.wcv_syntax.specs.declared.instance.ComponentAlias.{ComponentAlias}
 use Rattle.wcv_syntax.specs.declared.instance.ComponentAlias.TheVariants as alias
 use Rattle.wcv_syntax.specs.declared.instance.ComponentOuterAliasKind.{ComponentOuterAliasKind}
 use Rattle.wcv_syntax.specs.declared.instance.ComponentOuterAliasKind.TheVariants as outer
 use Rattle.wcv_syntax.specs.declared.name.ComponentExport.{ComponentExport}
 use Rattle.wcv_types.specs.Tree.{Extern_name, Sort, is_nothing, is_value, is_resource, is_func, is_instance, is_component, is_type, is_module, is_core_instance, is_core_type, is_core_item, sort}
-use Rattle.wcv_lower.specs.Aliases.{joining, outer_at, outer_joins, is_charged, concrete_at, charged, alias_step}
+use Rattle.wcv_lower.specs.Aliases.{joining, outer_items, outer_at, outer_joins, is_charged, concrete_at, charged, alias_step}
 use Rattle.wcv_lower.specs.Checks.{is_none}
-use Rattle.wcv_lower.specs.Context.{in_types, in_funcs, in_values, in_instances, in_components, core_types, core_funcs, core_modules, core_instances, Core_space, Side, importing, exporting, is_concrete}
+use Rattle.wcv_lower.specs.Context.{in_types, in_funcs, in_values, in_instances, in_components, core_types, core_funcs, core_modules, core_instances, Core_space, Side, importing, exporting, is_concrete, at_distance}
 use Rattle.wcv_lower.specs.CoreInstances.{space_of, core_instance_made, core_instance_step, item_joins}
 use Rattle.wcv_lower.specs.CoreInstances as core
 use Rattle.wcv_lower.specs.CoreItems.{core_entries, is_closable, types_join, closed_step, module_joins, core_type_made, core_type_step, core_module_made, core_module_step}
@@ -31,41 +34,50 @@ use Rattle.wcv_lower.specs.Names.{names_by_place}
 use Rattle.wcv_lower.specs.NewTypes.{new_reference}
 use Rattle.wcv_lower.specs.Readers.{instance_node}
 use Rattle.wcv_lower.specs.Step.{Change, appends, lists, introduces, defines, creates, core_appends, interns, charges, types_slots, Step, Brought, joins_types, joins, enters, change, apply}
-use Rattle.wcv_lower.specs.Trees.{Type_tree, Entries, Tree_stack, tree_reader, tree_maker, module_tree, node_tree, type_entry, created}
+use Rattle.wcv_lower.specs.Trees.{Type_tree, Entries, Tree_context, Tree_stack, tree_reader, tree_maker, module_tree, node_tree, type_entry, created}
 use Rattle.wcv_lower.specs.Types.{type_made, added, type_step}
 use Rattle.wcv_lower.proofs.Bringing.{OfAny, of_some, any_cond}
 use Rattle.wcv_link.proofs.CanonGrowing.{canon-holds}
-use Rattle.wcv_link.proofs.Growing.{AreInstances}
+use Rattle.wcv_link.proofs.CoreGrowing.{sub-fine, made-fine}
+use Rattle.wcv_link.proofs.Known.{then-some, all-get, Within}
+use Rattle.wcv_link.proofs.Near.{AreSorted, IsFine, fine-at}
 
--- what a change appends to the instances is one
+-- what a change appends is as the entries of its space are
 abbrev pub Joins : Change tree_reader → Type 0
 Joins (appends in_instances t) = sort t ≡ is_instance
+Joins (core_appends core_modules t) = sort t ≡ is_module
+Joins (core_appends core_types t) = Within (λ r. ⊥) t
 Joins x = Unit {0}
 
 abbrev pub AllJoin : Step tree_reader → Type 0
 AllJoin x = All Joins x
 
--- so they are instances behind it
-instance-change : (x : Change tree_reader) (s : Tree_stack) → Joins x → AreInstances s.top → AreInstances (change x s).top
-instance-change (appends in_types t) s w h = h
-instance-change (appends in_funcs t) s w h = h
-instance-change (appends in_values t) s w h = h
-instance-change (appends in_instances t) s w h = All-push (λ t. sort t ≡ is_instance) (s.top.space in_instances) t h w
-instance-change (appends in_components t) s w h = h
-instance-change (lists d n t) s w h = h
-instance-change (introduces importing rs) s w h = h
-instance-change (introduces exporting rs) s w h = h
-instance-change (defines r v) s w h = h
-instance-change (creates d is) s w h = h
-instance-change (core_appends k t) s w h = h
-instance-change (interns gs) s w h = h
-instance-change (charges zero n) s w h = h
-instance-change (charges (suc k) n) s w h = h
-instance-change (types_slots v) s w h = h
+-- so they are behind it
+sorted-core : (k : Core_space) (t : Type_tree) (s : Tree_stack) → Joins (core_appends k t) → AreSorted s.top → AreSorted (change {X = tree_reader} (core_appends k t) s).top
+sorted-core core_types t s w h = (h.0, h.1, All-push (Within (λ r. ⊥)) (s.top.core core_types) t h.2 w)
+sorted-core core_modules t s w h = (h.0, All-push (λ t. sort t ≡ is_module) (s.top.core core_modules) t h.1 w, h.2)
+sorted-core k t s w h = h
 
-pub still-instances : (x : Step tree_reader) (s : Tree_stack) → AllJoin x → AreInstances s.top → AreInstances (apply x s).top
-still-instances [] s w h = h
-still-instances (y ∷ x) s w h = still-instances x (change y s) (All-tail Joins y x w) (instance-change y s (All-head Joins y x w) h)
+sorted-change : (x : Change tree_reader) (s : Tree_stack) → Joins x → AreSorted s.top → AreSorted (change x s).top
+sorted-change (appends in_types t) s w h = h
+sorted-change (appends in_funcs t) s w h = h
+sorted-change (appends in_values t) s w h = h
+sorted-change (appends in_instances t) s w h = (All-push (λ t. sort t ≡ is_instance) (s.top.space in_instances) t h.0 w, h.1, h.2)
+sorted-change (appends in_components t) s w h = h
+sorted-change (lists d n t) s w h = h
+sorted-change (introduces importing rs) s w h = h
+sorted-change (introduces exporting rs) s w h = h
+sorted-change (defines r v) s w h = h
+sorted-change (creates d is) s w h = h
+sorted-change (core_appends k t) s w h = sorted-core k t s w h
+sorted-change (interns gs) s w h = h
+sorted-change (charges zero n) s w h = h
+sorted-change (charges (suc k) n) s w h = h
+sorted-change (types_slots v) s w h = h
+
+pub still-sorted : (x : Step tree_reader) (s : Tree_stack) → AllJoin x → AreSorted s.top → AreSorted (apply x s).top
+still-sorted [] s w h = h
+still-sorted (y ∷ x) s w h = still-sorted x (change y s) (All-tail Joins y x w) (sorted-change y s (All-head Joins y x w) h)
 
 -- ## Steps
 
@@ -89,7 +101,7 @@ joins-all is_value t e = one (appends in_values t) tt
 joins-all is_instance t e = one (appends in_instances t) e
 joins-all is_component t e = one (appends in_components t) tt
 joins-all is_type t e = one (appends in_types (created t)) tt
-joins-all is_module t e = one (core_appends core_modules t) tt
+joins-all is_module t e = one (core_appends core_modules t) e
 joins-all is_resource t e = All-nil Joins
 joins-all is_nothing t e = All-nil Joins
 joins-all is_core_instance t e = All-nil Joins
@@ -105,13 +117,27 @@ entry-joins d n b =
 
 types-all : (is : List ℕ) → AllJoin (types_join tree_reader is)
 types-all [] = All-nil Joins
-types-all (i ∷ is) = more (core_appends core_types (tree_reader.core_type i)) (types_join tree_reader is) tt (types-all is)
+types-all (i ∷ is) = more (core_appends core_types (tree_reader.core_type i)) (types_join tree_reader is) (sub-fine (λ r. ⊥) i).0 (types-all is)
+
+-- a module type, or a core module
+module-one : (k : Core_space) (i : Name) (m : Module_type) → Joins (core_appends k (module_tree i m))
+module-one core_types i m = (made-fine (λ r. ⊥) i m).0
+module-one core_modules i m = refl
+module-one k i m = tt
+
+-- a core item
+item-one : (w : ExternalKind) (t : Type_tree) → Joins (core_appends (space_of w) t)
+item-one external.Func t = tt
+item-one external.Table t = tt
+item-one external.Memory t = tt
+item-one external.Global t = tt
+item-one external.Tag t = tt
 
 -- the core function that joins
 abbrev func_item : List Group → Group → Type_tree
 func_item gs g = tree_reader.core_item (entity.Func (record { index = first_id gs g }))
 
-module _ (p : Place) (s : Tree_stack) where
+module _ (p : Place) (s : Tree_stack) (h : IsFine s) where
   type-joins : (t : Type_form) → OfAny AllJoin (type_step (tree_maker names_by_place p) s.top t)
   type-joins (defined_type d) = mapped (added (tree_maker names_by_place p)) (λ n. one (appends in_types (type_entry (node_tree (base p) n))) tt) (type_made s.top (defined_type d))
   type-joins (func_type f) = mapped (added (tree_maker names_by_place p)) (λ n. one (appends in_types (type_entry (node_tree (base p) n))) tt) (type_made s.top (func_type f))
@@ -126,7 +152,7 @@ module _ (p : Place) (s : Tree_stack) where
 
   module-joins : (k : Core_space) (o : Option Made) → OfAny AllJoin (option_map (module_joins (tree_maker names_by_place p) k) o)
   module-joins k o =
-      mapped (module_joins (tree_maker names_by_place p) k) (λ m. more (interns m.0) (core_appends k (module_tree (base p) m.1) ∷ []) tt (one (core_appends k (module_tree (base p) m.1)) tt)) o
+      mapped (module_joins (tree_maker names_by_place p) k) (λ m. more (interns m.0) (core_appends k (module_tree (base p) m.1) ∷ []) tt (one (core_appends k (module_tree (base p) m.1)) (module-one k (base p) m.1))) o
 
   core_type-joins : (fs : WasmFeatures) (t : Core_type_form) → OfAny AllJoin (core_type_step fs (tree_maker names_by_place p) s t)
   core_type-joins fs (core_rec w) = any_cond AllJoin (is_closable s.groups (core_entries s.top) w) (closed_step tree_reader s.groups (closed_group (core_entries s.top) w)) (closed-joins (closed_group (core_entries s.top) w))
@@ -147,11 +173,18 @@ module _ (p : Place) (s : Tree_stack) where
 
   -- ## Aliases
 
-  out-joins : (w : ComponentOuterAliasKind) (t : Type_tree) → AllJoin (outer_joins w t)
-  out-joins outer.CoreModule t = one (core_appends core_modules t) tt
-  out-joins outer.CoreType t = one (core_appends core_types t) tt
-  out-joins outer.Ty t = one (appends in_types t) tt
-  out-joins outer.Component t = one (appends in_components t) tt
+  -- what stands further out is as the entries of its space are there
+  out-joins : (w : ComponentOuterAliasKind) (n i : ℕ) (t : Type_tree) → outer_at s w n i ≡ Some t → AllJoin (outer_joins w t)
+  out-joins w n i t e =
+      let c = then-some (λ (c : Tree_context). slice_get (outer_items w c) i) (at_distance n s) t e in
+      let f = fine-at (s.top ∷ s.outer) n c.0 h c.1 in
+      go w c.0 f.1.sorted c.2
+    where
+      go : (w : ComponentOuterAliasKind) (c : Tree_context) → AreSorted c → slice_get (outer_items w c) i ≡ Some t → AllJoin (outer_joins w t)
+      go outer.CoreModule c a q = one (core_appends core_modules t) (all-get (λ t. sort t ≡ is_module) (c.core core_modules) i t a.1 q)
+      go outer.CoreType c a q = one (core_appends core_types t) (all-get (Within (λ r. ⊥)) (c.core core_types) i t a.2 q)
+      go outer.Ty c a q = one (appends in_types t) tt
+      go outer.Component c a q = one (appends in_components t) tt
 
   charge-joins : (w : ComponentOuterAliasKind) (n : ℕ) (t : Type_tree) → AllJoin (charged s w n t)
   charge-joins w zero t = All-nil Joins
@@ -163,8 +196,12 @@ module _ (p : Place) (s : Tree_stack) where
 
   aliases-join : (a : ComponentAlias) → OfAny AllJoin (alias_step s a)
   aliases-join (alias.InstanceExport w i n) = mapped joining (λ t. joins-all (sort t) t refl) _
-  aliases-join (alias.CoreInstanceExport w i n) = mapped (item_joins tree_reader w) (λ e. one (core_appends (space_of w) (tree_reader.core_item e)) tt) _
-  aliases-join (alias.Outer w n i) = mapped (λ t. charged s w n t ++ outer_joins w t) (λ t. All-append Joins (charged s w n t) (outer_joins w t) (charge-joins w n t) (out-joins w t)) (outer_at s w n i)
+  aliases-join (alias.CoreInstanceExport w i n) = mapped (item_joins tree_reader w) (λ e. one (core_appends (space_of w) (tree_reader.core_item e)) (item-one w (tree_reader.core_item e))) _
+  aliases-join (alias.Outer w n i) = go (outer_at s w n i) refl
+    where
+      go : (o : Option Type_tree) → outer_at s w n i ≡ o → OfAny AllJoin (option_map (λ t. charged s w n t ++ outer_joins w t) o)
+      go None e = tt
+      go (Some t) e = All-append Joins (charged s w n t) (outer_joins w t) (charge-joins w n t) (out-joins w n i t e)
 
   -- ## Items
 
@@ -180,4 +217,3 @@ module _ (p : Place) (s : Tree_stack) where
   items-join fs (alias_item a) x e = of_some AllJoin (alias_step s a) x (aliases-join a) e
   items-join fs (start_item k args results) x e = cc
   items-join fs (canon_item c) x e = canon-holds s AllJoin (λ v y w. more (types_slots v) y tt w) (λ g. more (interns (grown s.groups g)) (core_appends core_funcs (func_item s.groups g) ∷ []) tt (one (core_appends core_funcs (func_item s.groups g)) tt)) (λ k t q. one (appends in_funcs t) tt) c x e
-  items-join fs unread x e = cc

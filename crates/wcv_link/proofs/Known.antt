@@ -1,4 +1,4 @@
--- What a step brings to a context: entries in which what is free is listed, and sound ones.
+-- What a step brings to a context: entries in which what is free has a property, and sound ones.
 use Rattle.std.proofs.Common.{◌≡◌, ℕ, zero, suc, List, [], ◌∷◌, length, refl, ◌∙◌, subst, Some, None, ◌⊎◌, inl, inr}
 use Rattle.std.specs.Prelude.{All, slice_get, Option}
 use Rattle.std.specs.Option.{option_map, option_and_then}
@@ -7,15 +7,14 @@ use Rattle.std.proofs.lemmas.Option.{slice_get_within, get_or_from_slice_get}
 use Rattle.wcv_core.specs.Names.{Name}
 use Rattle.wcv_types.specs.Resources.{RefersTo, Free, FreeIn}
 use Rattle.wcv_types.specs.Tree as tree
-use Rattle.wcv_types.specs.Tree.{Extern_name, Head, nothing, type_entity, Sort, is_nothing, is_value, is_resource, is_func, is_instance, is_component, is_type, is_module, is_core_instance, is_core_type, is_core_item, sort, node, Parts, none, part, first_part, rest_parts, type_of}
+use Rattle.wcv_types.specs.Tree.{Extern_name, Head, type_entity, Sort, is_nothing, is_value, is_resource, is_func, is_instance, is_component, is_type, is_module, is_core_instance, is_core_type, is_core_item, sort, node, Parts, none, part, first_part, rest_parts, type_of}
 use Rattle.wcv_types.proofs.Lists.{some-inj}
-use Rattle.wcv_lower.specs.Context.{in_types, in_funcs, in_values, in_instances, in_components, core_modules, Side, importing, exporting, placed, unknown, charge}
+use Rattle.wcv_lower.specs.Context.{in_types, in_funcs, in_values, in_instances, in_components, core_modules, Side, importing, exporting, placed, unknown}
 use Rattle.wcv_lower.specs.Mapped.{map_context}
-use Rattle.wcv_lower.specs.Owned.{AllEntries, Everywhere}
+use Rattle.wcv_lower.specs.Owned.{AllEntries}
 use Rattle.wcv_lower.specs.Renamed.{Renaming, renaming}
-use Rattle.wcv_lower.specs.Step.{Change, appends, lists, introduces, defines, creates, core_appends, interns, charges, types_slots, Step, change_at, change, apply, joins, enters, Brought}
+use Rattle.wcv_lower.specs.Step.{Change, appends, lists, introduces, defines, creates, core_appends, interns, charges, types_slots, Step, change, apply, joins, enters, Brought}
 use Rattle.wcv_lower.specs.Trees.{Type_tree, Tree_context, Tree_stack, tree_reader, created, referenced}
-use Rattle.wcv_lower.proofs.Applied.{applied_has}
 use Rattle.wcv_lower.proofs.Bringing.{Brings, AllBring, brings_one, brings_more}
 use Rattle.wcv_link.proofs.Having.{Has, has-left, has-renamed_back}
 use Rattle.wcv_link.proofs.Sound.{IsSound, created-sound}
@@ -111,13 +110,6 @@ ListedAmong (c ∷ cs) r = In c r ⊎ ListedAmong cs r
 abbrev pub Listed : Tree_stack → Name → Type 0
 Listed s r = In s.top r ⊎ ListedAmong s.outer r
 
-pub everywhere-weaker : (P Q : Type_tree → Type 0) (s : Tree_stack) → ((t : Type_tree) → P t → Q t) → Everywhere P s → Everywhere Q s
-everywhere-weaker P Q s f h j c e = entries-weaker P Q c f (h j c e)
-
--- each entry is sound, and what is free in it is listed
-abbrev pub IsFine : Tree_stack → Type 0
-IsFine s = Everywhere (Fine (Listed s)) s
-
 -- ## Steps
 
 -- any resource
@@ -148,46 +140,25 @@ module _ (E : Type_tree → Type 0) (creates_too : (t : Type_tree) → E t → E
 
 -- ## What was listed stays so
 
-charged-among : (k n : ℕ) (cs : List Tree_context) (r : Name) → ListedAmong cs r → ListedAmong (change_at k (charge {X = tree_reader} n) cs) r
-charged-among k n [] r h = absurd h
-charged-among zero n (c ∷ cs) r (inl h) = inl h
-charged-among zero n (c ∷ cs) r (inr h) = inr h
-charged-among (suc k) n (c ∷ cs) r (inl h) = inl h
-charged-among (suc k) n (c ∷ cs) r (inr h) = inr (charged-among k n cs r h)
+in-change : (x : Change tree_reader) (s : Tree_stack) (r : Name) → In s.top r → In (change x s).top r
+in-change (introduces importing rs) s r (inl h) = inl (has-left s.top.imported (placed (length (s.top.side importing)) rs) r h)
+in-change (introduces importing rs) s r (inr h) = inr h
+in-change (introduces exporting rs) s r (inl h) = inl h
+in-change (introduces exporting rs) s r (inr h) = inr (has-left s.top.defined (unknown rs) r h)
+in-change (defines q v) s r (inl h) = inl h
+in-change (defines q v) s r (inr h) = inr (has-left s.top.defined ((q, v) ∷ []) r h)
+in-change (appends k t) s r h = h
+in-change (lists d n t) s r h = h
+in-change (creates d is) s r h = h
+in-change (core_appends k t) s r h = h
+in-change (interns gs) s r h = h
+in-change (charges zero n) s r h = h
+in-change (charges (suc k) n) s r h = h
+in-change (types_slots v) s r h = h
 
-listed-change : (x : Change tree_reader) (s : Tree_stack) (r : Name) → Listed s r → Listed (change x s) r
-listed-change (appends k t) s r h = h
-listed-change (lists d n t) s r h = h
-listed-change (introduces importing rs) s r (inl (inl h)) = inl (inl (has-left s.top.imported (placed (length (s.top.side importing)) rs) r h))
-listed-change (introduces importing rs) s r (inl (inr h)) = inl (inr h)
-listed-change (introduces exporting rs) s r (inl (inl h)) = inl (inl h)
-listed-change (introduces exporting rs) s r (inl (inr h)) = inl (inr (has-left s.top.defined (unknown rs) r h))
-listed-change (introduces importing rs) s r (inr h) = inr h
-listed-change (introduces exporting rs) s r (inr h) = inr h
-listed-change (defines q v) s r (inl (inl h)) = inl (inl h)
-listed-change (defines q v) s r (inl (inr h)) = inl (inr (has-left s.top.defined ((q, v) ∷ []) r h))
-listed-change (defines q v) s r (inr h) = inr h
-listed-change (creates d is) s r h = h
-listed-change (core_appends k t) s r h = h
-listed-change (interns gs) s r h = h
-listed-change (charges zero n) s r h = h
-listed-change (charges (suc k) n) s r (inl h) = inl h
-listed-change (charges (suc k) n) s r (inr h) = inr (charged-among k n s.outer r h)
-listed-change (types_slots v) s r h = h
-
-pub listed-apply : (p : Step tree_reader) (s : Tree_stack) (r : Name) → Listed s r → Listed (apply p s) r
-listed-apply [] s r h = h
-listed-apply (x ∷ xs) s r h = listed-apply xs (change x s) r (listed-change x s r h)
-
--- what is listed after a step
-abbrev pub After : Step tree_reader → Tree_stack → Name → Type 0
-After p s = Listed (apply p s)
-
-pub later-fine : (p : Step tree_reader) (s : Tree_stack) (t : Type_tree) → Fine (Listed s) t → Fine (After p s) t
-later-fine p s t w = ((λ r x. listed-apply p s r (w.0 r x)), w.1)
-
-pub grown-fine : (p : Step tree_reader) (s : Tree_stack) → AllBring (Fine (After p s)) Any p → IsFine s → IsFine (apply p s)
-grown-fine p s f h = applied_has (Fine (After p s)) Any p s (everywhere-weaker (Fine (Listed s)) (Fine (After p s)) s (later-fine p s) h) f
+pub in-apply : (p : Step tree_reader) (s : Tree_stack) (r : Name) → In s.top r → In (apply p s).top r
+in-apply [] s r h = h
+in-apply (x ∷ xs) s r h = in-apply xs (change x s) r (in-change x s r h)
 
 -- its kind stays
 change-kind : (x : Change tree_reader) (s : Tree_stack) → (change x s).top.kind ≡ s.top.kind

@@ -1,29 +1,28 @@
--- An instance may be made of each component that stands in what the items of a root lead to.
-use Rattle.std.proofs.Common.{ℕ, List, [], ◌∷◌, sym, subst}
-use Rattle.wcv_core.specs.declared.features.WasmFeatures.{WasmFeatures}
-use Rattle.wcv_syntax.specs.Model.{Items}
+-- An instance may be made of each component that stands in the innermost state, where valid items led to the states.
+use Rattle.std.proofs.Common.{List}
 use Rattle.wcv_types.specs.Arena.{Arena}
-use Rattle.wcv_lower.specs.Owned.{IsCalm}
+use Rattle.wcv_lower.specs.Given.{names_of, no_numbers}
+use Rattle.wcv_lower.specs.Names.{Under, names_by_place}
 use Rattle.wcv_lower.specs.Renamed.{Renaming}
-use Rattle.wcv_state.specs.Contents.{Contents, stack_of}
+use Rattle.wcv_lower.proofs.Naming.{to_places, renamed_places}
+use Rattle.wcv_state.specs.Contents.{Contents}
 use Rattle.wcv_state.specs.Promises.{numbers_of}
-use Rattle.wcv_link.specs.Instances.{AllMayInstantiate}
-use Rattle.wcv_link.specs.Progress.{LastMayInstantiate, ValidIn, ValidSoFar}
-use Rattle.wcv_link.proofs.AsFar.{as_far-tidy}
-use Rattle.wcv_link.proofs.Leading.{places, read_by_places}
+use Rattle.wcv_decls.specs.Declaring.{features_in, stack_in}
+use Rattle.wcv_decls.proofs.InnermostStates.{calm_here}
+use Rattle.wcv_link.specs.Progress.{IsReady, LastMayInstantiate}
+use Rattle.wcv_link.specs.Reached.{Earlier, IsReached}
+use Rattle.wcv_link.proofs.AsFar.{reached-tidy}
 use Rattle.wcv_link.proofs.MayMake.{may_make}
+use Rattle.wcv_link.proofs.Reaching.{reached-renamed}
 
-module _ (a : Arena) (s : Contents) (k : ℕ) (features : WasmFeatures) (is left : Items) (h : ValidIn a s k features is left) (calm : IsCalm (numbers_of a) (stack_of a s [])) where
-  abbrev by_places : Renaming
-  by_places = places a s k features is left h
+module _ (a : Arena) (ss : List Contents) (ready : IsReady a ss) (h : IsReached a ss) where
+  -- by places
+  abbrev places : Renaming
+  places = to_places (Earlier h.place h.position) no_numbers (numbers_of a) h.names h.given
 
-  may_instantiate : AllMayInstantiate a s
-  may_instantiate j t args e =
-      let r = as_far-tidy by_places features is k (stack_of a s []) left (read_by_places a s k features is left h) in
-      let m = may_make (numbers_of a) (stack_of a s []) r.1.0 calm r.0 r.1.1 j t e args in
+  pub last_may : LastMayInstantiate a ss
+  last_may j t args e =
+      let r = reached-tidy (features_in ss) places h.place h.position (stack_in a ss)
+      (reached-renamed (features_in ss) (names_of h.names) names_by_place places (λ p. renamed_places (Earlier h.place h.position) no_numbers (numbers_of a) h.names h.given (Under p)) h.place h.position (stack_in a ss) h.reached) in
+      let m = may_make (numbers_of a) (stack_in a ss) r.1.0 (calm_here a ss ready.some ready.calm) r.0 r.1.1 j t e args in
       record { owned = m.owned; given = m.given; apart = m.apart; args_alike = m.args_alike; imports_alike = m.imports_alike }
-
--- before the next item
-pub next_may_instantiate : (a : Arena) (ss : List Contents) (k : ℕ) (features : WasmFeatures) (is left : Items) → ValidSoFar a ss k features is left → LastMayInstantiate a ss
-next_may_instantiate a ss k features is left h =
-    subst (LastMayInstantiate a) (sym h.alone) (may_instantiate a h.state k features is left h.valid (h.ready.calm [] h.state h.alone))

@@ -1,13 +1,16 @@
 -- The states that are open, before and after an item in the innermost of them.
-use Rattle.std.proofs.Common.{◌≡◌, ℕ, ◌<◌, ◌-◌, List, [], ◌∷◌, ◌++◌, length, refl, sym, ◌∙◌, ap, subst, arith, slice_set, slice_index_or, true, false, cond}
+use Rattle.std.proofs.Common.{◌≡◌, ℕ, ◌<◌, ◌-◌, List, [], ◌∷◌, ◌++◌, length, refl, sym, ◌∙◌, ap, subst, slice_set, slice_index_or, true, false, cond, ◌⊎◌, inl, inr}
 use Rattle.wcv_core.specs.Names.{Place}
 use Rattle.wcv_core.specs.Refusal.{error_kind, error_offset}
 use Rattle.wcv_core.specs.declared.error.Error.{Error}
+use Rattle.wcv_core.specs.declared.error.ErrorKind.{ErrorKind}
+use Rattle.wcv_core.specs.declared.error.ErrorKind.TheVariants as kind
+use Rattle.wcv_core.specs.declared.features.WasmFeatures.{WasmFeatures}
 use Rattle.wcv_syntax.specs.Built.{is_plain, is_built_type, is_built_alias}
 use Rattle.wcv_syntax.specs.Model.{Form, Type_form, type_item, alias_item}
 use Rattle.wcv_syntax.specs.declared.instance.ComponentAlias.{ComponentAlias}
 use Rattle.wcv_types.specs.Arena.{Arena}
-use Rattle.wcv_types.specs.Standing.{AllFit}
+use Rattle.wcv_types.specs.Standing.{AllFit, Extends}
 use Rattle.wcv_types.proofs.Grown.{extends_refl}
 use Rattle.wcv_lower.specs.Aliases.{alias_left}
 use Rattle.wcv_lower.specs.Checks.{IsFree}
@@ -16,36 +19,24 @@ use Rattle.wcv_lower.specs.Given.{names_of}
 use Rattle.wcv_lower.specs.Growth.{left_checks, unbuilt}
 use Rattle.wcv_lower.specs.Names.{Under}
 use Rattle.wcv_lower.specs.Owned.{ItemRegular, IsCalm}
-use Rattle.wcv_lower.specs.Trees.{Tree_context, tree_maker}
+use Rattle.wcv_lower.specs.Trees.{Tree_context, Tree_stack, tree_maker}
 use Rattle.wcv_lower.proofs.CalmGrowth.{calm_grows}
 use Rattle.wcv_state.specs.Aliasing.{AliasedOn}
-use Rattle.wcv_state.specs.Contents.{Contents, context_of}
+use Rattle.wcv_state.specs.Contents.{Contents, context_of, stack_of}
 use Rattle.wcv_state.specs.Promises.{MemoryOrCausedBy, numbers_of, Keeps}
 use Rattle.wcv_state.proofs.Stacks.{around_same}
-use Rattle.wcv_decls.specs.Declaring.{innermost, around, stack_in, AreReady}
-use Rattle.wcv_decls.specs.Stack.{IsOpen, AreCalm, ChangesLast, stay, contexts_around, stack_on, GrewOn, RefusedOn, DeclaresOn, RefusesOn, KeepsOn}
+use Rattle.wcv_decls.specs.Declaring.{innermost, around, features_in, stack_in, AreReady}
+use Rattle.wcv_decls.specs.Stack.{IsOpen, AreCalm, ChangesLast, stay, all_uncharged, contexts_around, stack_on, GrewOn, RefusedOn, DeclaresOn, RefusesOn, KeepsOn}
 use Rattle.wcv_decls.proofs.ChargedStates.{last_kept, still_ready}
-use Rattle.wcv_decls.proofs.InnermostStates.{innermost_at, indexed, stack_at, calm_here, calm_all, open_here, open_around, kept, last_changed}
+use Rattle.wcv_decls.proofs.InnermostStates.{innermost_at, around_at, indexed, stack_at, calm_here, calm_all, open_here, open_around, kept, last_changed}
 use Rattle.wcv_decls.proofs.Plain.{own_given}
 use Rattle.wcv_decls.proofs.ReadingOn.{grown_numbers, extends_on}
 use Rattle.wcv_decls.proofs.SimpleDecls as simple
 use Rattle.wcv_link.specs.Instances.{AllMayInstantiate}
-use Rattle.wcv_link.specs.Progress.{IsReady, GrewAt, RefusedAt, TakesItem, TakenOn, AcceptsItem, RefusesItem, LeavesItem, AllMayOpen, LastMayInstantiate}
+use Rattle.wcv_link.specs.ItemCalls.{ItemRead, ItemRefused}
+use Rattle.wcv_link.specs.Progress.{IsReady, GrewAt, RefusedAt, MemoryOrRefusedItem, TakesItem, AcceptsItem, RefusesItem, LeavesItem, AllMayOpen, LastMayInstantiate}
 use Rattle.wcv_link.proofs.Regular.{item_regular}
-use Rattle.wcv_link.proofs.Steps.{OneStep, one_step, grew_here, step_refused, alias_grew, type_grew, type_caused, type_left_caused, caused_same_at}
-
--- lists that end alike
-pub same_end : {X : Type 0} (xs ys : List X) (x y : X) → xs ++ x ∷ [] ≡ ys ++ y ∷ [] → (xs ≡ ys) × (x ≡ y)
-same_end [] [] x y e = (refl, cc)
-same_end [] (z ∷ []) x y e = absurd (omega (arith, ap length e))
-same_end [] (z ∷ w ∷ ys) x y e = absurd (omega (arith, ap length e))
-same_end (z ∷ []) [] x y e = absurd (omega (arith, ap length e))
-same_end (z ∷ w ∷ xs) [] x y e = absurd (omega (arith, ap length e))
-same_end (z ∷ xs) (w ∷ ys) x y e =
-    let h : z ≡ w = cc in
-    let t : xs ++ x ∷ [] ≡ ys ++ y ∷ [] = cc in
-    let r = same_end xs ys x y t in
-    ((λ j. h j ∷ r.0 j), r.1)
+use Rattle.wcv_link.proofs.Steps.{OneStep, one_step, grew_here, step_refused, alias_grew, type_grew, type_caused, type_left_caused}
 
 -- ## The innermost, as it is looked up
 
@@ -69,8 +60,39 @@ module _ (a : Arena) (ss : List Contents) (k : ℕ) (s : Contents) (e : k ≡ le
 
 -- ## An item that the innermost took
 
-ready_here : (a : Arena) (ss : List Contents) → IsReady a ss → AreReady a ss
+-- the innermost of the states took it at that place, and the others stay but for what was aliased into them
+pub record TakenOn (a b : Arena) (p : Place) (ss ss' : List Contents) (f : Form) : Type 0 where
+  pub outer : List Contents
+  pub outer' : List Contents
+  pub old : Contents
+  pub new : Contents
+  pub was : ss ≡ outer ++ old ∷ []
+  pub becomes : ss' ≡ outer' ++ new ∷ []
+  pub same : all_uncharged outer' ≡ all_uncharged outer
+  pub grew : GrewAt a b (contexts_around a outer) (contexts_around b outer') old new f p
+  pub features : new.features ≡ old.features
+
+-- that state is the innermost, and the contexts are of those around it
+module _ (a b : Arena) (p : Place) (ss ss' : List Contents) (f : Form) (t : TakenOn a b p ss ss' f) where
+  features_were : features_in ss ≡ t.old.features
+  features_were = ap (λ (s : Contents). s.features) (ap innermost t.was ∙ innermost_at t.outer t.old)
+
+  taken_features : features_in ss' ≡ features_in ss
+  taken_features = ap (λ (s : Contents). s.features) (ap innermost t.becomes ∙ innermost_at t.outer' t.new) ∙ t.features ∙ sym features_were
+
+  taken_read : ItemRead (features_in ss) p (stack_in a ss) f (stack_in b ss') (numbers_of a) (numbers_of b)
+  taken_read =
+      subst (λ (fs : WasmFeatures). ItemRead fs p (stack_in a ss) f (stack_in b ss') (numbers_of a) (numbers_of b)) (sym features_were)
+      (subst (λ (s : Tree_stack). ItemRead t.old.features p s f (stack_in b ss') (numbers_of a) (numbers_of b)) (sym (stack_at a ss t.outer t.old t.was))
+      (subst (λ (u : Tree_stack). ItemRead t.old.features p (stack_on a t.outer t.old) f u (numbers_of a) (numbers_of b)) (sym (stack_at b ss' t.outer' t.new t.becomes)) (t.grew.names, t.grew.given, t.grew.free, t.grew.grown)))
+
+-- calls on the states may be made where items may be read
+pub ready_here : (a : Arena) (ss : List Contents) → IsReady a ss → AreReady a ss
 ready_here a ss h = record { some = h.some; each = h.usable; calm = calm_here a ss h.some h.calm }
+
+-- and items may be read behind them
+pub ready_then : (a : Arena) (ss : List Contents) → AreReady a ss → IsReady a ss
+ready_then a ss h = record { some = h.some; usable = h.each; calm = calm_all a ss h.calm }
 
 module _ (a b : Arena) (ss ss' : List Contents) (h : IsReady a ss) (keeps : KeepsOn a b ss ss') (f : Form) (taken : (p : Place) → TakenOn a b p ss ss' f) (live : (taken []).new.spent ≡ false) where
   abbrev t : TakenOn a b [] ss ss' f
@@ -79,8 +101,16 @@ module _ (a b : Arena) (ss ss' : List Contents) (h : IsReady a ss) (keeps : Keep
   -- the states may be used further
   accepts_so : IsCalm (numbers_of b) (stack_in b ss') → AcceptsItem a b ss ss' f
   accepts_so calm =
-      let r = (still_ready a b ss ss' (ready_here a ss h) keeps t.outer t.outer' t.old t.new t.was t.becomes t.same live calm).ready in
-      record { taken = taken; ready = record { some = r.some; usable = r.each; calm = calm_all b ss' r.calm }; arena = extends_on a b ss ss' h.some keeps }
+      let r = still_ready a b ss ss' (ready_here a ss h) keeps t.outer t.outer' t.old t.new t.was t.becomes t.same live calm in
+      record {
+        reads = λ p. taken_read a b p ss ss' f (taken p);
+        goes_on = record {
+          ready = ready_then b ss' r.ready;
+          around = r.around;
+          features = taken_features a b [] ss ss' f t;
+          arena = extends_on a b ss ss' h.some keeps;
+        };
+      }
 
   -- what is read in one step leaves them calm
   pub accepts_step : OneStep f → ItemRegular (context_of a t.old) f → AcceptsItem a b ss ss' f
@@ -119,15 +149,32 @@ module _ (a b : Arena) (ss : List Contents) (k : ℕ) (s s' : Contents) (e : k �
   pub accepts_last : AcceptsItem a b ss (slice_set ss k s') f
   accepts_last = accepts_step a b ss (slice_set ss k s') h (kept a b ss (slice_set ss k s') changed h.usable w.keeps) f taken_last w.live one (item_regular a s (last_open a ss k s e i h).stands fit f)
 
+-- ## An item that it left
+
+-- the error is out of memory, or its kind and its offset refuse the item
+refused_of : {M : Type 0} (a b : Arena) (s : Contents) (outer : List Tree_context) (f : Form) (p : Place) (offset : ℕ) (x : Error M) → (r : RefusedAt a b outer s f p offset x) → MemoryOrRefusedItem s.features (names_of r.names) p (stack_of a s outer) offset f x →
+    (error_kind x ≡ kind.OutOfMemory) ⊎ ItemRefused s.features p (stack_of a s outer) offset f (error_kind x) (error_offset x) (numbers_of a) (numbers_of b)
+refused_of a b s outer f p offset x r (inl m) = inl m
+refused_of a b s outer f p offset x r (inr t) = inr (r.names, r.given, t)
+
+-- the innermost of the states left it
+refuses_so : {M : Type 0} (a b : Arena) (ss : List Contents) (f : Form) (offset : ℕ) (x : Error M) → Extends a b → ((p : Place) → RefusedAt a b (contexts_around a (around ss)) (innermost ss) f p offset x) → RefusesItem a b ss f offset x
+refuses_so a b ss f offset x arena w = record { refused = λ p. refused_of a b (innermost ss) (contexts_around a (around ss)) f p offset x (w p) (w p).caused; arena = arena }
+
+-- the last of them is the innermost
+at_innermost : {M : Type 0} (a b : Arena) (ss outer : List Contents) (s : Contents) (f : Form) (p : Place) (offset : ℕ) (x : Error M) → ss ≡ outer ++ s ∷ [] → RefusedAt a b (contexts_around a outer) s f p offset x →
+    RefusedAt a b (contexts_around a (around ss)) (innermost ss) f p offset x
+at_innermost a b ss outer s f p offset x e w =
+    let i : s ≡ innermost ss = sym (ap innermost e ∙ innermost_at outer s) in
+    let o : outer ≡ around ss = sym (ap around e ∙ around_at outer s) in
+    subst (λ (y : Contents). RefusedAt a b (contexts_around a (around ss)) y f p offset x) i (subst (λ (os : List Contents). RefusedAt a b (contexts_around a os) s f p offset x) o w)
+
 -- a state left it
 pub refuses_last : {M : Type 0} (a b : Arena) (ss : List Contents) (k : ℕ) (s : Contents) (e : k ≡ length ss - 1) (some : 0 < length ss) (i : s ≡ slice_index_or ss k s) (f : Form) (offset : ℕ) (x : Error M) →
     LeavesItem a b s f offset x → RefusesItem a b ss f offset x
-refuses_last a b ss k s e some i f offset x w = record {
-  refused = λ outer t g p.
-      let same : s ≡ t = is_innermost ss k s some e i ∙ ap innermost g ∙ innermost_at outer t in
-      subst (λ (y : Contents). RefusedAt a b (contexts_around a outer) y f p offset x) same (w.refused (contexts_around a outer) p);
-  arena = w.arena;
-}
+refuses_last a b ss k s e some i f offset x w =
+    refuses_so a b ss f offset x w.arena
+    (λ p. subst (λ (y : Contents). RefusedAt a b (contexts_around a (around ss)) y f p offset x) (is_innermost ss k s some e i) (w.refused (contexts_around a (around ss)) p))
 
 -- ## Items over all states, and types
 
@@ -191,44 +238,42 @@ module _ (a b : Arena) (ss ss' : List Contents) (h : IsReady a ss) (keeps : Keep
     pub accepts_type : AreCalm b ss' → AcceptsItem a b ss ss' (type_item t)
     accepts_type calm = accepts_calm a b ss ss' h keeps (type_item t) type_taken (declares []).declared.live calm
 
--- the innermost is the same state
-same_innermost : {M : Type 0} (a b : Arena) (ss : List Contents) (f : Form) (p : Place) (offset : ℕ) (x : Error M) (outer outer' : List Contents) (s s' : Contents) → ss ≡ outer ++ s ∷ [] → ss ≡ outer' ++ s' ∷ [] →
-    RefusedAt a b (contexts_around a outer) s f p offset x → RefusedAt a b (contexts_around a outer') s' f p offset x
-same_innermost a b ss f p offset x outer outer' s s' e e' w =
-    let r = same_end outer outer' s s' (sym e ∙ e') in
-    subst (λ (y : Contents). RefusedAt a b (contexts_around a outer') y f p offset x) r.1 (subst (λ (os : List Contents). RefusedAt a b (contexts_around a os) s f p offset x) r.0 w)
-
 module _ {M : Type 0} (a b : Arena) (ss ss' : List Contents) (some : 0 < length ss) (keeps : KeepsOn a b ss ss') (offset : ℕ) (x : Error M) where
   pub refuses_one : (f : Form) → OneStep f → ((p : Place) → RefusedOn a b p ss ss' f offset x) → RefusesItem a b ss f offset x
-  refuses_one f one w = record {
-    refused = λ outer s e p.
-        let r = w p in
-        same_innermost a b ss f p offset x r.last.outer outer r.last.old s r.last.was e
-        (step_refused a b r.last.old f one offset x (contexts_around a r.last.outer) p r.refused.1);
-    arena = extends_on a b ss ss' some keeps;
-  }
+  refuses_one f one w =
+      refuses_so a b ss f offset x (extends_on a b ss ss' some keeps)
+      (λ p.
+      let r = w p in
+      at_innermost a b ss r.last.outer r.last.old f p offset x r.last.was (step_refused a b r.last.old f one offset x (contexts_around a r.last.outer) p r.refused.1))
 
   pub refuses_type : (t : Type_form) → ((p : Place) → RefusesOn true a b p ss ss' t offset x) → RefusesItem a b ss (type_item t) offset x
-  refuses_type t w = record {
-    refused = λ outer s e p.
-        let r = w p in
-        same_innermost a b ss (type_item t) p offset x r.outer outer r.old s r.was e (type_caused a b (contexts_around a r.outer) p r.old t offset x r.caused);
-    arena = extends_on a b ss ss' some keeps;
-  }
+  refuses_type t w =
+      refuses_so a b ss (type_item t) offset x (extends_on a b ss ss' some keeps)
+      (λ p.
+      let r = w p in
+      at_innermost a b ss r.outer r.old (type_item t) p offset x r.was (type_caused a b (contexts_around a r.outer) p r.old t offset x r.caused))
 
 -- ## Refusals before the call
 
 module _ {M : Type 0} (a : Arena) (ss : List Contents) (offset : ℕ) (x : Error M) where
   -- whatever state is the innermost
   pub refuses_left : (f : Form) → ((s : Contents) → LeavesItem a a s f offset x) → RefusesItem a a ss f offset x
-  refuses_left f w = record { refused = λ outer s e p. (w s).refused (contexts_around a outer) p; arena = extends_refl a }
+  refuses_left f w = refuses_so a a ss f offset x (extends_refl a) (λ p. (w (innermost ss)).refused (contexts_around a (around ss)) p)
 
   -- so of a type
   pub refuses_type_left : (t : Type_form) → MemoryOrCausedBy (cond (is_built_type t) (declared_left t) unbuilt) offset x → RefusesItem a a ss (type_item t) offset x
-  refuses_type_left t w = record { refused = λ outer s e p. type_left_caused a a (contexts_around a outer) p s t offset x w; arena = extends_refl a }
+  refuses_type_left t w = refuses_so a a ss (type_item t) offset x (extends_refl a) (λ p. type_left_caused a a (contexts_around a (around ss)) p (innermost ss) t offset x w)
 
 -- ## Messages
 
 -- another error of that kind and that offset is as good a refusal
 pub refused_same : {M N : Type 0} (a b : Arena) (ss : List Contents) (f : Form) (offset : ℕ) (e : Error M) (x : Error N) → error_kind x ≡ error_kind e → error_offset x ≡ error_offset e → RefusesItem a b ss f offset e → RefusesItem a b ss f offset x
-refused_same a b ss f offset e x k o r = record { refused = λ outer s w p. caused_same_at a b (contexts_around a outer) s f p offset e x k o (r.refused outer s w p); arena = r.arena }
+refused_same a b ss f offset e x k o r = record { refused = λ p. go p (r.refused p); arena = r.arena }
+  where
+    -- so of that kind, at that offset
+    Refused : Place → ErrorKind → ℕ → Type 0
+    Refused p kind at = ItemRefused (features_in ss) p (stack_in a ss) offset f kind at (numbers_of a) (numbers_of b)
+
+    go : (p : Place) → (error_kind e ≡ kind.OutOfMemory) ⊎ Refused p (error_kind e) (error_offset e) → (error_kind x ≡ kind.OutOfMemory) ⊎ Refused p (error_kind x) (error_offset x)
+    go p (inl m) = inl (k ∙ m)
+    go p (inr t) = inr (subst (λ (z : ErrorKind). Refused p z (error_offset x)) (sym k) (subst (Refused p (error_kind e)) (sym o) t))

@@ -1,5 +1,4 @@
 -- What stands in a state is regular: an item that makes an instance asks it of the context on top.
-use Rattle.std.specs.Prelude.{All}
 use Rattle.std.proofs.lemmas.List.Elements.{All-map, All-weaker}
 use Rattle.wcv_syntax.specs.Model.{Form, instance_item}
 use Rattle.wcv_types.specs.Arena.{Arena}

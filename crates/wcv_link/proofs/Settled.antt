@@ -1,6 +1,6 @@
 -- What holds of a stack between the items of a list: by place each resource is new where it is introduced, so that none is both
 -- imported and defined.
-use Rattle.std.proofs.Common.{◌≡◌, ℕ, zero, suc, List, [], ◌++◌, false, refl, subst, sym, ◌⊎◌, inl, inr}
+use Rattle.std.proofs.Common.{◌≡◌, ℕ, zero, suc, List, [], ◌∷◌, ◌++◌, true, false, refl, subst, sym, ◌⊎◌, inl, inr}
 use Rattle.std.proofs.lemmas.List.Elements.{All-nil}
 use Rattle.wcv_core.specs.CoreForm.{Group}
 use Rattle.wcv_core.specs.Names.{Name, Place, deeper}
@@ -8,12 +8,13 @@ use Rattle.wcv_lower.specs.Context.{Kind, Side, importing, exporting, is_concret
 use Rattle.wcv_lower.specs.Declared.{inside}
 use Rattle.wcv_lower.specs.Even.{IsBalanced}
 use Rattle.wcv_lower.specs.Owned.{OwnsNot, OwnApart, AllEntries, Everywhere, AreBalanced, IsLed}
-use Rattle.wcv_lower.specs.Trees.{Type_tree, Tree_stack, tree_reader}
+use Rattle.wcv_lower.specs.Trees.{Type_tree, Tree_context, Tree_stack, tree_reader}
 use Rattle.wcv_lower.proofs.Calm.{inside_has}
 use Rattle.wcv_link.proofs.Charged.{AllAmong, all_back, among-has, among-listed, everywhere-both}
-use Rattle.wcv_link.proofs.Growing.{Leads, AreInstances, Ready, AreNew, Grows}
+use Rattle.wcv_link.proofs.Growing.{Leads, Ready, AreNew, Grows}
 use Rattle.wcv_link.proofs.Having.{Has, has-both, Once, once-both}
-use Rattle.wcv_link.proofs.Known.{Fine, ListedAmong, Listed, IsFine, everywhere-weaker}
+use Rattle.wcv_link.proofs.Known.{Within, Fine, entries-weaker, In, ListedAmong, Listed}
+use Rattle.wcv_link.proofs.Near.{Near, NearIn, AreAround, FineIn, IsFine, near-own}
 use Rattle.wcv_link.proofs.Placed.{PlacedUnder, PlacedBefore, placed_here, later, by_this_item, in_list, not_yet}
 
 -- what holds of the stack before the item at position k of the list at place w
@@ -26,7 +27,6 @@ pub record Settles (w : Place) (k : ℕ) (s : Tree_stack) : Type 0 where
   pub defined_once : Once s.top.defined
   pub leads : Leads s.top
   pub led : is_concrete s.top.kind ≡ false → IsLed s.top
-  pub instances : AreInstances s.top
   -- what its types own was introduced before, or further out
   pub late : (r : Name) → (PlacedBefore w k r → ⊥) → AllAmong (OwnsNot r) s.outer → AllEntries (OwnsNot r) s.top
   -- nothing that is given in the list is listed further out, nor owned there
@@ -37,16 +37,24 @@ pub record Settles (w : Place) (k : ℕ) (s : Tree_stack) : Type 0 where
   pub spared : (r : Name) → Listed s r → Everywhere (OwnsNot r) s
   pub balanced : AreBalanced s
 
+-- what is free in an entry of a component's context that context itself lists
+pub own-within : (w : Place) (k : ℕ) (s : Tree_stack) → Settles w k s → is_concrete s.top.kind ≡ true → AllEntries (Within (In s.top)) s.top
+own-within w k s h c = entries-weaker (Fine (Near s)) (Within (In s.top)) s.top (λ t x r f. near-own s c r (x.0 r f)) h.fine.0.entries
+
 -- ## The beginning
 
 none : (P : Type_tree → Type 0) (k : Kind) → AllEntries P (empty tree_reader k)
 none P k = record { core = λ j. All-nil P; space = λ j. All-nil P; side = λ d. All-nil (λ e. P e.1) }
 
+-- no entry stands there yet
+begins-fine : (k : Kind) (cs : List Tree_context) → AreAround cs (is_concrete k) → FineIn (empty tree_reader k) cs
+begins-fine k cs a = record { entries = none (Fine (NearIn (empty tree_reader k) cs)) k; sorted = (All-nil _, All-nil _, All-nil _); around = a }
+
 module _ (p : Place) (k : Kind) where
-  -- inside a declared type at place p
-  pub inside-settles : (s : Tree_stack) → Ready p s → Settles p 0 (inside k s)
-  inside-settles s h = record {
-    fine = inside_has k s (Fine (Listed (inside k s))) (everywhere-weaker (Fine (Listed s)) (Fine (Listed (inside k s))) s (λ t w. ((λ r x. inr (w.0 r x)), w.1)) h.fine);
+  -- inside a declared type at place p, or a component, which stands in one
+  pub inside-settles : (s : Tree_stack) → (is_concrete k ≡ true → is_concrete s.top.kind ≡ true) → Ready p s → Settles p 0 (inside k s)
+  inside-settles s in_one h = record {
+    fine = (begins-fine k (s.top ∷ s.outer) in_one, h.fine);
     imported = λ r h. absurd h;
     defined = λ r h. absurd h;
     none_twice = λ r h g. absurd h;
@@ -54,7 +62,6 @@ module _ (p : Place) (k : Kind) where
     defined_once = tt;
     leads = All-nil _;
     led = λ e. All-nil _;
-    instances = All-nil _;
     late = λ r n a. none (OwnsNot r) k;
     foreign = λ r u l. h.unlisted r u l;
     around = λ r u j c e. h.fresh r u j c e;
@@ -78,7 +85,7 @@ module _ (p : Place) (k : Kind) where
 
     pub alone-settles : Settles p 0 alone
     alone-settles = record {
-      fine = nowhere (Fine (Listed alone));
+      fine = (begins-fine k [] tt, tt);
       imported = λ r h. absurd h;
       defined = λ r h. absurd h;
       none_twice = λ r h g. absurd h;
@@ -86,7 +93,6 @@ module _ (p : Place) (k : Kind) where
       defined_once = tt;
       leads = All-nil _;
       led = λ e. All-nil _;
-      instances = All-nil _;
       late = λ r n a. none (OwnsNot r) k;
       foreign = λ r u l. l;
       around = λ r u j c e. cc;
@@ -105,7 +111,6 @@ module _ (w : Place) (k : ℕ) (s : Tree_stack) (h : Settles w k s) where
     fine = h.fine;
     leads = h.leads;
     led = h.led;
-    instances = h.instances;
     unlisted = unlisted;
     fresh = λ r x. everywhere-both (OwnsNot r) s (h.late r (λ y. not_yet w k r x y) (h.around r (next-under r x))) (h.around r (next-under r x));
     apart = h.apart;
@@ -174,7 +179,6 @@ module _ (w : Place) (k : ℕ) (s t : Tree_stack) (h : Settles w k s) where
         defined_once = subst Once (sym a.defined) h.defined_once;
         leads = g.leads;
         led = g.led;
-        instances = g.instances;
         late = late-then importing g;
         foreign = foreign-then importing g;
         around = around-then importing g;
@@ -194,7 +198,6 @@ module _ (w : Place) (k : ℕ) (s t : Tree_stack) (h : Settles w k s) where
         defined_once = more-once w k s.top.defined a.more t.top.defined a.new h.defined a.defined h.defined_once;
         leads = g.leads;
         led = g.led;
-        instances = g.instances;
         late = late-then exporting g;
         foreign = foreign-then exporting g;
         around = around-then exporting g;

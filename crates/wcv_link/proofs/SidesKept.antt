@@ -13,7 +13,7 @@ use Rattle.wcv_core.specs.Names.{Name, Place, deeper}
 use Rattle.wcv_core.specs.declared.features.WasmFeatures.{WasmFeatures}
 use Rattle.wcv_core.proofs.Causes.{free_left, free_right}
 use Rattle.wcv_syntax.specs.Built.{is_built_type, is_plain}
-use Rattle.wcv_syntax.specs.Model.{Form, core_type_item, core_module_item, core_instance_item, type_item, import_item, export_item, component_item, instance_item, alias_item, start_item, canon_item, unread, Type_form, defined_type, func_type, component_type, instance_type, resource_type, Core_type_form, core_rec, core_module_type, instantiate, bag, Decl, core_type_decl, type_decl, alias_decl, export_decl, import_decl, Decls, no_decls, declare}
+use Rattle.wcv_syntax.specs.Model.{Form, core_type_item, core_module_item, core_instance_item, type_item, import_item, export_item, component_item, instance_item, alias_item, start_item, canon_item, Type_form, defined_type, func_type, component_type, instance_type, resource_type, Core_type_form, core_rec, core_module_type, instantiate, bag, Decl, core_type_decl, type_decl, alias_decl, export_decl, import_decl, Decls, no_decls, declare, Items, no_items, next_item}
 use Rattle.wcv_syntax.specs.declared.component_type.ComponentTypeRef.{ComponentTypeRef}
 use Rattle.wcv_syntax.specs.declared.instance.ComponentAlias.{ComponentAlias}
 use Rattle.wcv_syntax.specs.declared.instance.ComponentAlias.TheVariants as alias
@@ -27,18 +27,18 @@ use Rattle.wcv_names.specs.Externs.{entry_names}
 use Rattle.wcv_matching.specs.Matching.{named}
 use Rattle.wcv_lower.specs.Aliases.{sort_named, instance_at, export_of, joining, outer_at, outer_joins, is_charged, concrete_at, charged, alias_step}
 use Rattle.wcv_lower.specs.Checks.{Checks, IsFree, full_side, if_found, no_room, no_type_room, bad_entity}
-use Rattle.wcv_lower.specs.Context.{Kind, declares_instance, declares_component, core_types, core_modules, Side, importing, exporting, is_concrete, counts, push, push_core, enlist, introduce, define, name_types, charge, type_slots}
+use Rattle.wcv_lower.specs.Context.{Kind, concrete, declares_instance, declares_component, core_types, core_modules, Side, importing, exporting, is_concrete, counts, push, push_core, enlist, introduce, define, name_types, charge, type_slots}
 use Rattle.wcv_lower.specs.CoreInstances.{core_instance_made, core_export_of, core_instance_at, if_of, item_joins}
 use Rattle.wcv_lower.specs.CoreInstances as core
 use Rattle.wcv_lower.specs.CoreItems.{core_entries, is_closable, types_join, closed_step, module_joins, core_type_made, core_module_made, core_type_step}
-use Rattle.wcv_lower.specs.Declared.{Makers, inside, ended, full_stack, applied, declared_export_step, declared_export_checks, read_type, read_decl, read_decls, on_read, declared_checks, declared_left, decl_checks, decls_checks}
+use Rattle.wcv_lower.specs.Declared.{Makers, inside, closed_as, ended, full_stack, applied, declared_export_step, declared_export_checks, read_type, read_decl, read_decls, on_read, declared_checks, declared_left, decl_checks, decls_checks}
 use Rattle.wcv_lower.specs.EntryNames.{resource_names, name_checks, bare_name_checks}
 use Rattle.wcv_lower.specs.Entries.{extern_name, written, written_checks, exported, exported_checks, unnamed, entity_checks, entry_checks}
 use Rattle.wcv_lower.specs.Growth.{step, grow, form_checks, left_checks, unbuilt}
 use Rattle.wcv_lower.specs.Instances.{listed, listed_checks, names_checks, size_checks, instance_made, instance_joins}
-use Rattle.wcv_lower.specs.Items.{read_item, item_causes}
+use Rattle.wcv_lower.specs.Items.{read_item, read_items, item_causes}
 use Rattle.wcv_lower.specs.Names.{Names}
-use Rattle.wcv_lower.specs.Readers.{if_sort, weight}
+use Rattle.wcv_lower.specs.Readers.{New_node, if_sort, weight}
 use Rattle.wcv_lower.specs.Step.{Change, appends, lists, introduces, defines, creates, core_appends, interns, charges, types_slots, Step, on_top, on_outer, change, apply, Brought, joins, enters, joins_types}
 use Rattle.wcv_lower.specs.Trees.{Type_tree, Entries, Tree_context, Tree_stack, tree_reader, tree_maker}
 use Rattle.wcv_lower.specs.Types.{type_made, added, type_step}
@@ -47,6 +47,8 @@ use Rattle.wcv_state.proofs.NamesApart.{new_name}
 use Rattle.wcv_link.proofs.CanonGrowing.{canon-holds}
 use Rattle.wcv_link.proofs.Known.{mapped-some, then-some}
 use Rattle.wcv_link.proofs.Outer.{ends}
+use Rattle.wcv_link.proofs.ValidRead.{valid_reads}
+use Rattle.wcv_link.specs.Valid.{ValidFrom, ValidItem}
 use Rattle.wcv_link.proofs.SideNames.{no-names, differ-joined, ItemNamed, around-has, SidesDiffer, AllSidesDiffer, inside-differ}
 
 -- those that are listed one after another without a cause
@@ -238,7 +240,6 @@ module _ (s : Tree_stack) where
     step-differ (alias_item a) x free e h = quiet-differ x s (alias-quiet a x e) h
     step-differ (start_item k args results) x free e h = cc
     step-differ (canon_item f) x free e h = quiet-differ x s (canon-holds s AllQuiet (λ v y w. (tt, w)) (λ g. (tt, (tt, tt))) (λ k t q. (tt, tt)) f x e) h
-    step-differ unread x free e h = cc
 
     grow-differ : (f : Form) (u : Tree_stack) → IsFree (form_checks fs (tree_maker names p) s f) → grow fs (tree_maker names p) s f ≡ Some u → AllSidesDiffer s → AllSidesDiffer u
     grow-differ f u free e h =
@@ -268,10 +269,15 @@ module _ (fs : WasmFeatures) (names : Names) where
   abbrev mk : Makers tree_reader
   mk = tree_maker names
 
+  closed-quiet : (k : Kind) (p : Place) (n : New_node tree_reader) → AllQuiet (closed_as k (mk p) n)
+  closed-quiet concrete p n = (tt, tt)
+  closed-quiet declares_instance p n = (tt, tt)
+  closed-quiet declares_component p n = (tt, tt)
+
   ended-differ : (k : Kind) (p : Place) (u v : Tree_stack) → ended k (mk p) u ≡ Some v → AllSidesDiffer u → AllSidesDiffer v
   ended-differ k p u v e h =
       let w = ends fs mk k p u v e in
-      subst AllSidesDiffer w.joined (quiet-differ (added (mk p) w.node) w.stack (tt, tt) (around-has SidesDiffer u w.stack w.stood h))
+      subst AllSidesDiffer w.joined (quiet-differ (closed_as k (mk p) w.node) w.stack (closed-quiet k p w.node) (around-has SidesDiffer u w.stack w.stood h))
 
   -- a declaration has no cause, nor have those behind it
   pub decls-free : (k : Kind) (p : Place) (n : ℕ) (s t : Tree_stack) (d : Decl) (ds : Decls) → read_decl fs mk (deeper p n) s d ≡ Some t → IsFree (decls_checks fs mk p n k s (declare d ds)) →
@@ -334,6 +340,15 @@ module _ (fs : WasmFeatures) (names : Names) where
   pub plain-free : (p : Place) (s : Tree_stack) (f : Form) → IsFree (cond (is_plain f) (form_checks fs (mk p) s f ++ left_checks s.top f) unbuilt) → IsFree (form_checks fs (mk p) s f)
   plain-free p s f free = free_left (form_checks fs (mk p) s f) (left_checks s.top f) (free-cond (is_plain f) (form_checks fs (mk p) s f ++ left_checks s.top f) free)
 
-  pub item-differ : (p : Place) (s u : Tree_stack) (f : Form) → IsFree (item_causes fs mk p s f) → read_item fs mk p s f ≡ Some u → AllSidesDiffer s → AllSidesDiffer u
-  item-differ p s u (type_item t) free e h = type-differ p s u t (type_item-free p s t free) e h
-  item-differ p s u f free e h = grow-differ s fs names p f u (plain-free p s f free) e h
+  mutual
+    pub item-differ : (p : Place) (s u : Tree_stack) (f : Form) → ValidItem fs names p s f → read_item fs mk p s f ≡ Some u → AllSidesDiffer s → AllSidesDiffer u
+    item-differ p s u (type_item t) v e h = type-differ p s u t (type_item-free p s t v.0) e h
+    item-differ p s u (component_item is end) v e h =
+        let m = then-some (ended concrete (mk p)) (read_items fs mk p 0 (inside concrete s) is) u e in
+        let same : v.1.0 ≡ m.0 = some-inj (sym (valid_reads fs names p 0 (inside concrete s) is v.1.0 v.1.1) ∙ m.1) in
+        ended-differ concrete p m.0 u m.2 (subst AllSidesDiffer same (items-differ p 0 (inside concrete s) v.1.0 is v.1.1 (inside-differ concrete s h)))
+    item-differ p s u f v e h = grow-differ s fs names p f u (plain-free p s f v.0) e h
+
+    items-differ : (p : Place) (k : ℕ) (s u : Tree_stack) (is : Items) → ValidFrom fs names p k s is u → AllSidesDiffer s → AllSidesDiffer u
+    items-differ p k s u no_items v h = subst AllSidesDiffer v h
+    items-differ p k s u (next_item at f is) v h = items-differ p (suc k) v.1.0 u is v.1.2 (item-differ (deeper p k) s v.1.0 f v.0 v.1.1 h)

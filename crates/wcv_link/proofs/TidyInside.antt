@@ -1,57 +1,70 @@
 -- Declared types, and so items: the stack settles and stays tidy declaration by declaration, and the node of a type joins the types of the
 -- context around it.
-use Rattle.std.proofs.Common.{◌≡◌, ℕ, zero, suc, List, [], ◌++◌, map, Bool, true, false, cond, refl, ◌∙◌, ap, subst, Some, None}
+use Rattle.std.proofs.Common.{◌≡◌, ℕ, zero, suc, List, [], ◌++◌, map, Bool, true, false, cond, refl, sym, ◌∙◌, ap, subst, Some, None}
 use Rattle.std.specs.Option.{option_map}
+use Rattle.std.proofs.lemmas.Bool.{false≢true}
 use Rattle.wcv_core.specs.Names.{Name, Place, base, deeper, member}
 use Rattle.wcv_core.specs.declared.features.WasmFeatures.{WasmFeatures}
 use Rattle.wcv_core.proofs.Names.{and_left, and_right}
 use Rattle.wcv_syntax.specs.Built.{is_plain, is_built_type, is_built_decl, are_built, are_built_inside}
-use Rattle.wcv_syntax.specs.Model.{Form, core_type_item, type_item, import_item, alias_item, Type_form, defined_type, func_type, component_type, instance_type, resource_type, Decl, core_type_decl, type_decl, alias_decl, export_decl, import_decl, Decls, no_decls, declare}
+use Rattle.wcv_syntax.specs.Model.{Form, component_item, Items, no_items, next_item, core_type_item, type_item, import_item, alias_item, Type_form, defined_type, func_type, component_type, instance_type, resource_type, Decl, core_type_decl, type_decl, alias_decl, export_decl, import_decl, Decls, no_decls, declare}
 use Rattle.wcv_types.specs.Led.{Led}
 use Rattle.wcv_types.specs.Tree.{import, export, instance, component, node, none, entries, firsts, is_instance}
 use Rattle.wcv_types.specs.Unfold.{Type_tree}
 use Rattle.wcv_types.proofs.Lists.{some-inj}
 use Rattle.wcv_lower.specs.Checks.{IsFree}
-use Rattle.wcv_lower.specs.Context.{Kind, declares_instance, declares_component, Side, importing, exporting, is_concrete}
-use Rattle.wcv_lower.specs.Declared.{inside, ended, read_type, read_decl, read_decls, declared_checks, decl_checks, decls_checks}
+use Rattle.wcv_lower.specs.Context.{Kind, concrete, in_components, declares_instance, declares_component, Side, importing, exporting, is_concrete}
+use Rattle.wcv_lower.specs.Declared.{inside, closed_as, ended, read_type, read_decl, read_decls, declared_checks, decl_checks, decls_checks}
 use Rattle.wcv_lower.specs.Ending.{any_free, kept, component_of, component_made, instance_made, declared_made}
 use Rattle.wcv_lower.specs.Growth.{grow, form_checks, left_checks}
-use Rattle.wcv_lower.specs.Items.{read_item, item_causes}
+use Rattle.wcv_lower.specs.Items.{read_item, read_items}
 use Rattle.wcv_lower.specs.Names.{names_by_place}
 use Rattle.wcv_lower.specs.Owned.{AllEntries, Everywhere}
 use Rattle.wcv_lower.specs.Readers.{New_node}
-use Rattle.wcv_lower.specs.Step.{apply}
+use Rattle.wcv_lower.specs.Step.{appends, apply}
 use Rattle.wcv_lower.specs.Trees.{Entries, Tree_context, Tree_stack, tree_reader, tree_maker, node_tree}
-use Rattle.wcv_lower.specs.Types.{added}
+use Rattle.wcv_lower.proofs.Bringing.{brings_one}
 use Rattle.wcv_lower.proofs.Calm.{inside_has, around_has}
 use Rattle.wcv_lower.proofs.DeclaredDoes.{inside_built}
 use Rattle.wcv_lower.proofs.Given.{not_so}
+use Rattle.wcv_link.proofs.Bare.{OwnsNothing}
 use Rattle.wcv_link.proofs.Charged.{AllCharged, all_themselves, all_twice}
 use Rattle.wcv_link.proofs.Closed.{IsClosed, firsts-has, instance-closed, component-closed}
 use Rattle.wcv_link.proofs.Growing.{Ready, Grows}
 use Rattle.wcv_link.proofs.Inside.{built_here, closes-grow, decl_side, inside-imports}
 use Rattle.wcv_link.proofs.Items.{side_of, MayStand, stands-in-component, grow-grows, declared-grows}
 use Rattle.wcv_link.proofs.Kept.{kept-old}
-use Rattle.wcv_link.proofs.Known.{mapped-some, then-some, Listed}
+use Rattle.wcv_link.proofs.Known.{mapped-some, then-some, Any}
 use Rattle.wcv_link.proofs.Looking.{sorted-fine}
+use Rattle.wcv_link.proofs.Near.{Near}
 use Rattle.wcv_link.proofs.Outer.{ends}
 use Rattle.wcv_link.proofs.Settled.{Settles, inside-settles, settles-ready, settles-more}
 use Rattle.wcv_link.proofs.SideNames.{ItemNamed, SidesDiffer, AllSidesDiffer, inside-differ}
-use Rattle.wcv_link.proofs.SidesKept.{item-named, type-free, decls-free, decl-differ, type_item-free, plain-free}
+use Rattle.wcv_link.proofs.SidesKept.{item-differ, item-named, type-free, decls-free, decl-differ, type_item-free, plain-free}
 use Rattle.wcv_link.proofs.Sound.{IsSound}
-use Rattle.wcv_link.proofs.Tidy.{Known, TidyEntry, NoneKnown, knows-both, TidyBehind, apply-tidy, Tidy, first-tidy, tidy-ready, tidy-here, tidy-knows, tidy-next}
+use Rattle.wcv_link.proofs.Tidy.{Known, TidyEntry, NoneKnown, NoneAt, knows-both, BringsTidy, TidyBehind, apply-tidy, Tidy, first-tidy, tidy-ready, tidy-here, tidy-knows, tidy-next}
 use Rattle.wcv_link.proofs.TidyEntering.{LeadsIn}
 use Rattle.wcv_link.proofs.TidyItems.{added-tidy, grow-tidy, declared-tidy}
-use Rattle.wcv_link.proofs.TidyTypes.{exports-alone, sides-alone, exports-named, sides-named, entries-tidy, NodeTidy, node-tidy}
+use Rattle.wcv_link.proofs.ValidRead.{valid_reads}
+use Rattle.wcv_link.specs.Valid.{ValidFrom, ValidItem}
+use Rattle.wcv_link.proofs.TidyTypes.{with_node, knows-node, exports-alone, sides-alone, exports-named, sides-named, entries-tidy, NodeTidy, node-tidy}
 
 -- paths lead to what instance types own
 sound-led : (t : Type_tree) → IsSound t → Led t
 sound-led (node h ps) w = w.0.1
 
 ready-leads : (p : Place) (s : Tree_stack) → Ready p s → LeadsIn s.top
-ready-leads p s h k t e = sound-led t (sorted-fine (Listed s) s.top (h.fine zero s.top refl) is_instance k t e).1
+ready-leads p s h k t e = sound-led t (sorted-fine (Near s) s.top h.fine.0.entries is_instance k t e).1
 
 -- ## The end
+
+-- a node joins the types, or the components
+closed-tidy : (k : Kind) (p : Place) (g : Known) → NoneAt p g → (n : New_node tree_reader) → NodeTidy p g n → (is_concrete k ≡ true → OwnsNothing (node_tree (base p) n)) → BringsTidy p g (closed_as k (tree_maker names_by_place p) n)
+closed-tidy concrete p g unknown n w alone =
+    let t : Type_tree = node_tree (base p) n in
+    record { known = with_node p g t; more = knows-node p g unknown t; brings = brings_one (TidyEntry (with_node p g t)) Any (appends in_components t) (alone refl, w) }
+closed-tidy declares_instance p g unknown n w alone = added-tidy p g unknown n w
+closed-tidy declares_component p g unknown n w alone = added-tidy p g unknown n w
 
 module _ (p : Place) (n : ℕ) (g : Known) (unknown : NoneKnown p g) (u : Tree_stack) (y : Tidy p n g u) where
   abbrev c : Tree_context
@@ -91,13 +104,24 @@ module _ (p : Place) (n : ℕ) (g : Known) (unknown : NoneKnown p g) (u : Tree_s
           let k = mapped-some (component_of c) (kept tree_reader c.defined outs) m w in
           subst (NodeTidy p y.known) k.2 (of_kept k.0 k.1)
 
-  -- the contexts around a declared type are tidy behind it, and its node joins the types of the nearest
-  closes-tidy : (fs : WasmFeatures) (k : Kind) (v : Tree_stack) → ended k (tree_maker names_by_place p) u ≡ Some v → ((m : New_node tree_reader) → declared_made k c ≡ Some m → NodeTidy p y.known m) → TidyBehind p g v
-  closes-tidy fs k v e made =
+  -- the type of a component owns nothing
+  component-alone : (m : New_node tree_reader) → component_made c ≡ Some m → OwnsNothing (node_tree (base p) m)
+  component-alone m e = go (any_free tree_reader c.defined ins) e
+    where
+      go : (b : Bool) → cond b None (option_map (component_of c) (kept tree_reader c.defined outs)) ≡ Some m → OwnsNothing (node_tree (base p) m)
+      go true w = cc
+      go false w =
+          let k = mapped-some (component_of c) (kept tree_reader c.defined outs) m w in
+          subst (λ (x : New_node tree_reader). OwnsNothing (node_tree (base p) x)) k.2 refl
+
+  -- the contexts around are tidy behind it, and its node joins the nearest
+  closes-tidy : (fs : WasmFeatures) (k : Kind) (v : Tree_stack) → ended k (tree_maker names_by_place p) u ≡ Some v → ((m : New_node tree_reader) → declared_made k c ≡ Some m → NodeTidy p y.known m) →
+      ((m : New_node tree_reader) → declared_made k c ≡ Some m → is_concrete k ≡ true → OwnsNothing (node_tree (base p) m)) → TidyBehind p g v
+  closes-tidy fs k v e made alone =
       let w = ends fs (tree_maker names_by_place) k p u v e in
-      let x : TidyBehind p y.known (apply (added (tree_maker names_by_place p) w.node) w.stack) =
-      apply-tidy p y.known (added (tree_maker names_by_place p) w.node) w.stack (around_has u w.stack w.stood (TidyEntry y.known) y.tidy)
-      (added-tidy p y.known (tidy-here p n g u unknown y) w.node (made w.node w.made)) in
+      let x : TidyBehind p y.known (apply (closed_as k (tree_maker names_by_place p) w.node) w.stack) =
+      apply-tidy p y.known (closed_as k (tree_maker names_by_place p) w.node) w.stack (around_has u w.stack w.stood (TidyEntry y.known) y.tidy)
+      (closed-tidy k p y.known (tidy-here p n g u unknown y) w.node (made w.node w.made) (alone w.node w.made)) in
       subst (TidyBehind p g) w.joined (record { known = x.known; more = knows-both p g y.known x.known (tidy-knows p n g u y) x.more; tidy = x.tidy })
 
 -- ## Declarations
@@ -115,8 +139,16 @@ pub record Read (p : Place) (g : Known) (ds : Decls) (s u : Tree_stack) : Type 0
   pub kind : u.top.kind ≡ s.top.kind
   pub no_imports : are_built_inside ds ≡ true → s.top.imported ≡ [] → u.top.imported ≡ []
 
+-- what holds behind the items of a component
+pub record ItemsRead (w : Place) (g : Known) (s u : Tree_stack) : Type 0 where
+  pub count : ℕ
+  pub settles : Settles w count u
+  pub tidy : Tidy w count g u
+  pub outer : AllCharged s.outer u.outer
+  pub kind : u.top.kind ≡ s.top.kind
+
 -- before the first
-begins-tidy : (p : Place) (k : Kind) (g : Known) (s : Tree_stack) → Everywhere (TidyEntry g) s → AllSidesDiffer s → Tidy p 0 g (inside k s)
+pub begins-tidy : (p : Place) (k : Kind) (g : Known) (s : Tree_stack) → Everywhere (TidyEntry g) s → AllSidesDiffer s → Tidy p 0 g (inside k s)
 begins-tidy p k g s y d = first-tidy p g (inside k s) (inside_has k s (TidyEntry g) y) (inside-differ k s d)
 
 module _ (fs : WasmFeatures) where
@@ -124,19 +156,19 @@ module _ (fs : WasmFeatures) where
   component-behind : (p : Place) (g : Known) (s u v : Tree_stack) (ds : Decls) → NoneKnown p g → Ready p s → Read p g ds (inside declares_component s) u → ended declares_component (tree_maker names_by_place p) u ≡ Some v → Behind exporting p g s v
   component-behind p g s u v ds n h r e = (
     closes-grow fs declares_component p r.count s u v r.settles r.outer e h (λ m q. component-closed p r.count (base p) u r.settles m q),
-    closes-tidy p r.count g n u r.tidy fs declares_component v e (component-node p r.count g n u r.tidy r.settles),
+    closes-tidy p r.count g n u r.tidy fs declares_component v e (component-node p r.count g n u r.tidy r.settles) (λ m q z. absurd (false≢true z)),
   )
 
   instance-behind : (p : Place) (g : Known) (s u v : Tree_stack) (ds : Decls) → are_built_inside ds ≡ true → NoneKnown p g → Ready p s → Read p g ds (inside declares_instance s) u → ended declares_instance (tree_maker names_by_place p) u ≡ Some v → Behind exporting p g s v
   instance-behind p g s u v ds b n h r e = (
     closes-grow fs declares_instance p r.count s u v r.settles r.outer e h
         (λ m q. subst (λ (x : New_node tree_reader). IsClosed u (node_tree (base p) x)) (some-inj q) (instance-closed p r.count (base p) u r.settles (ap is_concrete r.kind) (r.no_imports b refl))),
-    closes-tidy p r.count g n u r.tidy fs declares_instance v e (λ m q. subst (NodeTidy p r.tidy.known) (some-inj q) (instance-node p r.count g n u r.tidy)),
+    closes-tidy p r.count g n u r.tidy fs declares_instance v e (λ m q. subst (NodeTidy p r.tidy.known) (some-inj q) (instance-node p r.count g n u r.tidy)) (λ m q z. absurd (false≢true z)),
   )
 
   -- what is read in one step
-  form-behind : (p : Place) (g : Known) (s u : Tree_stack) (f : Form) → MayStand f s.top → is_plain f ≡ true → ItemNamed s.top f → grow fs (tree_maker names_by_place p) s f ≡ Some u → NoneKnown p g → Ready p s → Everywhere (TidyEntry g) s → Behind (side_of f) p g s u
-  form-behind p g s u f may b d e n h y = (grow-grows p s h g (y zero s.top refl) fs f u may b e, grow-tidy p s (ready-leads p s h) g y n fs f u d e)
+  form-behind : (p : Place) (g : Known) (s u : Tree_stack) (f : Form) → MayStand f s.top → is_plain f ≡ true → IsFree (form_checks fs (tree_maker names_by_place p) s f) → ItemNamed s.top f → grow fs (tree_maker names_by_place p) s f ≡ Some u → NoneKnown p g → Ready p s → Everywhere (TidyEntry g) s → Behind (side_of f) p g s u
+  form-behind p g s u f may b free d e n h y = (grow-grows p s h g y fs f u may b free e, grow-tidy p s (ready-leads p s h) g y n fs f u d e)
 
   mutual
     type-behind : (p : Place) (g : Known) (s v : Tree_stack) (t : Type_form) → is_built_type t ≡ true → IsFree (declared_checks true fs (tree_maker names_by_place) p s t) → read_type fs (tree_maker names_by_place) p s t ≡ Some v → NoneKnown p g → Ready p s →
@@ -144,22 +176,22 @@ module _ (fs : WasmFeatures) where
     type-behind p g s v (component_type ds) b free e n h y d =
         let m = then-some (ended declares_component (tree_maker names_by_place p)) (read_decls fs (tree_maker names_by_place) p 0 (inside declares_component s) ds) v e in
         component-behind p g s m.0 v ds n h
-        (decls-behind declares_component p 0 g (inside declares_component s) m.0 ds b (type-free fs names_by_place declares_component p s ds free) m.1 n (inside-settles p declares_component s h) (begins-tidy p declares_component g s y d)) m.2
+        (decls-behind declares_component p 0 g (inside declares_component s) m.0 ds b (type-free fs names_by_place declares_component p s ds free) m.1 n (inside-settles p declares_component s (λ k. absurd (false≢true k)) h) (begins-tidy p declares_component g s y d)) m.2
     type-behind p g s v (instance_type ds) b free e n h y d =
         let m = then-some (ended declares_instance (tree_maker names_by_place p)) (read_decls fs (tree_maker names_by_place) p 0 (inside declares_instance s) ds) v e in
         instance-behind p g s m.0 v ds b n h
-        (decls-behind declares_instance p 0 g (inside declares_instance s) m.0 ds (inside_built ds b) (type-free fs names_by_place declares_instance p s ds free) m.1 n (inside-settles p declares_instance s h) (begins-tidy p declares_instance g s y d)) m.2
-    type-behind p g s v (defined_type t) b free e n h y d = form-behind p g s v (type_item (defined_type t)) tt b tt e n h y
-    type-behind p g s v (func_type t) b free e n h y d = form-behind p g s v (type_item (func_type t)) tt b tt e n h y
-    type-behind p g s v (resource_type rep dtor) b free e n h y d = form-behind p g s v (type_item (resource_type rep dtor)) tt b tt e n h y
+        (decls-behind declares_instance p 0 g (inside declares_instance s) m.0 ds (inside_built ds b) (type-free fs names_by_place declares_instance p s ds free) m.1 n (inside-settles p declares_instance s (λ k. absurd (false≢true k)) h) (begins-tidy p declares_instance g s y d)) m.2
+    type-behind p g s v (defined_type t) b free e n h y d = form-behind p g s v (type_item (defined_type t)) tt b free tt e n h y
+    type-behind p g s v (func_type t) b free e n h y d = form-behind p g s v (type_item (func_type t)) tt b free tt e n h y
+    type-behind p g s v (resource_type rep dtor) b free e n h y d = form-behind p g s v (type_item (resource_type rep dtor)) tt b free tt e n h y
 
     decl-behind : (p : Place) (g : Known) (s u : Tree_stack) (d : Decl) → is_built_decl d ≡ true → IsFree (decl_checks fs (tree_maker names_by_place) p s d) → read_decl fs (tree_maker names_by_place) p s d ≡ Some u → NoneKnown p g → Ready p s →
         Everywhere (TidyEntry g) s → AllSidesDiffer s → Behind (decl_side d) p g s u
-    decl-behind p g s u (core_type_decl t) b free e n h y d = form-behind p g s u (core_type_item t) tt b tt e n h y
+    decl-behind p g s u (core_type_decl t) b free e n h y d = form-behind p g s u (core_type_item t) tt b free tt e n h y
     decl-behind p g s u (type_decl t) b free e n h y d = type-behind p g s u t b free e n h y d
-    decl-behind p g s u (alias_decl a) b free e n h y d = form-behind p g s u (alias_item a) tt b tt e n h y
+    decl-behind p g s u (alias_decl a) b free e n h y d = form-behind p g s u (alias_item a) tt b free tt e n h y
     decl-behind p g s u (export_decl x r) b free e n h y d = (declared-grows p s h x r u b e, declared-tidy p s (ready-leads p s h) g y n x r u e)
-    decl-behind p g s u (import_decl i) b free e n h y d = form-behind p g s u (import_item i) tt b tt e n h y
+    decl-behind p g s u (import_decl i) b free e n h y d = form-behind p g s u (import_item i) tt b free tt e n h y
 
     decls-behind : (k : Kind) (p : Place) (n : ℕ) (g : Known) (s u : Tree_stack) (ds : Decls) → are_built ds ≡ true → IsFree (decls_checks fs (tree_maker names_by_place) p n k s ds) → read_decls fs (tree_maker names_by_place) p n s ds ≡ Some u → NoneKnown p g →
         Settles p n s → Tidy p n g s → Read p g ds s u
@@ -182,9 +214,31 @@ module _ (fs : WasmFeatures) where
 
   -- ## Items of a component
 
-  pub item-behind : (p : Place) (g : Known) (s u : Tree_stack) (f : Form) → is_concrete s.top.kind ≡ true → IsFree (item_causes fs (tree_maker names_by_place) p s f) → read_item fs (tree_maker names_by_place) p s f ≡ Some u → NoneKnown p g → Ready p s →
-      Everywhere (TidyEntry g) s → AllSidesDiffer s → Behind (side_of f) p g s u
-  item-behind p g s u (type_item t) c free e n h y d = type-behind p g s u t (built_here (is_built_type t) _ free) (type_item-free fs names_by_place p s t free) e n h y d
-  item-behind p g s u f c free e n h y d =
-      form-behind p g s u f (stands-in-component f s.top c) (built_here (is_plain f) (form_checks fs (tree_maker names_by_place p) s f ++ left_checks s.top f) free)
-      (item-named s fs names_by_place p f (plain-free fs names_by_place p s f free)) e n h y
+  component-ends : (p : Place) (g : Known) (s u v : Tree_stack) → NoneKnown p g → Ready p s → ItemsRead p g (inside concrete s) u → ended concrete (tree_maker names_by_place p) u ≡ Some v → Behind exporting p g s v
+  component-ends p g s u v n h r e = (
+    closes-grow fs concrete p r.count s u v r.settles r.outer e h (λ m q. component-closed p r.count (base p) u r.settles m q),
+    closes-tidy p r.count g n u r.tidy fs concrete v e (component-node p r.count g n u r.tidy r.settles) (λ m q z. component-alone p r.count g n u r.tidy m q),
+  )
+
+  mutual
+    pub item-behind : (p : Place) (g : Known) (s u : Tree_stack) (f : Form) → is_concrete s.top.kind ≡ true → ValidItem fs names_by_place p s f → read_item fs (tree_maker names_by_place) p s f ≡ Some u → NoneKnown p g → Ready p s →
+        Everywhere (TidyEntry g) s → AllSidesDiffer s → Behind (side_of f) p g s u
+    item-behind p g s u (type_item t) c v e n h y d = type-behind p g s u t (built_here (is_built_type t) _ v.0) (type_item-free fs names_by_place p s t v.0) e n h y d
+    item-behind p g s u (component_item is end) c v e n h y d =
+        let m = then-some (ended concrete (tree_maker names_by_place p)) (read_items fs (tree_maker names_by_place) p 0 (inside concrete s) is) u e in
+        let same : v.1.0 ≡ m.0 = some-inj (sym (valid_reads fs names_by_place p 0 (inside concrete s) is v.1.0 v.1.1) ∙ m.1) in
+        let r : ItemsRead p g (inside concrete s) v.1.0 =
+        items-behind p 0 g (inside concrete s) v.1.0 is refl v.1.1 n (inside-settles p concrete s (λ k. c) h) (begins-tidy p concrete g s y d) in
+        component-ends p g s m.0 u n h (subst (ItemsRead p g (inside concrete s)) same r) m.2
+    item-behind p g s u f c v e n h y d =
+        let free : IsFree (form_checks fs (tree_maker names_by_place p) s f) = plain-free fs names_by_place p s f v.0 in
+        form-behind p g s u f (stands-in-component f s.top c) (built_here (is_plain f) (form_checks fs (tree_maker names_by_place p) s f ++ left_checks s.top f) v.0) free (item-named s fs names_by_place p f free) e n h y
+
+    pub items-behind : (w : Place) (k : ℕ) (g : Known) (s u : Tree_stack) (is : Items) → is_concrete s.top.kind ≡ true → ValidFrom fs names_by_place w k s is u → NoneKnown w g → Settles w k s → Tidy w k g s → ItemsRead w g s u
+    items-behind w k g s u no_items c v n h y = subst (ItemsRead w g s) v (record { count = k; settles = h; tidy = y; outer = all_themselves s.outer; kind = refl })
+    items-behind w k g s u (next_item at f is) c v n h y =
+        let t : Tree_stack = v.1.0 in
+        let x : Behind (side_of f) (deeper w k) y.known s t = item-behind (deeper w k) y.known s t f c v.0 v.1.1 (tidy-ready w k g s n y) (settles-ready w k s h) y.tidy y.differ in
+        let z : AllSidesDiffer t = item-differ fs names_by_place (deeper w k) s t f v.0 v.1.1 y.differ in
+        let r : ItemsRead w g t u = items-behind w (suc k) g t u is (ap is_concrete x.0.kind ∙ c) v.1.2 n (settles-more w k s t h (side_of f) x.0) (tidy-next w k g s t y x.1 z) in
+        record { count = r.count; settles = r.settles; tidy = r.tidy; outer = all_twice s.outer t.outer u.outer x.0.outer r.outer; kind = r.kind ∙ x.0.kind }

@@ -2,7 +2,7 @@
 use Rattle.std.proofs.Common.{◌≡◌, zero, ◌∷◌, Bool, true, false, cond, refl, ◌∙◌, ap, subst, Some, None}
 use Rattle.wcv_core.specs.Names.{Place, base}
 use Rattle.wcv_core.specs.declared.features.WasmFeatures.{WasmFeatures}
-use Rattle.wcv_syntax.specs.Model.{Form, core_type_item, core_module_item, core_instance_item, type_item, import_item, export_item, component_item, instance_item, alias_item, start_item, canon_item, unread, Type_form, defined_type, func_type, component_type, instance_type, resource_type}
+use Rattle.wcv_syntax.specs.Model.{Form, core_type_item, core_module_item, core_instance_item, type_item, import_item, export_item, component_item, instance_item, alias_item, start_item, canon_item, Type_form, defined_type, func_type, component_type, instance_type, resource_type}
 use Rattle.wcv_syntax.specs.declared.component_type.ComponentTypeRef.{ComponentTypeRef}
 use Rattle.wcv_syntax.specs.declared.instance.ComponentAlias.{ComponentAlias}
 use Rattle.wcv_syntax.specs.declared.instance.ComponentAlias.TheVariants as alias
@@ -95,7 +95,6 @@ module _ (p : Place) (s : Tree_stack) (leads : LeadsIn s.top) (g : Known) (all :
   step-tidy fs (alias_item a) x d e = alias-tidy a x e
   step-tidy fs (start_item k args results) x d e = cc
   step-tidy fs (canon_item f) x d e = canon-tidy p s g y (none-at p g unknown) f x e
-  step-tidy fs unread x d e = cc
 
   pub grow-tidy : (fs : WasmFeatures) (f : Form) (u : Tree_stack) → ItemNamed s.top f → grow fs (tree_maker names_by_place p) s f ≡ Some u → TidyBehind p g u
   grow-tidy fs f u d e =

@@ -4,14 +4,13 @@ use Rattle.std.proofs.Common.{List, [], ◌∷◌, All, inr, subst, sym}
 use Rattle.std.specs.Prelude.{slice_get}
 use Rattle.std.proofs.lemmas.Result.{err_from_is_err_and}
 use Rattle.wcv_core.proofs.Closing.{caused_same}
-use Rattle.wcv_core.specs.CoreForm.{Group}
 use Rattle.wcv_core.specs.declared.error.ErrorKind.TheVariants as kind
 use Rattle.wcv_core.specs.Names.{Name}
 use Rattle.wcv_syntax.specs.Model.{instantiate}
 use Rattle.wcv_types.proofs.Grown.{extends_refl}
 use Rattle.wcv_types.specs.ByName.{texts_in}
 use Rattle.wcv_types.specs.Tree.{Text, is_instance}
-use Rattle.wcv_types.specs.Unfold.{Type_tree, tree_at}
+use Rattle.wcv_types.specs.Unfold.{tree_at}
 use Rattle.wcv_types.specs.declared.ids.Part.TheVariants as p
 use Rattle.wcv_types.specs.declared.shapes.ComponentEntityType.{ComponentEntityType}
 use Rattle.wcv_closed.specs.ClosedTable.{IsTable}

@@ -1,0 +1,152 @@
+-- How a stack is reached: before a root's first item, behind an item, and inside a component.
+use Rattle.std.proofs.Common.{◌≡◌, ℕ, suc, ◌<◌, List, [], ◌∷◌, length, map, refl, sym, ◌∙◌, ap, subst, arith}
+use Rattle.std.specs.Option.{option_map}
+use Rattle.wcv_core.specs.Names.{Place, deeper}
+use Rattle.wcv_core.specs.declared.features.WasmFeatures.{WasmFeatures}
+use Rattle.wcv_core.proofs.Places.{under-deeper, one-item}
+use Rattle.wcv_syntax.specs.Model.{Form, component_item, Items}
+use Rattle.wcv_types.specs.Arena.{Arena}
+use Rattle.wcv_types.specs.Entities.{entry_trees}
+use Rattle.wcv_types.specs.Sets.{identities}
+use Rattle.wcv_types.specs.Unfold.{trees}
+use Rattle.wcv_lower.specs.Checks.{IsFree}
+use Rattle.wcv_lower.specs.Context.{concrete}
+use Rattle.wcv_lower.specs.Given.{GivenNames, names_of, none_given, both_given, Numbers, no_numbers, AtMost, GivesAt}
+use Rattle.wcv_lower.specs.Items.{component_checks}
+use Rattle.wcv_lower.specs.Mapped.{map_stack}
+use Rattle.wcv_lower.specs.Names.{Names, Under, AreRenamed, SameNames}
+use Rattle.wcv_lower.specs.Renamed.{Renaming, renaming}
+use Rattle.wcv_lower.specs.Trees.{Tree_stack}
+use Rattle.wcv_lower.proofs.DeclaredGlued.{first_same, second_same}
+use Rattle.wcv_lower.proofs.Given.{gives_both, gives_wider}
+use Rattle.wcv_lower.proofs.ItemLaws.{read_item-agrees, read_item-renamed, item_causes-renamed}
+use Rattle.wcv_state.specs.Contents.{names, Contents, stack_of, ids, core_ids, sides, id_tree, core_tree, empty_state}
+use Rattle.wcv_state.specs.Promises.{numbers_of}
+use Rattle.wcv_state.specs.declared.kind.ComponentKind.TheVariants.{Component}
+use Rattle.wcv_state.proofs.Sides.{each_space, each_core, each_side}
+use Rattle.wcv_decls.specs.Declaring.{features_in, stack_in, Opened}
+use Rattle.wcv_decls.proofs.Opening.{opened_stack}
+use Rattle.wcv_decls.proofs.ReadingOn.{grown_numbers}
+use Rattle.wcv_link.specs.ItemCalls.{ItemRead}
+use Rattle.wcv_link.specs.Progress.{AcceptsItem}
+use Rattle.wcv_link.specs.Reached.{Reached, at_start, behind, within, Earlier, IsReached}
+use Rattle.wcv_link.specs.Valid.{start}
+use Rattle.wcv_link.proofs.ValidRead.{weaker, valid_item-agrees, valid_item-renamed}
+
+-- ## The beginning
+
+pub empty_stack : (a : Arena) (features : WasmFeatures) → a.core ≡ [] → stack_of a (empty_state Component features) [] ≡ start
+empty_stack a features e = λ j. record {
+  top = record start.top {
+    core = λ k. each_core (λ i. map (core_tree (trees a.nodes) i) (core_ids i (empty_state Component features).spaces) ≡ []) refl refl refl refl refl refl refl refl k j;
+    space = λ k. each_space (λ i. map (id_tree (trees a.nodes) i) (ids i (empty_state Component features).spaces) ≡ []) refl refl refl refl refl k j;
+    side = λ d. each_side (λ e. entry_trees (trees a.nodes) (sides (empty_state Component features) e) ≡ []) refl refl d j;
+    named = λ d. each_side (λ e. identities (names (empty_state Component features) e) ≡ []) refl refl d j;
+  };
+  outer = [];
+  groups = e j;
+}
+
+pub reached_start : (a : Arena) (ss : List Contents) (features : WasmFeatures) → a.core ≡ [] → ss ≡ empty_state Component features ∷ [] → IsReached a ss
+reached_start a ss features g e =
+    subst (IsReached a) (sym e) (record {
+      place = [];
+      position = 0;
+      names = none_given;
+      given = record { resources = tt; identities = tt };
+      reached = subst (Reached features (names_of none_given) [] 0) (sym (empty_stack a features g)) at_start;
+    })
+
+-- ## Places
+
+module _ (w : Place) (k : ℕ) (p : Place) where
+  -- no place is in an item and earlier
+  not_earlier : Earlier w k p → Under (deeper w k) p → ⊥
+  not_earlier h u = h k (omega arith) u
+
+  -- what is earlier stays so behind the item, and so does what is in it
+  earlier_still : Earlier w k p → Earlier w (suc k) p
+  earlier_still h j l u = h j (omega (arith, l)) u
+
+  earlier_then : Under (deeper w k) p → Earlier w (suc k) p
+  earlier_then u j l v =
+      let e : k ≡ j = one-item w k j p u v in
+      omega (arith, e, l)
+
+  -- and before the items inside the item
+  earlier_inside : Earlier w k p → Earlier (deeper w k) 0 p
+  earlier_inside h j l u = h k (omega arith) (under-deeper (deeper w k) j p u)
+
+-- ## Other names
+
+module _ (fs : WasmFeatures) (names other : Names) where
+  -- names that are the same earlier are as good
+  reached-agrees : (w : Place) (k : ℕ) (s : Tree_stack) → SameNames (Earlier w k) names other → Reached fs names w k s → Reached fs other w k s
+  reached-agrees _ _ _ h at_start = at_start
+  reached-agrees _ _ _ h (behind w k s u f r v e) =
+      let here : SameNames (Under (deeper w k)) names other = weaker fs names other (Earlier w (suc k)) (Under (deeper w k)) (earlier_then w k) h in
+      behind w k s u f (reached-agrees w k s (weaker fs names other (Earlier w (suc k)) (Earlier w k) (earlier_still w k) h) r) (valid_item-agrees fs names other (deeper w k) s f here v) (read_item-agrees names other (deeper w k) here fs s f ∙ e)
+  reached-agrees _ _ _ h (within w k s is r v) = within w k s is (reached-agrees w k s (weaker fs names other (Earlier (deeper w k) 0) (Earlier w k) (earlier_inside w k) h) r) v
+
+  -- and so are renamed ones
+  module _ (v : Renaming) (renamed : (p : Place) → AreRenamed (Under p) v.resources.to v.identities.to names other) where
+    pub reached-renamed : (w : Place) (k : ℕ) (s : Tree_stack) → Reached fs names w k s → Reached fs other w k (map_stack (renaming v) s)
+    reached-renamed _ _ _ at_start = at_start
+    reached-renamed _ _ _ (behind w k s u f r x e) =
+        behind w k (map_stack (renaming v) s) (map_stack (renaming v) u) f (reached-renamed w k s r) (valid_item-renamed v fs names other renamed (deeper w k) s f x)
+        (read_item-renamed v names other (deeper w k) (renamed (deeper w k)) fs s f ∙ ap (option_map (map_stack (renaming v))) e)
+    reached-renamed _ _ _ (within w k s is r x) =
+        within w k (map_stack (renaming v) s) is (reached-renamed w k s r) (subst IsFree (sym (item_causes-renamed v names other (deeper w k) (renamed (deeper w k)) fs s (component_item is 0))) x)
+
+-- ## One step further
+
+no_fewer : (b : Numbers) → AtMost no_numbers b
+no_fewer b = record { resources = omega arith; nodes = omega arith; stamps = omega arith }
+
+-- behind an item, by the names so far and those that were given for it
+module _ (a b : Arena) (ss ss' : List Contents) (f : Form) (h : IsReached a ss) (x : AcceptsItem a b ss ss' f) where
+  abbrev w : Place
+  w = h.place
+
+  abbrev k : ℕ
+  k = h.position
+
+  abbrev read : ItemRead (features_in ss) (deeper w k) (stack_in a ss) f (stack_in b ss') (numbers_of a) (numbers_of b)
+  read = x.reads (deeper w k)
+
+  abbrev all : GivenNames
+  all = both_given h.names read.0
+
+  all_given : GivesAt (Earlier w (suc k)) no_numbers (numbers_of b) all
+  all_given =
+      gives_both (Earlier w k) (Under (deeper w k)) (Earlier w (suc k)) no_numbers (numbers_of a) (numbers_of b) (no_fewer (numbers_of a)) (grown_numbers a b x.goes_on.arena) (not_earlier w k) (earlier_still w k) (earlier_then w k)
+      h.names read.0 h.given read.1
+
+  before_same : SameNames (Earlier w k) (names_of h.names) (names_of all)
+  before_same = first_same (Earlier w k) (Under (deeper w k)) no_numbers (numbers_of a) (numbers_of b) (not_earlier w k) h.names read.0 h.given read.1
+
+  here_same : SameNames (Under (deeper w k)) (names_of read.0) (names_of all)
+  here_same = second_same (Earlier w k) (Under (deeper w k)) no_numbers (numbers_of a) (numbers_of b) (not_earlier w k) h.names read.0 h.given read.1
+
+  pub reached_behind : IsReached b ss'
+  reached_behind = record {
+    place = w;
+    position = suc k;
+    names = all;
+    given = all_given;
+    reached = subst (λ (fs : WasmFeatures). Reached fs (names_of all) w (suc k) (stack_in b ss')) (sym x.goes_on.features)
+        (behind w k (stack_in a ss) (stack_in b ss') f (reached-agrees (features_in ss) (names_of h.names) (names_of all) w k (stack_in a ss) before_same h.reached)
+        (valid_item-agrees (features_in ss) (names_of read.0) (names_of all) (deeper w k) (stack_in a ss) f here_same read.2)
+        (read_item-agrees (names_of read.0) (names_of all) (deeper w k) here_same (features_in ss) (stack_in a ss) f ∙ read.3));
+  }
+
+-- inside a component
+pub reached_within : (a : Arena) (ss ts : List Contents) (is : Items) → 0 < length ss → IsReached a ss → Opened concrete a ss ts → IsFree (component_checks (stack_in a ss) is) → IsReached a ts
+reached_within a ss ts is l h o free = record {
+  place = deeper h.place h.position;
+  position = 0;
+  names = h.names;
+  given = gives_wider (Earlier h.place h.position) (Earlier (deeper h.place h.position) 0) no_numbers (numbers_of a) h.names (earlier_inside h.place h.position) h.given;
+  reached = subst (λ (fs : WasmFeatures). Reached fs (names_of h.names) (deeper h.place h.position) 0 (stack_in a ts)) (sym o.features)
+      (subst (Reached (features_in ss) (names_of h.names) (deeper h.place h.position) 0) (sym (opened_stack concrete a ss ts l o)) (within h.place h.position (stack_in a ss) is h.reached free));
+}

@@ -1,0 +1,136 @@
+use Rattle.std.proofs.Common.{◌≡◌, ℕ, suc, List, [], ◌∷◌, ◌++◌, length, sym, ◌∙◌, ap, subst, arith, ◌≤◌, rules}
+use Rattle.std.specs.Vec.Iter.{into_iter_items}
+use Rattle.std.proofs.lemmas.List.{length-append}
+use Rattle.std.proofs.lemmas.Result.{err_from_is_err_and}
+use Rattle.wcv_syntax.specs.Model.{Items, next_item}
+use Rattle.wcv_syntax.specs.View.{item_view, items_view}
+use Rattle.wcv_syntax.specs.declared.item.Item.{Item}
+use Rattle.wcv_syntax.specs.declared.item.Section.{the_lemmas}
+use Rattle.wcv_lower.specs.Checks.{IsFree}
+use Rattle.wcv_lower.specs.Items.{item_count, component_checks}
+use Rattle.wcv_state.specs.Contents.{Contents}
+use Rattle.wcv_state.specs.Promises.{MemoryOrCausedBy}
+use Rattle.wcv_decls.specs.Declaring.{stack_in, component_room}
+use Rattle.wcv_link.proofs.Component.{barred, inside_refused, end_refused, whole}
+use Rattle.wcv_link.proofs.ItemSizes.{items_size, rest_smaller, counted}
+use Rattle.wcv_link.proofs.ItemsOn.{ItemsSoFar, so_far_start, so_far_next, so_far_refused}
+use Rattle.wcv_link.proofs.Making.{last_may}
+use Rattle.wcv_link.proofs.Open.{ready_here, ready_then}
+use Rattle.wcv_link.proofs.Reaching.{reached_within}
+use Rattle.wcv_link.proofs.reading.+items.Goals as goal
+
+-- ## An item by its form
+
+pub read_item-read_in_last-requires : goal.read_item-read_in_last-requires
+read_item-read_in_last-requires t c = record { ready = c.requires.ready; makes = last_may c.args.types.now c.args.components.now.items c.requires.ready c.requires.reached; kind = search (rules, the_lemmas) }
+
+-- ## A component
+
+pub read_component-open_component-requires : goal.read_component-open_component-requires
+read_component-open_component-requires t c = ready_here c.args.types.now c.args.components.now.items c.requires.ready
+
+pub read_component-returns-in_err-open_component-clause-err : goal.read_component-returns-in_err-open_component-clause-err
+read_component-returns-in_err-open_component-clause-err t c =
+    let a = c.args.types.now in
+    let ss : List Contents = c.args.components.now.items in
+    let is : Items = items_view c.args.items.items in
+    let e = c.in_err-open_component.field-0.0 in
+    let many : item_count is ≡ c.len.result = counted c.args.items.items ∙ sym (c.len.ensures ∙ c.args.items.ok.0) in
+    let p = err_from_is_err_and c.from_residual.result c.from_residual.ensures.1 in
+    rw (p.1, p.2) (barred a ss is c.args.end c.args.offset e (subst (λ (n : ℕ). MemoryOrCausedBy (component_room (stack_in a ss) n) c.args.offset e) (sym many) c.in_err-open_component.ensures.err))
+
+pub read_component-read_items-requires : goal.read_component-read_items-requires
+read_component-read_items-requires t c =
+    let a = c.args.types.now in
+    let ss : List Contents = c.args.components.now.items in
+    let is : Items = items_view c.args.items.items in
+    let ts : List Contents = c.open_component.new.components.items in
+    let many : item_count is ≡ c.len.result = counted c.args.items.items ∙ sym (c.len.ensures ∙ c.args.items.ok.0) in
+    let free : IsFree (component_checks (stack_in a ss) is) = subst (λ (n : ℕ). IsFree (component_room (stack_in a ss) n)) (sym many) c.in_ok-open_component.ensures.free in
+    (omega (arith, c.decreases), (ready_then a ts c.in_ok-open_component.ensures.ready, reached_within a ss ts is c.requires.ready.some c.requires.reached c.in_ok-open_component.ensures.ok free))
+
+pub read_component-returns-in_err-read_items-clause-err : goal.read_component-returns-in_err-read_items-clause-err
+read_component-returns-in_err-read_items-clause-err t c =
+    let a = c.args.types.now in
+    let ss : List Contents = c.args.components.now.items in
+    let is : Items = items_view c.args.items.items in
+    let ts : List Contents = c.open_component.new.components.items in
+    let many : item_count is ≡ c.len.result = counted c.args.items.items ∙ sym (c.len.ensures ∙ c.args.items.ok.0) in
+    let free : IsFree (component_checks (stack_in a ss) is) = subst (λ (n : ℕ). IsFree (component_room (stack_in a ss) n)) (sym many) c.in_ok-open_component.ensures.free in
+    let p = err_from_is_err_and c.from_residual-in_err-read_items.result c.from_residual-in_err-read_items.ensures.1 in
+    rw (p.1, p.2) (inside_refused a ss ts c.requires.ready.some c.in_ok-open_component.ensures.ok is c.args.end free c.read_items.new.types c.args.offset c.in_err-read_items.field-0.0 c.in_err-read_items.ensures.err)
+
+pub read_component-end_component-requires-clause-ready : goal.read_component-end_component-requires-clause-ready
+read_component-end_component-requires-clause-ready t c = ready_here c.read_items.new.types c.read_items.new.components.items c.in_ok-read_items.ensures.ok.goes_on.ready
+
+pub read_component-returns-in_err-_id-clause-err : goal.read_component-returns-in_err-_id-clause-err
+read_component-returns-in_err-_id-clause-err t c =
+    let a = c.args.types.now in
+    let ss : List Contents = c.args.components.now.items in
+    let is : Items = items_view c.args.items.items in
+    let ts : List Contents = c.open_component.new.components.items in
+    let many : item_count is ≡ c.len.result = counted c.args.items.items ∙ sym (c.len.ensures ∙ c.args.items.ok.0) in
+    let free : IsFree (component_checks (stack_in a ss) is) = subst (λ (n : ℕ). IsFree (component_room (stack_in a ss) n)) (sym many) c.in_ok-open_component.ensures.free in
+    let p = err_from_is_err_and c.from_residual-in_err-_id.result c.from_residual-in_err-_id.ensures.1 in
+    rw (p.1, p.2)
+    (end_refused a ss ts c.requires.ready.some c.in_ok-open_component.ensures.ok is c.args.end free c.read_items.new.types c.read_items.new.components.items c.in_ok-read_items.ensures.ok c.end_component.new.types c.end_component.new.components.items
+    c.end_component.ensures.keeps c.args.offset c.in_err-_id.field-0.0 c.in_err-_id.ensures.err)
+
+pub read_component-returns-clause-ok : goal.read_component-returns-clause-ok
+read_component-returns-clause-ok t c =
+    let a = c.args.types.now in
+    let ss : List Contents = c.args.components.now.items in
+    let is : Items = items_view c.args.items.items in
+    let ts : List Contents = c.open_component.new.components.items in
+    let many : item_count is ≡ c.len.result = counted c.args.items.items ∙ sym (c.len.ensures ∙ c.args.items.ok.0) in
+    let free : IsFree (component_checks (stack_in a ss) is) = subst (λ (n : ℕ). IsFree (component_room (stack_in a ss) n)) (sym many) c.in_ok-open_component.ensures.free in
+    whole a ss ts c.requires.ready.some c.in_ok-open_component.ensures.ok is c.args.end free c.read_items.new.types c.read_items.new.components.items c.in_ok-read_items.ensures.ok c.end_component.new.types c.end_component.new.components.items
+    c.end_component.ensures.keeps c.in_ok-_id.ensures.ok
+
+-- ## Items, one after another
+
+pub read_items-loop-item-init : goal.read_items-loop-item-init
+read_items-loop-item-init t c =
+    let a = c.args.types.now in
+    let ss : List Contents = c.args.components.now.items in
+    let is : Items = items_view c.args.items.items in
+    let items : into_iter_items c.into_iter-item-iterator.result ≡ c.args.items.items = c.into_iter-item-iterator.ensures.into_iter_gives.0 in
+    record {
+      far = subst (λ (xs : List Item). ItemsSoFar a ss is a ss 0 (items_view xs)) (sym items) (so_far_start a ss is c.requires.ready c.requires.reached);
+      left = c.into_iter-item-iterator.ensures.into_iter_gives.1 ∙ c.args.items.ok.0 ∙ sym (ap length items);
+      small = subst (λ (xs : List Item). items_size (items_view xs) ≤ items_size is) (sym items) (omega arith);
+    }
+
+pub read_items-loop-item-preserved : goal.read_items-loop-item-preserved
+read_items-loop-item-preserved t c =
+    let a = c.args.types.now in
+    let ss : List Contents = c.args.components.now.items in
+    let is : Items = items_view c.args.items.items in
+    let ts : List Contents = c.loop-item.components.items in
+    let k = length c.loop-item.yielded in
+    let x = item_view c.in-Some.item in
+    let rest : Items = items_view (into_iter_items c.next.new.self) in
+    let left : items_view (into_iter_items c.loop-item.item-iterator) ≡ next_item x.offset x.form rest = ap items_view c.in-Some.ensures.steps.0 in
+    let far : ItemsSoFar a ss is c.loop-item.types ts k (next_item x.offset x.form rest) = subst (λ (z : Items). ItemsSoFar a ss is c.loop-item.types ts k z) left c.loop-item.invariant.far in
+    let small : items_size (next_item x.offset x.form rest) ≤ items_size is = subst (λ (z : Items). items_size z ≤ items_size is) left c.loop-item.invariant.small in
+    let b = c.read_item.new.types in
+    let us : List Contents = c.read_item.new.components.items in
+    let more : suc k ≡ length (c.loop-item.yielded ++ c.in-Some.item ∷ []) = omega (arith, length-append c.loop-item.yielded (c.in-Some.item ∷ [])) in
+    record {
+      far = subst (λ (j : ℕ). ItemsSoFar a ss is b us j rest) more (so_far_next a ss is c.loop-item.types ts k x.offset x.form rest b us far c.in-Ok.ensures.ok);
+      left = let gone = c.in-Some.ensures.steps.1 in let short = ap length c.in-Some.ensures.steps.0 in let before = c.loop-item.invariant.left in omega (arith, gone, short, before);
+      small = rest_smaller x.offset x.form rest is small;
+    }
+
+pub read_items-returns-in-Err-clause-err : goal.read_items-returns-in-Err-clause-err
+read_items-returns-in-Err-clause-err t c =
+    let a = c.args.types.now in
+    let ss : List Contents = c.args.components.now.items in
+    let is : Items = items_view c.args.items.items in
+    let ts : List Contents = c.loop-item.components.items in
+    let k = length c.loop-item.yielded in
+    let x = item_view c.in-Some.item in
+    let rest : Items = items_view (into_iter_items c.next.new.self) in
+    let left : items_view (into_iter_items c.loop-item.item-iterator) ≡ next_item x.offset x.form rest = ap items_view c.in-Some.ensures.steps.0 in
+    let far : ItemsSoFar a ss is c.loop-item.types ts k (next_item x.offset x.form rest) = subst (λ (z : Items). ItemsSoFar a ss is c.loop-item.types ts k z) left c.loop-item.invariant.far in
+    so_far_refused a ss is c.loop-item.types ts k x.offset x.form rest c.read_item.new.types c.in-Err.error c.at_position.result far c.at_position.ensures.kind c.at_position.ensures.offset c.in-Err.ensures.err
