@@ -114,10 +114,11 @@ pub fn words_of(alloc: Global, line: &str) -> Result<Words, Fail> {
 
 // The words and the bytes of runs, each with its status.
 const RUNS: &str = r#"validate|{"version":1,"items":[],"end":99} => 0
-validate|{"version":1,"items":[{"at":0,"type":{}}],"end":99} => 1
+validate|{"version":1,"items":[{"at":0,"import":{"name":"f","type":{"func":0}}}],"end":99} => 1
 link 2|{"version":1,"items":[],"end":99} => 2
 |{"version":1,"items":[],"end":99} => 2
 validate|{} => 3
+validate|{"version":1,"items":[{"at":0,"type":{}}],"end":99} => 3
 validate| => 3"#;
 
 #[test]

@@ -30,7 +30,7 @@ returns-in-Ok g c =
     let whole : report (space_lengths a.state.spaces) ++ type_text a.types.core (root_tree a.types a.ty) ≡ accepted_text d h.ty =
     ap (λ (ns : List ℕ). report ns ++ type_text a.types.core (root_tree a.types a.ty)) counts ∙
     ap (λ (gs : List Group). report (lengths d.top) ++ type_text gs (root_tree a.types a.ty)) h.core ∙
-    ap (λ (t : List ℕ). report (lengths d.top) ++ t) (same_text d.groups (root_tree a.types a.ty) h.ty h.by_ids) in (
+    ap (λ (t : List ℕ). report (lengths d.top) ++ t) (same_text d.groups (root_tree a.types a.ty) h.ty h.is_type.by_ids) in (
       status.Done,
       accepted_text d h.ty,
       inl (reported features (items_view c.args.listing.items.items) d h.ty h.valid h.typed),
