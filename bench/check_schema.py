@@ -11,11 +11,11 @@ counts. Needs Python 3.10 and its package `jsonschema`, 4.0, or later versions o
 
 What must hold of each text:
 
-- Where it is no JSON, or is JSON that the schema refuses at the root or at an item as such, the status is 3
-  with the position of the first such item (0 for the root).
-- Else let K be the first item that is not read or not built: its body is one that the schema refuses, or is
-  of a form that is not built yet. The answer is `refused Unbuilt` at K's offset, or, where the items before K
-  are refused by themselves, that refusal.
+- Where it is no JSON, or is JSON that the schema refuses, the status is 3, with 0 where it refuses the root,
+  and else with the position of the first item of the root in which something is refused.
+- Else let K be the first item of the root that is not built yet. The answer is `refused Unbuilt` at K's offset,
+  or, where the items before K are refused by themselves, that refusal. Where K is a component, in which an item
+  is not built, it may be any refusal.
 - Where there is no such K, the listing is accepted, or refused with another kind than `Unbuilt`.
 
 Of numbers the schema says less than the format: see docs/LISTING.md. Here a number with a point, an exponent
@@ -116,18 +116,12 @@ def read(text):
 # What the schema says of a listing, and what is built.
 
 
-def places(value):
-    """Whether the root has no form, the first item that is none as such, and the first whose body has no form."""
-    root, items, bodies = False, [], []
-    for error in WHOLE.iter_errors(value):
-        path = list(error.absolute_path)
-        if len(path) < 2 or path[0] != "items":
-            root = True
-        elif len(path) == 2 or path[2] == "at":
-            items.append(path[1])
-        else:
-            bodies.append(path[1])
-    return root, min(items, default=None), min(bodies, default=None)
+def first_bad(value):
+    """The position of the first item of the root that has no form, 0 where the root has none, or None."""
+    paths = [list(error.absolute_path) for error in WHOLE.iter_errors(value)]
+    if any(len(path) < 2 or path[0] != "items" for path in paths):
+        return 0
+    return min((path[1] for path in paths), default=None)
 
 
 def is_number(value):
@@ -162,6 +156,14 @@ def is_built_declaration(declaration):
     return True
 
 
+def is_built_alias(alias):
+    """So of an alias."""
+    match alias:
+        case {"export": [_, "value", _]}:
+            return False
+    return True
+
+
 def is_built_export(export):
     """So of an export, and of an item that an instance lists."""
     match export:
@@ -171,8 +173,10 @@ def is_built_export(export):
 
 
 def is_built(item):
-    """Whether an item that has a form is of one that is read and built today."""
+    """Whether an item that has a form is of one that is built today: start items are not, nor a component with one."""
     match item:
+        case {"component": {"items": items}}:
+            return all(map(is_built, items))
         case {"type": body}:
             return is_built_type(body)
         case {"core-type": _} | {"core-module": _} | {"core-instance": _} | {"canon": _}:
@@ -190,16 +194,14 @@ def is_built(item):
     return False
 
 
-def first_unread(value, body):
-    """The position of the first item that the program does not read or that is not built."""
-    items = value["items"] if body is None else value["items"][:body]
-    return next((k for k, item in enumerate(items) if not is_built(item)), body)
+def first_unbuilt(value):
+    """The position of the first item that is not built, or None."""
+    return next((k for k, item in enumerate(value["items"]) if not is_built(item)), None)
 
 
-def is_read(value):
-    """Whether the program reads the root and each item, so that a change shows in its answer."""
-    root, item, body = places(value)
-    return not root and item is None and first_unread(value, body) is None
+def is_wholly_built(value):
+    """Whether each item has a form and is built, so that a change shows in the program's answer."""
+    return first_bad(value) is None and first_unbuilt(value) is None
 
 
 # The program.
@@ -228,21 +230,20 @@ def wanted(program, text):
         value = read(text)
     except NotJson:
         return "no JSON", *exactly(3, "bad listing: not JSON")
-    root, item, body = places(value)
-    if root:
-        return "bad root", *exactly(3, "bad listing at 0")
-    if item is not None:
-        return "bad item", *exactly(3, f"bad listing at {item}")
-    kind = "accepted" if body is None else "bad body"
-    unread = first_unread(value, body)
-    if unread is None:
-        return kind, "no status 3 and no Unbuilt", lambda status, line: (
+    bad = first_bad(value)
+    if bad is not None:
+        return "bad listing", *exactly(3, f"bad listing at {bad}")
+    unbuilt = first_unbuilt(value)
+    if unbuilt is None:
+        return "built", "no status 3 and no Unbuilt", lambda status, line: (
             (status, line) == (0, "accepted") or status == 1 and not line.startswith("refused Unbuilt")
         )
-    before = program.answer(write({**value, "items": value["items"][:unread]}))
+    before = program.answer(write({**value, "items": value["items"][:unbuilt]}))
+    if before[0] == 0 and "component" in value["items"][unbuilt]:
+        return "not built", "status 1", lambda status, line: status == 1
     if before[0] == 0:
-        before = 1, f"refused Unbuilt at {value['items'][unread]['at']}"
-    return kind, *exactly(*before)
+        before = 1, f"refused Unbuilt at {value['items'][unbuilt]['at']}"
+    return "not built", *exactly(*before)
 
 
 # Listings that are changed.
@@ -478,7 +479,7 @@ def main():
     given = words.parse_args()
     program = Program(given.program)
     seeds = [*own_listings(), *(it for folder in given.folders for it in folder_listings(folder))]
-    in_turn = zip(itertools.cycle(seeds), itertools.cycle(filter(is_read, seeds)))
+    in_turn = zip(itertools.cycle(seeds), itertools.cycle(filter(is_wholly_built, seeds)))
     changes = Changes(random.Random(given.seed), seeds)
     changed = itertools.islice(itertools.chain.from_iterable(in_turn), given.count)
     whole = [text for name in WHOLLY_CHANGED for text in every_change(read_example(name))]

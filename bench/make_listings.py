@@ -85,7 +85,7 @@ def many_params():
 
 
 def nested(limit, around):
-    """Bodies that are not read, of 124 parts one in the other: with the root, its items and the item they
+    """Bodies without a form, of 124 parts one in the other: with the root, its items and the item they
     are as deep as a listing may nest."""
     body = 0
     for _ in range(124):
