@@ -1,6 +1,6 @@
 -- From what the parts of a run did to what it answers.
 use Rattle.wcv_core.specs.Limits.{max_listing}
-use Rattle.std.proofs.Common.{◌≡◌, ℕ, ◌+◌, ◌<◌, ◌≤◌, ◌⊎◌, inl, inr, List, [], ◌++◌, length, Option, Some, None, IfSome, refl, sym, ap, ◌∙◌, subst, arith, length-append, ⊎_elim}
+use Rattle.std.proofs.Common.{◌≡◌, ℕ, ◌+◌, ◌*◌, ◌<◌, ◌≤◌, ◌⊎◌, inl, inr, List, [], ◌++◌, length, Option, Some, None, IfSome, refl, sym, ap, ◌∙◌, subst, arith, length-append, ⊎_elim}
 use Rattle.std.proofs.lemmas.List.{append-nil}
 use Rattle.std.proofs.lemmas.Bool.{cases_lt}
 use Rattle.std.proofs.lemmas.Bool.Decides.{nat_tests}
@@ -9,10 +9,12 @@ use Rattle.wcv_main.specs.declared.status.Status.{Status}
 use Rattle.wcv_main.specs.declared.status.Status.TheVariants as status
 use Rattle.wcv_core.specs.declared.error.ErrorKind.{ErrorKind}
 use Rattle.wcv_core.specs.declared.features.WasmFeatures.{WasmFeatures}
+use Rattle.wcv_core.specs.Features.{default_features}
 use Rattle.wcv_syntax.specs.Model.{Items}
+use Rattle.wcv_listing.specs.Generated.{generated}
 use Rattle.wcv_lower.specs.Ending.{type_at_end}
 use Rattle.wcv_lower.specs.Trees.{Type_tree, Tree_stack, node_tree}
-use Rattle.wcv_main.specs.Due.{Due, wrong_words, too_long, no_json, no_shape, sections, due_of_bytes, due_over, usage, IsReport, IsExpected, accepted_text, refusal_text}
+use Rattle.wcv_main.specs.Due.{Due, wrong_words, too_long, no_json, no_shape, sections, made, due_of_bytes, due_over, usage, IsReport, IsSummary, IsExpected, accepted_text, made_text, refusal_text}
 use Rattle.wcv_core.specs.Names.{base}
 use Rattle.wcv_lower.proofs.EndingLaws.{has_type}
 use Rattle.wcv_link.specs.Valid.{ValidTo, Refused}
@@ -26,6 +28,10 @@ use Rattle.wcv_main.proofs.Known.{appends_nothing}
 pub reported : (features : WasmFeatures) (is : Items) (d : Tree_stack) (t : Type_tree) → ValidTo features is d → type_at_end (node_tree (base [])) d.top ≡ Some t → IsReport features is status.Done (accepted_text d t)
 reported features is d t v e = record { context = d; ty = t; valid = v; typed = e; listed = valid_lists features is d (base []) t v e; status_is = refl; text_is = refl }
 
+-- so is the summary of a valid one that is made for a number
+pub summed : (n : ℕ) (d : Tree_stack) → ValidTo default_features (generated n) d → IsSummary n status.Done (made_text n d)
+summed n d v = record { context = d; valid = v; status_is = refl; text_is = refl }
+
 -- something is always due
 pub some_due : (d : Due) → (s : Status) × (text : List ℕ) × IsExpected d s text
 some_due wrong_words = (status.Words, usage, (refl, refl))
@@ -38,6 +44,11 @@ some_due (sections features is end) = by_answer (valid_or_refused features is en
     by_answer (inl v) =
         let t = has_type (node_tree (base [])) v.0.top v.1.1 in
         (status.Done, accepted_text v.0 t.0, inl (reported features is v.0 t.0 v.1 t.1))
+    by_answer (inr r) = (status.Refused, refusal_text r.0 r.1 [], inr (r.0, r.1, r.2, refl, ([], refl)))
+some_due (made n) = by_answer (valid_or_refused default_features (generated n) (5 + 3 * n))
+  where
+    by_answer : ((d : Tree_stack) × ValidTo default_features (generated n) d) ⊎ ((kind : ErrorKind) × (offset : ℕ) × Refused default_features (generated n) (5 + 3 * n) kind offset) → (s : Status) × (text : List ℕ) × IsExpected (made n) s text
+    by_answer (inl v) = (status.Done, made_text n v.0, inl (summed n v.0 v.1))
     by_answer (inr r) = (status.Refused, refusal_text r.0 r.1 [], inr (r.0, r.1, r.2, refl, ([], refl)))
 
 -- nothing was written yet

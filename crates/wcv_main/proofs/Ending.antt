@@ -1,14 +1,15 @@
 -- From a run that ended with what is due for its bytes to what its status says.
 use Rattle.wcv_core.specs.Limits.{max_listing}
-use Rattle.std.proofs.Common.{◌≡◌, ℕ, ◌<◌, ◌≤◌, inl, inr, List, length, Option, Result, Ok, Err, Bool, true, false, nat_lt, refl, sym, ap, ◌∙◌, subst, arith}
+use Rattle.std.proofs.Common.{◌≡◌, ◌⊎◌, ℕ, ◌<◌, ◌≤◌, inl, inr, List, length, Option, Some, None, Result, Ok, Err, Bool, true, false, nat_lt, is_some, refl, sym, ap, ◌∙◌, subst, arith}
 use Rattle.std.specs.Prelude.{if◌then◌else◌}
+use Rattle.std.specs.Io.KnownBytes.{Appends}
 use Rattle.std.proofs.lemmas.Bool.Decides.{nat_tests}
 use Rattle.wcv_listing.specs.Listing.{Outcome, not_json, bad_shape, listed, outcome_of}
 use Rattle.wcv_main.specs.declared.status.Status.{Status}
 use Rattle.wcv_main.specs.declared.status.Status.TheVariants as status
-use Rattle.wcv_main.specs.Answers.{Ends, Finishes, IsAnswer}
+use Rattle.wcv_main.specs.Answers.{Ends, Finishes, IsAnswer, MayStandIn}
 use Rattle.wcv_main.specs.Codes.{code_of}
-use Rattle.wcv_main.specs.Due.{Due, wrong_words, too_long, no_json, no_shape, sections, due_of_bytes, due_of_outcome, IsExpected}
+use Rattle.wcv_main.specs.Due.{Due, wrong_words, too_long, no_json, no_shape, sections, made, due_of_bytes, due_of_outcome, due_of_number, usage, IsExpected}
 use Rattle.wcv_main.specs.Faults.{Rose}
 use Rattle.wcv_main.specs.Pump.{Goes}
 use Rattle.wcv_main.specs.declared.pump.WriteError.{WriteError}
@@ -23,6 +24,7 @@ OfBytes too_long = Unit {0}
 OfBytes no_json = Unit {0}
 OfBytes (no_shape at) = Unit {0}
 OfBytes (sections features is end) = Unit {0}
+OfBytes (made n) = ⊥
 
 outcome_of_bytes : (o : Outcome) → OfBytes (due_of_outcome o)
 outcome_of_bytes not_json = tt
@@ -36,34 +38,26 @@ of_bytes bytes = go (nat_lt max_listing (length bytes))
     go true = tt
     go false = outcome_of_bytes (outcome_of bytes)
 
--- the status of an answer to bytes
-abbrev OfListing : Status → Type 0
-OfListing status.Done = Unit {0}
-OfListing status.Refused = Unit {0}
-OfListing status.Words = ⊥
-OfListing status.Listing = Unit {0}
-OfListing status.TooLong = Unit {0}
-OfListing status.ReadFault = ⊥
-OfListing status.WriteFault = ⊥
-OfListing status.Memory = ⊥
+-- it is not how the program is used
+no_usage : (d : Due) (s : Status) (text : List ℕ) → OfBytes d → IsExpected d s text → s ≡ status.Words → ⊥
+no_usage wrong_words s text is h q = is
+no_usage too_long s text is h q = omega (arith, ap code_of (sym h.0 ∙ q))
+no_usage no_json s text is h q = omega (arith, ap code_of (sym h.0 ∙ q))
+no_usage (no_shape at) s text is h q = omega (arith, ap code_of (sym h.0 ∙ q))
+no_usage (sections features items end) s text is (inl h) q = omega (arith, ap code_of (sym h.status_is ∙ q))
+no_usage (sections features items end) s text is (inr h) q = omega (arith, ap code_of (sym h.3 ∙ q))
+no_usage (made n) s text is h q = is
 
-listing_status : (d : Due) (s : Status) (text : List ℕ) → OfBytes d → IsExpected d s text → OfListing s
-listing_status wrong_words s text is h = absurd is
-listing_status too_long s text is h = subst OfListing (sym h.0) tt
-listing_status no_json s text is h = subst OfListing (sym h.0) tt
-listing_status (no_shape at) s text is h = subst OfListing (sym h.0) tt
-listing_status (sections features items end) s text is (inl h) = subst OfListing (sym h.status_is) tt
-listing_status (sections features items end) s text is (inr h) = subst OfListing (sym h.3) tt
-
-is_answer : (s : Status) → OfListing s → IsAnswer s
-is_answer status.Done h = h
-is_answer status.Refused h = h
-is_answer status.Words h = absurd h
-is_answer status.Listing h = h
-is_answer status.TooLong h = h
-is_answer status.ReadFault h = absurd h
-is_answer status.WriteFault h = absurd h
-is_answer status.Memory h = absurd h
+-- a status that is due is no fault
+expected_answer : (d : Due) (s : Status) (text : List ℕ) → IsExpected d s text → IsAnswer s
+expected_answer wrong_words s text h = subst IsAnswer (sym h.0) tt
+expected_answer too_long s text h = subst IsAnswer (sym h.0) tt
+expected_answer no_json s text h = subst IsAnswer (sym h.0) tt
+expected_answer (no_shape at) s text h = subst IsAnswer (sym h.0) tt
+expected_answer (sections features items end) s text (inl h) = subst IsAnswer (sym h.status_is) tt
+expected_answer (sections features items end) s text (inr h) = subst IsAnswer (sym h.3) tt
+expected_answer (made n) s text (inl h) = subst IsAnswer (sym h.status_is) tt
+expected_answer (made n) s text (inr h) = subst IsAnswer (sym h.3) tt
 
 -- out of memory, and nothing was written
 pub nothing_ends : (d : Due) (old : Option (List ℕ)) (faults : ℕ) → Ends d status.Memory old old faults faults
@@ -83,26 +77,42 @@ module _ (r : Result Unit WriteError) (s : Status) (old new : Option (List ℕ))
   pub memory_finishes : r ≡ Err write_error.Memory → Finishes status.Memory s old new text before now
   memory_finishes e = let h : WentWith (Err write_error.Memory) = subst WentWith e went in inr (inr (refl, h.0, h.1))
 
-module _ (bytes : List ℕ) (result : Status) (old new : Option (List ℕ)) (before now : ℕ) (e : Ends (due_of_bytes bytes) result old new before now) where
-  listing_due : OfListing e.0
-  listing_due = listing_status (due_of_bytes bytes) e.0 e.1 (of_bytes bytes) e.2
-
+module _ (d : Due) (result : Status) (old new : Option (List ℕ)) (before now : ℕ) (e : Ends d result old new before now) where
   pub answer_due : IsAnswer e.0
-  answer_due = is_answer e.0 listing_due
+  answer_due = expected_answer d e.0 e.1 e.2
 
-  pub no_words : result ≡ status.Words → ⊥
-  no_words q = go e.3
+  -- the status that is due stands at the end, where that is no fault
+  pub status_is : (s : Status) → IsAnswer s → result ≡ s → e.0 ≡ s
+  status_is s is q = go e.3
     where
-      go : Finishes result e.0 old new e.1 before now → ⊥
-      go (inl w) = subst OfListing (sym w.0 ∙ q) listing_due
-      go (inr (inl w)) = omega (arith, ap code_of (sym w.0 ∙ q))
-      go (inr (inr w)) = omega (arith, ap code_of (sym w.0 ∙ q))
+      go : Finishes result e.0 old new e.1 before now → e.0 ≡ s
+      go (inl w) = sym w.0 ∙ q
+      go (inr (inl w)) = absurd (subst IsAnswer (sym q ∙ w.0) is)
+      go (inr (inr w)) = absurd (subst IsAnswer (sym q ∙ w.0) is)
+
+  -- the whole text went out then
+  pub appended : IsAnswer result → Appends old new e.1
+  appended is = go e.3
+    where
+      go : Finishes result e.0 old new e.1 before now → Appends old new e.1
+      go (inl w) = w.1
+      go (inr (inl w)) = absurd (subst IsAnswer w.0 is)
+      go (inr (inr w)) = absurd (subst IsAnswer w.0 is)
+
+  -- another status may stand in its place
+  pub ends_with : (s : Status) → e.0 ≡ s → (result ≡ s) ⊎ MayStandIn result
+  ends_with s is = go e.3
+    where
+      go : Finishes result e.0 old new e.1 before now → (result ≡ s) ⊎ MayStandIn result
+      go (inl w) = inl (w.0 ∙ is)
+      go (inr (inl w)) = inr (inl w.0)
+      go (inr (inr w)) = inr (inr w.0)
 
   pub no_read_fault : result ≡ status.ReadFault → ⊥
   no_read_fault q = go e.3
     where
       go : Finishes result e.0 old new e.1 before now → ⊥
-      go (inl w) = subst OfListing (sym w.0 ∙ q) listing_due
+      go (inl w) = subst IsAnswer (sym w.0 ∙ q) answer_due
       go (inr (inl w)) = omega (arith, ap code_of (sym w.0 ∙ q))
       go (inr (inr w)) = omega (arith, ap code_of (sym w.0 ∙ q))
 
@@ -110,7 +120,7 @@ module _ (bytes : List ℕ) (result : Status) (old new : Option (List ℕ)) (bef
   faults_rose q = go e.3
     where
       go : Finishes result e.0 old new e.1 before now → Rose before now
-      go (inl w) = absurd (subst OfListing (sym w.0 ∙ q) listing_due)
+      go (inl w) = absurd (subst IsAnswer (sym w.0 ∙ q) answer_due)
       go (inr (inl w)) = w.2
       go (inr (inr w)) = absurd (omega (arith, ap code_of (sym w.0 ∙ q)))
 
@@ -130,14 +140,12 @@ module _ (bytes : List ℕ) (result : Status) (old new : Option (List ℕ)) (bef
       go (inr (inl w)) = w.3
       go (inr (inr w)) = omega (arith, w.2)
 
-  -- the status that is due stands at the end, where that is no fault
-  status_is : (s : Status) → OfListing s → result ≡ s → e.0 ≡ s
-  status_is s is q = go e.3
-    where
-      go : Finishes result e.0 old new e.1 before now → e.0 ≡ s
-      go (inl w) = sym w.0 ∙ q
-      go (inr (inl w)) = absurd (subst OfListing (sym q ∙ w.0) is)
-      go (inr (inr w)) = absurd (subst OfListing (sym q ∙ w.0) is)
+module _ (bytes : List ℕ) (result : Status) (old new : Option (List ℕ)) (before now : ℕ) (e : Ends (due_of_bytes bytes) result old new before now) where
+  stands : (s : Status) → IsAnswer s → result ≡ s → e.0 ≡ s
+  stands = status_is (due_of_bytes bytes) result old new before now e
+
+  pub no_words : result ≡ status.Words → ⊥
+  no_words q = no_usage (due_of_bytes bytes) e.0 e.1 (of_bytes bytes) e.2 (stands status.Words tt q)
 
   pub bytes_long : result ≡ status.TooLong → max_listing < length bytes
   bytes_long q = go (nat_lt max_listing (length bytes)) refl e.2
@@ -150,13 +158,13 @@ module _ (bytes : List ℕ) (result : Status) (old new : Option (List ℕ)) (bef
 
       go : (b : Bool) → nat_lt max_listing (length bytes) ≡ b → IsExpected (if b then too_long else due_of_outcome (outcome_of bytes)) e.0 e.1 → max_listing < length bytes
       go true c h = grind (arith, nat_tests)
-      go false c h = absurd (no_long (outcome_of bytes) h (status_is status.TooLong tt q))
+      go false c h = absurd (no_long (outcome_of bytes) h (stands status.TooLong tt q))
 
   pub bytes_short : result ≡ status.Done → length bytes ≤ max_listing
   bytes_short q = go (nat_lt max_listing (length bytes)) refl e.2
     where
       go : (b : Bool) → nat_lt max_listing (length bytes) ≡ b → IsExpected (if b then too_long else due_of_outcome (outcome_of bytes)) e.0 e.1 → length bytes ≤ max_listing
-      go true c h = absurd (omega (arith, ap code_of (sym h.0 ∙ status_is status.Done tt q)))
+      go true c h = absurd (omega (arith, ap code_of (sym h.0 ∙ stands status.Done tt q)))
       go false c h = grind (arith, nat_tests)
 
 -- what is due for bytes that are not too many is what they read as
@@ -171,3 +179,19 @@ ends_as_read bytes o result old new before now short is e =
 pub ends_too_long : (bytes : List ℕ) (result : Status) (old new : Option (List ℕ)) (before now : ℕ) → max_listing < length bytes
     → Ends too_long result old new before now → Ends (due_of_bytes bytes) result old new before now
 ends_too_long bytes result old new before now long e = subst (λ (d : Due). Ends d result old new before now) (sym (long_due bytes long)) e
+
+-- where nothing is read, a status other than these is due for no words
+pub words_alone : (number : Option ℕ) (s : Status) (text : List ℕ) → IsExpected (due_of_number number) s text → s ≡ status.Words → (is_some number ≡ false) × (text ≡ usage)
+words_alone None s text h q = (refl, h.1)
+words_alone (Some n) s text (inl h) q = absurd (omega (arith, ap code_of (sym h.status_is ∙ q)))
+words_alone (Some n) s text (inr h) q = absurd (omega (arith, ap code_of (sym h.3 ∙ q)))
+
+pub never_too_long : (number : Option ℕ) (s : Status) (text : List ℕ) → IsExpected (due_of_number number) s text → s ≡ status.TooLong → ⊥
+never_too_long None s text h q = omega (arith, ap code_of (sym h.0 ∙ q))
+never_too_long (Some n) s text (inl h) q = omega (arith, ap code_of (sym h.status_is ∙ q))
+never_too_long (Some n) s text (inr h) q = omega (arith, ap code_of (sym h.3 ∙ q))
+
+-- and words that are no command have that one
+pub words_due : (number : Option ℕ) (s : Status) (text : List ℕ) → IsExpected (due_of_number number) s text → is_some number ≡ false → s ≡ status.Words
+words_due None s text h none = h.0
+words_due (Some n) s text h none = cc

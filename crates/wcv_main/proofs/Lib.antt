@@ -2,3 +2,4 @@ pub mod Answering
 pub mod Counting
 pub mod Ending
 pub mod Known
+pub mod Numbers

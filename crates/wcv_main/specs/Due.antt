@@ -1,9 +1,9 @@
 -- What is due for the words and the bytes of a run, where nothing fails.
 use Rattle.wcv_core.specs.Limits.{max_listing}
-use Rattle.std.specs.Prelude.{ℕ, ◌≡◌, ◌⊎◌, List, [], ◌∷◌, ◌++◌, length, Bool, false, nat_lt, if◌then◌else◌, codes, Option, Some}
+use Rattle.std.specs.Prelude.{ℕ, ◌≡◌, ◌⊎◌, ◌+◌, ◌*◌, List, [], ◌++◌, length, nat_lt, if◌then◌else◌, codes, Option, Some, None}
 use Rattle.std.specs.Option.{option_map}
-use Rattle.std.specs.Str.{bytes_eq}
 use Rattle.std.specs.Fmt.{decimal}
+use Rattle.wcv_core.specs.Features.{default_features}
 use Rattle.wcv_core.specs.Kinds.{kind_name}
 use Rattle.wcv_core.specs.Names.{base}
 use Rattle.wcv_core.specs.declared.error.ErrorKind.{ErrorKind}
@@ -11,6 +11,7 @@ use Rattle.wcv_core.specs.declared.features.WasmFeatures.{WasmFeatures}
 use Rattle.wcv_syntax.specs.Model.{Items}
 use Rattle.wcv_syntax.specs.View.{items_of}
 use Rattle.wcv_types.specs.Text.{type_text}
+use Rattle.wcv_listing.specs.Generated.{generated}
 use Rattle.wcv_listing.specs.Listing.{Outcome, not_json, bad_shape, listed, outcome_of}
 use Rattle.wcv_main.specs.declared.status.Status.{Status}
 use Rattle.wcv_main.specs.declared.status.Status.TheVariants as status
@@ -19,6 +20,7 @@ use Rattle.wcv_lower.specs.Ending.{type_at_end}
 use Rattle.wcv_lower.specs.Trees.{Type_tree, Tree_stack, node_tree}
 use Rattle.wcv_link.specs.Listed.{ListsResources}
 use Rattle.wcv_link.specs.Valid.{ValidTo, Refused}
+use Rattle.wcv_main.specs.Commands.{is_validate, made_number}
 use Rattle.wcv_main.specs.Report.{line, report}
 
 -- the outcome of a run, in the order in which it is looked for
@@ -30,12 +32,8 @@ pub data Due : Type 0 where
   no_shape : ℕ → Due
   -- a listing, by its features, its items and the offset of its end
   sections : WasmFeatures → Items → ℕ → Due
-
--- the one command that is built is the word `validate`
-abbrev pub is_validate : List (List ℕ) → Bool
-is_validate [] = false
-is_validate (word ∷ []) = bytes_eq word (codes "validate")
-is_validate (word ∷ more ∷ words) = false
+  -- the listing that is made for a number
+  made : ℕ → Due
 
 abbrev pub due_of_outcome : Outcome → Due
 due_of_outcome not_json = no_json
@@ -45,12 +43,20 @@ due_of_outcome (listed l) = sections l.features (items_of l.entries) l.end
 abbrev pub due_of_bytes : List ℕ → Due
 due_of_bytes bytes = if nat_lt max_listing (length bytes) then too_long else due_of_outcome (outcome_of bytes)
 
+abbrev pub due_of_number : Option ℕ → Due
+due_of_number None = wrong_words
+due_of_number (Some n) = made n
+
+-- what is due for words with which nothing is read
+abbrev pub due_unread : List (List ℕ) → Due
+due_unread words = due_of_number (made_number words)
+
 abbrev pub due_of : List (List ℕ) → List ℕ → Due
-due_of words bytes = if is_validate words then due_of_bytes bytes else wrong_words
+due_of words bytes = if is_validate words then due_of_bytes bytes else due_unread words
 
 -- so where the source may not tell its bytes: other words have their outcome whatever the bytes are
 abbrev pub due_over : List (List ℕ) → Option (List ℕ) → Option Due
-due_over words left = if is_validate words then option_map due_of_bytes left else Some wrong_words
+due_over words left = if is_validate words then option_map due_of_bytes left else Some (due_unread words)
 
 abbrev pub usage : List ℕ
 usage = line (codes "usage: wcv validate, wcv link TURNS or wcv make N")
@@ -58,6 +64,10 @@ usage = line (codes "usage: wcv validate, wcv link TURNS or wcv make N")
 -- the report of a valid root: the lengths of its index spaces, and its type at the end
 abbrev pub accepted_text : Tree_stack → Type_tree → List ℕ
 accepted_text d t = report (lengths d.top) ++ type_text d.groups t
+
+-- the number for which a listing was made, and the lengths of the root's index spaces
+abbrev pub made_text : ℕ → Tree_stack → List ℕ
+made_text n d = line (codes "made " ++ decimal n) ++ report (lengths d.top)
 
 -- the two lines of a refusal; the words of the message are not promised
 abbrev pub refusal_text : ErrorKind → ℕ → List ℕ → List ℕ
@@ -78,6 +88,14 @@ pub record IsReport (features : WasmFeatures) (is : Items) (s : Status) (text : 
   pub status_is : s ≡ status.Done
   pub text_is : text ≡ accepted_text context ty
 
+-- the listing that is made for a number is valid: no type is written
+pub record IsSummary (n : ℕ) (s : Status) (text : List ℕ) : Type 0 where
+  -- the stack at the root's end
+  pub context : Tree_stack
+  pub valid : ValidTo default_features (generated n) context
+  pub status_is : s ≡ status.Done
+  pub text_is : text ≡ made_text n context
+
 -- the root is refused: a kind that is a cause at the place of refusal, and its offset
 abbrev pub IsRefusal : WasmFeatures → Items → ℕ → Status → List ℕ → Type 0
 IsRefusal features is end s text = (kind : ErrorKind) × (offset : ℕ) × Refused features is end kind offset × (s ≡ status.Refused) × IsRefusalText kind offset text
@@ -89,3 +107,4 @@ IsExpected too_long s text = (s ≡ status.TooLong) × (text ≡ line (codes "li
 IsExpected no_json s text = (s ≡ status.Listing) × (text ≡ line (codes "bad listing: not JSON"))
 IsExpected (no_shape at) s text = (s ≡ status.Listing) × (text ≡ line (codes "bad listing at " ++ decimal at))
 IsExpected (sections features is end) s text = IsReport features is s text ⊎ IsRefusal features is end s text
+IsExpected (made n) s text = IsSummary n s text ⊎ IsRefusal default_features (generated n) (5 + 3 * n) s text

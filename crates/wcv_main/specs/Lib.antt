@@ -1,6 +1,7 @@
 pub mod Adapters
 pub mod Answers
 pub mod Codes
+pub mod Commands
 pub mod Due
 pub mod Faults
 pub mod Memory

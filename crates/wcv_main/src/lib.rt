@@ -2,9 +2,12 @@
 #![tactic(auto)]
 
 mod adapter;
+mod command;
 mod ends;
+mod make;
 mod memory;
 mod pump;
+mod refusal;
 mod report;
 mod report_lines;
 mod status;

@@ -23,7 +23,7 @@ use wcv_text::TypeLines;
 const CHUNK: usize = 65_536;
 
 /// The lengths of the thirteen index spaces.
-fn space_lengths(state: &ComponentState) -> [u64; 13]
+pub fn space_lengths(state: &ComponentState) -> [u64; 13]
     ensures { result ≡ lengths_of_spaces state.now.spaces }
 {
     [

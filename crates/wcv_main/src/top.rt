@@ -1,5 +1,5 @@
 // The top call.
-ghost use Rattle.std.specs.Prelude.{◌≡◌, ◌≢◌, ◌+◌, ◌≤◌, ◌<◌, ◌⊎◌, ◌++◌, ℕ, List, [], false, length, string_bytes, IfOk};
+ghost use Rattle.std.specs.Prelude.{◌≡◌, ◌≢◌, ◌+◌, ◌≤◌, ◌<◌, ◌⊎◌, ◌++◌, ℕ, List, [], true, false, length, string_bytes, IfOk};
 ghost use Rattle.std.specs.Io.KnownBytes.{Appends, IsAtEnd};
 ghost use Rattle.wcv_core.specs.Refusal.{error_kind, error_offset};
 ghost use Rattle.wcv_core.specs.declared.features.WasmFeatures.{WasmFeatures};
@@ -10,56 +10,24 @@ ghost use Rattle.wcv_types.specs.ComponentTrees.{root_tree};
 ghost use Rattle.wcv_link.specs.Accepts.{Accepts};
 ghost use Rattle.wcv_main.specs.Faults.{Rose};
 ghost use Rattle.wcv_main.specs.Pump.{ConsumesAtMost, ConsumesExactly};
-ghost use Rattle.wcv_main.specs.Due.{is_validate, due_of_bytes, due_of, IsExpected, usage, sections, no_shape as no_shape_at, IsRefusalText};
+ghost use Rattle.wcv_main.specs.Commands.{is_validate, is_command};
+ghost use Rattle.wcv_main.specs.Due.{due_of_bytes, due_unread, usage, sections, no_shape as no_shape_at};
 ghost use Rattle.wcv_main.specs.Report.{report, space_lengths as lengths_of_spaces};
 ghost use Rattle.wcv_main.specs.Answers.{MayStandIn, Answers, Cuts, Ends, Finishes};
 
+use crate::command::{is_validate_command, made_number};
 use crate::ends::{Sink, Source};
-use crate::pump::{ReadError, WriteError, read_all, write_all};
+use crate::make::make;
+use crate::pump::{ReadError, WriteError, read_all};
+use crate::refusal::{finish, refuse};
 use crate::report_lines::write_report;
 use crate::status::Status;
 use crate::words::Words;
-use std::alloc::{AllocError, Global};
+use std::alloc::Global;
+use wcv_core::ErrorKind;
 use wcv_core::limits::MAX_LISTING;
-use wcv_core::{Error, ErrorKind};
 use wcv_link::{Accepted, validate_sections};
 use wcv_listing::{Listing, ListingError, read_listing};
-
-/// Whether the words are the command `validate`.
-fn is_validate_command(words: &Words) -> bool
-    ensures { result ≡ is_validate words.now }
-{
-    if words.len() != 1 {
-        return false;
-    }
-    match words.get(0) {
-        Some(word) => word == "validate",
-        None => false,
-    }
-}
-
-/// The two lines of a refusal.
-fn refusal_text(alloc: Global, error: &Error) -> Result<String, AllocError>
-    ensures { IfOk result (λ text. IsRefusalText (error_kind error.now) (error_offset error.now) (string_bytes text)) }
-{
-    let kind = error.kind();
-    let offset = error.offset();
-    let mut text = format!(in alloc; "refused {kind} at {offset}\n")?;
-    let message = error.to_string(alloc)?;
-    text.push_str(message.as_str())?;
-    text.push_str("\n")?;
-    Ok(text)
-}
-
-/// Writes the text, and answers the status, or that a write failed.
-fn finish<K: Sink>(sink: &mut K, status: Status, text: &str) -> Status
-    ensures { Finishes result status (K.taken sink.old) (K.taken sink.new) text.now (K.faults sink.old) (K.faults sink.new) }
-{
-    match write_all(sink, text.as_bytes()) {
-        Ok(()) => status,
-        Err(_) => Status::WriteFault,
-    }
-}
 
 /// Writes the report of a valid root, and answers that all is done, or what failed.
 fn accept<K: Sink>(alloc: Global, sink: &mut K, accepted: &Accepted) -> Status
@@ -81,16 +49,6 @@ fn accept_last<K: Sink>(alloc: Global, sink: &mut K, accepted: Accepted) -> Stat
     let status = accept(alloc, sink, &accepted);
     drop(accepted);
     status
-}
-
-/// Writes the two lines of a refusal.
-fn refuse<K: Sink>(alloc: Global, sink: &mut K, error: &Error) -> Status
-    ensures { (text : List ℕ) × IsRefusalText (error_kind error.now) (error_offset error.now) text × Finishes result Status.Refused (K.taken sink.old) (K.taken sink.new) text (K.faults sink.old) (K.faults sink.new) }
-{
-    match refusal_text(alloc, error) {
-        Ok(text) => finish(sink, Status::Refused, text.as_str()),
-        Err(_) => Status::Memory,
-    }
 }
 
 /// Writes what is due with a listing.
@@ -138,9 +96,24 @@ fn answer<K: Sink>(alloc: Global, sink: &mut K, bytes: &[u8]) -> Status
     }
 }
 
+/// Writes what is due for words with which nothing is read.
+fn answer_unread<K: Sink>(alloc: Global, words: &Words, sink: &mut K) -> Status
+    ensures { Ends (due_unread words.now) result (K.taken sink.old) (K.taken sink.new) (K.faults sink.old) (K.faults sink.new) }
+{
+    match made_number(words) {
+        Some(n) => make(alloc, sink, n),
+        None => finish(
+            sink,
+            Status::Words,
+            "usage: wcv validate, wcv link TURNS or wcv make N\n",
+        ),
+    }
+}
+
 /// Runs the program: with the one word `validate` it reads a listing from the source to its end, decides
-/// whether the component that it lists is valid, and writes the report or the refusal to the sink.
-/// With other words it reads nothing and writes how it is used.
+/// whether the component that it lists is valid, and writes the report or the refusal to the sink. With `make`
+/// and a number it does so with the listing that is made for the number, and writes the report without the type.
+/// With other words it writes how it is used. It reads nothing but for `validate`.
 ///
 /// Every answer but a fault and out of memory is the one that is due for the words and the bytes, and
 /// each has its cause in a clause below. What a source or a sink does not tell, no clause speaks of.
@@ -149,10 +122,10 @@ pub fn run<S: Source, K: Sink>(alloc: Global, words: &Words, source: &mut S, sin
     ensures answers { Answers words.now (S.left source.old) result (K.taken sink.old) (K.taken sink.new) }
     // Before a write fault, or out of memory, a prefix of a text that is due was written.
     ensures cuts { Cuts words.now (S.left source.old) result (K.taken sink.old) (K.taken sink.new) }
-    ensures words { is_validate words.now ≡ false → (result ≡ Status.Words) ⊎ MayStandIn result }
-    ensures usage { result ≡ Status.Words → (is_validate words.now ≡ false) × Appends (K.taken sink.old) (K.taken sink.new) usage }
+    ensures words { is_command words.now ≡ false → (result ≡ Status.Words) ⊎ MayStandIn result }
+    ensures usage { result ≡ Status.Words → (is_command words.now ≡ false) × Appends (K.taken sink.old) (K.taken sink.new) usage }
     ensures unread { is_validate words.now ≡ false → source.new ≡ source.old }
-    ensures read_fault { result ≡ Status.ReadFault → Rose (S.faults source.old) (S.faults source.new) × Appends (K.taken sink.old) (K.taken sink.new) [] }
+    ensures read_fault { result ≡ Status.ReadFault → (is_validate words.now ≡ true) × Rose (S.faults source.old) (S.faults source.new) × Appends (K.taken sink.old) (K.taken sink.new) [] }
     ensures read_always { S.faults source.old < S.faults source.new → result ≡ Status.ReadFault }
     ensures write_fault { result ≡ Status.WriteFault → Rose (K.faults sink.old) (K.faults sink.new) }
     ensures write_always { K.faults sink.old < K.faults sink.new → result ≡ Status.WriteFault }
@@ -160,14 +133,10 @@ pub fn run<S: Source, K: Sink>(alloc: Global, words: &Words, source: &mut S, sin
     ensures sink_later { K.faults sink.old ≤ K.faults sink.new }
     ensures bounded { ConsumesAtMost (S.left source.old) (S.left source.new) (MAX_LISTING + 1) }
     ensures too_long { result ≡ Status.TooLong → ConsumesExactly (S.left source.old) (S.left source.new) (MAX_LISTING + 1) }
-    ensures to_the_end { result ≡ Status.Done → IsAtEnd (S.left source.new) }
+    ensures to_the_end { is_validate words.now ≡ true → result ≡ Status.Done → IsAtEnd (S.left source.new) }
 {
     if !is_validate_command(words) {
-        return finish(
-            sink,
-            Status::Words,
-            "usage: wcv validate, wcv link TURNS or wcv make N\n",
-        );
+        return answer_unread(alloc, words, sink);
     }
     let bytes = match read_all(alloc, source) {
         Ok(bytes) => bytes,

@@ -4,7 +4,7 @@ use Rattle.std.specs.Fmt.{decimal}
 use Rattle.wcv_core.specs.Kinds.{kind_name}
 use Rattle.wcv_core.specs.Refusal.{error_kind, error_offset}
 use Rattle.wcv_main.specs.Report.{line}
-use Rattle.wcv_main.proofs.top.refusal_text.Goals as goal
+use Rattle.wcv_main.proofs.refusal.refusal_text.Goals as goal
 
 pub returns : goal.returns
 returns c =
