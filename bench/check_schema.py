@@ -5,18 +5,15 @@
 
 The listings that are changed are those in examples/, one for each example of a form in the schema, one for
 each canonical function, and the .json files below each FOLDER; each second change is one of a listing whose
-forms are all built. In seven of examples/ (functions, defined, resources, modules, linked, component-type and mismatch)
-each place is also changed in each way. The same seed makes the same listings. What disagrees is printed, and the last line has
+items all have a form. In eight of examples/ (functions, defined, resources, modules, linked, component-type, values and
+mismatch) each place is also changed in each way. The same seed makes the same listings. What disagrees is printed, and the last line has
 counts. Needs Python 3.10 and its package `jsonschema`, 4.0, or later versions of both.
 
 What must hold of each text:
 
 - Where it is no JSON, or is JSON that the schema refuses, the status is 3, with 0 where it refuses the root,
   and else with the position of the first item of the root in which something is refused.
-- Else let K be the first item of the root that is not built yet. The answer is `refused Unbuilt` at K's offset,
-  or, where the items before K are refused by themselves, that refusal. Where K is a component, in which an item
-  is not built, it may be any refusal.
-- Where there is no such K, the listing is accepted, or refused with another kind than `Unbuilt`.
+- Else the listing is accepted, or refused with one of the kinds that are known.
 
 Of numbers the schema says less than the format: see docs/LISTING.md. Here a number with a point, an exponent
 or the sign of `-0` counts as one that is not whole.
@@ -42,7 +39,12 @@ FORMS = [key for key in PARTS["item"]["properties"] if key != "at"]
 WHOLE = Draft202012Validator(SCHEMA)
 LONGEST = 8_000  # bytes of a listing of a folder that is changed
 DEEPEST = 127  # levels of nesting that are JSON
-WHOLLY_CHANGED = ("functions.json", "defined.json", "resources.json", "modules.json", "linked.json", "component-type.json", "mismatch.json")
+KINDS = (
+    "OutOfBounds WrongSort UnknownExport Feature Limit CoreType Name Conflict MethodName Options Signature Shape Borrow "
+    "Mismatch Unnamed ResourceScope AliasKind Value StartTwice Context"
+).split()
+REFUSALS = tuple(f"refused {kind} at " for kind in KINDS)
+WHOLLY_CHANGED = ("functions.json", "defined.json", "resources.json", "modules.json", "linked.json", "component-type.json", "values.json", "mismatch.json")
 
 
 class NotJson(Exception):
@@ -113,7 +115,7 @@ def read(text):
         raise NotJson from None
 
 
-# What the schema says of a listing, and what is built.
+# What the schema says of a listing.
 
 
 def first_bad(value):
@@ -128,80 +130,9 @@ def is_number(value):
     return isinstance(value, int) and not isinstance(value, bool)
 
 
-def is_built_type(body):
-    """So of the body of a type."""
-    match body:
-        case {"component": declarations} | {"instance": declarations}:
-            return all(map(is_built_declaration, declarations))
-    return True
-
-
-def is_built_alias(alias):
-    """So of the body of an alias."""
-    match alias:
-        case {"export": [_, "value", _]}:
-            return False
-    return True
-
-
-def is_built_declaration(declaration):
-    """So of a declaration in a type."""
-    match declaration:
-        case {"alias": alias}:
-            return is_built_alias(alias)
-        case {"type": body}:
-            return is_built_type(body)
-        case {"import": {"type": {"value": _}}} | {"export": {"type": {"value": _}}}:
-            return False
-    return True
-
-
-def is_built_alias(alias):
-    """So of an alias."""
-    match alias:
-        case {"export": [_, "value", _]}:
-            return False
-    return True
-
-
-def is_built_export(export):
-    """So of an export, and of an item that an instance lists."""
-    match export:
-        case {"sort": "value"} | {"type": {"value": _}}:
-            return False
-    return True
-
-
-def is_built(item):
-    """Whether an item that has a form is of one that is built today: start items are not, nor a component with one."""
-    match item:
-        case {"component": {"items": items}}:
-            return all(map(is_built, items))
-        case {"type": body}:
-            return is_built_type(body)
-        case {"core-type": _} | {"core-module": _} | {"core-instance": _} | {"canon": _}:
-            return True
-        case {"alias": alias}:
-            return is_built_alias(alias)
-        case {"import": {"type": ty}}:
-            return "value" not in ty
-        case {"export": export}:
-            return is_built_export(export)
-        case {"instance": {"exports": exports}}:
-            return all(map(is_built_export, exports))
-        case {"instance": {"args": args}}:
-            return all(sort != "value" for _, sort, _ in args)
-    return False
-
-
-def first_unbuilt(value):
-    """The position of the first item that is not built, or None."""
-    return next((k for k, item in enumerate(value["items"]) if not is_built(item)), None)
-
-
-def is_wholly_built(value):
-    """Whether each item has a form and is built, so that a change shows in the program's answer."""
-    return first_bad(value) is None and first_unbuilt(value) is None
+def has_forms(value):
+    """Whether the root and each item has a form, so that a change shows in the program's answer."""
+    return first_bad(value) is None
 
 
 # The program.
@@ -233,17 +164,9 @@ def wanted(program, text):
     bad = first_bad(value)
     if bad is not None:
         return "bad listing", *exactly(3, f"bad listing at {bad}")
-    unbuilt = first_unbuilt(value)
-    if unbuilt is None:
-        return "built", "no status 3 and no Unbuilt", lambda status, line: (
-            (status, line) == (0, "accepted") or status == 1 and not line.startswith("refused Unbuilt")
-        )
-    before = program.answer(write({**value, "items": value["items"][:unbuilt]}))
-    if before[0] == 0 and "component" in value["items"][unbuilt]:
-        return "not built", "status 1", lambda status, line: status == 1
-    if before[0] == 0:
-        before = 1, f"refused Unbuilt at {value['items'][unbuilt]['at']}"
-    return "not built", *exactly(*before)
+    return "good shape", "accepted, or refused with a kind", lambda status, line: (
+        (status, line) == (0, "accepted") or status == 1 and line.startswith(REFUSALS)
+    )
 
 
 # Listings that are changed.
@@ -479,7 +402,7 @@ def main():
     given = words.parse_args()
     program = Program(given.program)
     seeds = [*own_listings(), *(it for folder in given.folders for it in folder_listings(folder))]
-    in_turn = zip(itertools.cycle(seeds), itertools.cycle(filter(is_wholly_built, seeds)))
+    in_turn = zip(itertools.cycle(seeds), itertools.cycle(filter(has_forms, seeds)))
     changes = Changes(random.Random(given.seed), seeds)
     changed = itertools.islice(itertools.chain.from_iterable(in_turn), given.count)
     whole = [text for name in WHOLLY_CHANGED for text in every_change(read_example(name))]

@@ -561,3 +561,39 @@ def one_resource(count, width=1_000):
     yield {"import": {"name": "one", "type": {"instance": 1}}}
     yield {"instance": {"exports": [{"name": f"i{n}", "sort": "instance", "index": 0} for n in range(width)]}}
     yield {"instance": {"component": 0, "args": [[f"many{n}", "instance", 1] for n in range(count // width)]}}
+
+
+VALUES = ["cm-values"]  # the feature that values and start items need
+
+
+def component_of_values(width):
+    """A component that imports so many values, of a record and of `u32` in turn: a start function takes the first
+    half, the others are exported, and an instance lists what the function gives."""
+    half = width // 2
+    kinds = [1 if n % 2 == 0 else "u32" for n in range(width)]
+    items = [defined({"record": [["x", "u32"], ["y", "string"]]}), {"import": {"name": "pair", "type": {"eq": 0}}}]
+    items += [{"import": {"name": words_name("value", n), "type": {"value": kind}}} for n, kind in enumerate(kinds)]
+    items += [func_type([[f"p{n}", kinds[n]] for n in range(half)], "string"), import_of("started", 2)]
+    items.append({"start": {"func": 0, "args": list(range(half)), "results": 1}})
+    items += [{"export": {"name": words_name("exported", n), "sort": "value", "index": n}} for n in range(half, width)]
+    items.append({"instance": {"exports": [{"name": "given", "sort": "value", "index": width}]}})
+    return {"component": {"items": [{"at": 100 + n, **item} for n, item in enumerate(items)], "end": 100 + len(items)}}
+
+
+def values(limit, width=600):
+    """Components with values: of these there may be 1,000 in each, and of components as many."""
+    component = component_of_values(width)
+    yield from bounded(limit, lambda k: component)
+
+
+def aliased_values(count):
+    """Components that make so many values in all, 1,000 in each: an instance type that exports them, its import, an
+    alias of each and an instance that lists them all."""
+    names = [words_name("value", n) for n in range(1_000)]
+    items = [{"type": instance(*(export_decl(name, {"value": "u32"}) for name in names))}]
+    items.append({"import": {"name": "all", "type": {"instance": 0}}})
+    items += [{"alias": {"export": [0, "value", name]}} for name in names]
+    items.append({"instance": {"exports": [{"name": name, "sort": "value", "index": n} for n, name in enumerate(names)]}})
+    body = {"items": [{"at": n, **item} for n, item in enumerate(items)], "end": len(items)}
+    for _ in range(count // 1_000):
+        yield {"component": body}

@@ -4,8 +4,8 @@
     bench/measure.py [RUNS] [TABLE ..]
 
 The tables are `overview`, `small`, `front`, `long`, `nested`, `types`, `resources`, `names`, `core`, `ends`,
-`setters`, `reports`, `declared`, `instances`, `aliases`, `components` and `canonical`, all of them if none is named. Times are the smallest
-of RUNS runs, 5 if not given, in which the programs that are compared take turns: what else the machine does can only
+`setters`, `reports`, `declared`, `instances`, `aliases`, `components`, `values` and `canonical`, all of them if none is named. Times are the
+smallest of RUNS runs, 5 if not given, in which the programs that are compared take turns: what else the machine does can only
 add to them. Peak memory is the largest resident size of one more run, in which the bytes that it writes are counted
 too. Where valgrind is there, the instructions of one run are counted: they do not depend on what else the machine
 does. Memory and instructions are told for each byte of the listing as well.
@@ -232,6 +232,14 @@ def components(runs):
     print_table("Listing of a component that imports instances, all over one resource", ALL, rows, runs)
 
 
+def values(runs):
+    make = make_listings
+    first = "Listing of components that import, start with and export values"
+    print_table(first, ALL, by_size(make.values, (1,)), runs, features=make.VALUES)
+    rows = [(f"{n:,} values", make.aliased_values(n), n < 20_000) for n in (5_000, 25_000, 250_000)]
+    print_table("Listing of components that alias and list 1,000 values each", ALL, rows, runs, features=make.VALUES)
+
+
 def canonical(runs):
     make = make_canonicals
     makers = (
@@ -297,6 +305,7 @@ TABLES = {
     "instances": instances,
     "aliases": aliases,
     "components": components,
+    "values": values,
     "canonical": canonical,
 }
 

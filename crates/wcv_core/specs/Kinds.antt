@@ -26,7 +26,6 @@ kind_name kind.AliasKind = codes "AliasKind"
 kind_name kind.Value = codes "Value"
 kind_name kind.StartTwice = codes "StartTwice"
 kind_name kind.Context = codes "Context"
-kind_name kind.Unbuilt = codes "Unbuilt"
 kind_name kind.OutOfMemory = codes "OutOfMemory"
 
 abbrev pub extern_kind_name : ExternKind → List ℕ

@@ -34,8 +34,6 @@ pub enum ErrorKind {
     Value,
     StartTwice,
     Context,
-    /// The form of the item is not built yet.
-    Unbuilt,
     OutOfMemory,
 }
 
@@ -65,7 +63,6 @@ impl ErrorKind {
             ErrorKind::Value => "Value",
             ErrorKind::StartTwice => "StartTwice",
             ErrorKind::Context => "Context",
-            ErrorKind::Unbuilt => "Unbuilt",
             ErrorKind::OutOfMemory => "OutOfMemory",
         }
     }

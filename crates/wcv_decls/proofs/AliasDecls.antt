@@ -3,11 +3,9 @@ use Rattle.std.proofs.Common.{◌≡◌, ℕ, zero, suc, List, [], ◌∷◌, �
 use Rattle.std.specs.Prelude.{Option, ◌&&◌}
 use Rattle.std.specs.Option.{option_map}
 use Rattle.wcv_core.specs.Names.{Place}
-use Rattle.wcv_core.specs.Refusal.{error_kind}
 use Rattle.wcv_core.specs.declared.core_types.EntityType.{EntityType}
 use Rattle.wcv_core.specs.declared.error.Error.{Error}
 use Rattle.wcv_core.specs.declared.features.WasmFeatures.{WasmFeatures}
-use Rattle.wcv_syntax.specs.Built.{is_built_alias}
 use Rattle.wcv_syntax.specs.Model.{alias_item, alias_decl}
 use Rattle.wcv_syntax.specs.declared.instance.ComponentAlias.{ComponentAlias}
 use Rattle.wcv_syntax.specs.declared.instance.ComponentAlias.TheVariants as alias
@@ -15,14 +13,13 @@ use Rattle.wcv_syntax.specs.declared.instance.ComponentOuterAliasKind.{Component
 use Rattle.wcv_syntax.specs.declared.instance.ComponentOuterAliasKind.TheVariants as outer
 use Rattle.wcv_types.specs.Arena.{Arena}
 use Rattle.wcv_types.specs.Unfold.{Type_tree}
-use Rattle.wcv_lower.specs.Aliases.{outer_at, outer_joins, charged, concrete_at, is_charged, alias_step, alias_checks}
-use Rattle.wcv_lower.specs.Checks.{Checks, Cause, IsFree}
+use Rattle.wcv_lower.specs.Aliases.{outer_at, outer_joins, charged, concrete_at, is_charged, alias_step}
 use Rattle.wcv_lower.specs.Context.{charge}
 use Rattle.wcv_lower.specs.CoreInstances.{item_joins}
 use Rattle.wcv_lower.specs.Declared.{applied}
 use Rattle.wcv_lower.specs.DeclaredCalls.{DeclRead}
 use Rattle.wcv_lower.specs.Given.{names_of, none_given}
-use Rattle.wcv_lower.specs.Growth.{call_checks, unbuilt}
+use Rattle.wcv_lower.specs.Growth.{call_checks}
 use Rattle.wcv_lower.specs.Names.{Under}
 use Rattle.wcv_lower.specs.Readers.{sort_of}
 use Rattle.wcv_lower.specs.Step.{Step, charges, on_outer, apply, joins}
@@ -71,13 +68,13 @@ outer_sides s w (suc n) x = go (is_charged w && concrete_at n s)
         record { kind = j.kind ∙ c.kind; side = λ k. j.side k ∙ c.side k; defined = j.defined ∙ c.defined }
 
 alias_sides : (s u : Tree_stack) (x : ComponentAlias) → applied s (alias_step s x) ≡ Some u → SameSides s.top u.top
-alias_sides s u (alias.InstanceExport w i n) e = of_found s u (λ (y : Type_tree). joins tree_reader (sort_of tree_reader y) y) _ (λ y. joined_sides (sort_of tree_reader y) y s) e
+alias_sides s u (alias.InstanceExport w i n) e = of_found s u (λ (y : Type_tree). joins tree_reader false (sort_of tree_reader y) y) _ (λ y. joined_sides false (sort_of tree_reader y) y s) e
 alias_sides s u (alias.CoreInstanceExport w i n) e = of_found s u (item_joins tree_reader w) _ (λ (y : EntityType). record { kind = refl; side = λ k. refl; defined = refl }) e
 alias_sides s u (alias.Outer w n i) e = of_found s u (λ (y : Type_tree). charged s w n y ++ outer_joins w y) (outer_at s w n i) (outer_sides s w n) e
 
 -- ## The states
 
-module _ (a b : Arena) (ss ss' : List Contents) (h : AreReady a ss) (kept : KeepsOn a b ss ss') (x : ComponentAlias) (built : is_built_alias x ≡ true) where
+module _ (a b : Arena) (ss ss' : List Contents) (h : AreReady a ss) (kept : KeepsOn a b ss ss') (x : ComponentAlias) where
   module _ (w : AliasedOn a b ss ss' x) where
     before : stack_in a ss ≡ stack_on a w.outer w.old
     before = stack_at a ss w.outer w.old w.was
@@ -90,11 +87,10 @@ module _ (a b : Arena) (ss ss' : List Contents) (h : AreReady a ss) (kept : Keep
 
     pub alias_reads : ReadsDecl a b ss ss' (alias_decl x)
     alias_reads p =
-        let cs : Checks = alias_checks w.old.features (stack_on a w.outer w.old) x in
         subst (λ (fs : WasmFeatures). DeclRead fs p (stack_in a ss) (alias_decl x) (stack_in b ss') (numbers_of a) (numbers_of b)) (sym features)
         (subst (λ (s : Tree_stack). DeclRead w.old.features p s (alias_decl x) (stack_in b ss') (numbers_of a) (numbers_of b)) (sym before)
         (subst (λ (u : Tree_stack). DeclRead w.old.features p (stack_on a w.outer w.old) (alias_decl x) u (numbers_of a) (numbers_of b)) (sym after)
-        (none_given, none_made a b p, subst (λ (z : Bool). IsFree (cond z cs unbuilt)) built w.free, w.grown)))
+        (none_given, none_made a b p, w.free, w.grown)))
 
     pub alias_stays : StayReady b ss ss'
     alias_stays =
@@ -115,9 +111,7 @@ module _ (a b : Arena) (ss ss' : List Contents) (h : AreReady a ss) (kept : Keep
       where
         go : MemoryOrCausedBy (call_checks s.features (tree_maker (names_of w.names) p) (stack_of a s outer) (alias_item x)) offset e → Refused a b (alias_decl x) p offset e s.features (stack_of a s outer)
         go (inl m) = inl m
-        go (inr c) =
-            let cs : Checks = alias_checks s.features (stack_of a s outer) x in
-            inr ((w.names, w.given, subst (λ (z : Bool). Cause (cond z cs unbuilt) (error_kind e)) built c.0), c.1)
+        go (inr c) = inr ((w.names, w.given, c.0), c.1)
 
     pub alias_refuses : MemoryOr (RefusesDecl a b ss (alias_decl x)) offset e
     alias_refuses p =

@@ -1,13 +1,13 @@
 -- What a module takes from the states that are open around it.
-use Rattle.std.proofs.Common.{◌≡◌, ◌<◌, ◌-◌, List, [], ◌∷◌, ◌++◌, length, map, slice_index_or, refl, sym, ◌∙◌, ap, subst, arith, All}
+use Rattle.std.proofs.Common.{◌≡◌, List, [], ◌∷◌, ◌++◌, map, refl, sym, ◌∙◌, ap, subst, All}
 use Rattle.std.specs.Prelude.{reverse}
 use Rattle.std.proofs.lemmas.List.{map-append, reverse-append}
-use Rattle.std.proofs.lemmas.List.Elements.{All-nil, All-cons, All-head, All-tail, All-push}
+use Rattle.std.proofs.lemmas.List.Elements.{All-nil, All-head, All-tail, All-push}
 use Rattle.wcv_core.specs.CoreGroups.{total}
 use Rattle.wcv_core.specs.CoreWritten.{IsKnown}
 use Rattle.wcv_types.specs.Arena.{Arena}
 use Rattle.wcv_lower.specs.CoreItems.{core_entries, outer_entries}
-use Rattle.wcv_state.specs.Contents.{Contents, context_of, core_entries_of, StateStands}
+use Rattle.wcv_state.specs.Contents.{Contents, context_of, core_entries_of}
 use Rattle.wcv_state.proofs.CoreTypes.{entries_same, entries_known}
 use Rattle.wcv_state.proofs.Stacks.{open_split}
 use Rattle.wcv_decls.specs.Stack.{IsOpen, stack_on}

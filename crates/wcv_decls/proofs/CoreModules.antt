@@ -1,5 +1,5 @@
 -- The type of a module joins the arena and a state.
-use Rattle.std.proofs.Common.{◌≡◌, ℕ, suc, List, [], ◌∷◌, ◌++◌, map, length, refl, sym, ◌∙◌, ap, subst, arith, length-append, All, Option, Some, false, true}
+use Rattle.std.proofs.Common.{◌≡◌, ℕ, suc, List, [], ◌∷◌, ◌++◌, map, length, sym, ◌∙◌, ap, subst, arith, length-append, All, Option, Some, false, true}
 use Rattle.std.specs.Prelude.{reverse, slice_get}
 use Rattle.std.specs.Option.{option_map}
 use Rattle.wcv_core.specs.Names.{Place, number}
@@ -13,7 +13,7 @@ use Rattle.wcv_types.specs.CoreCalls.{with_core}
 use Rattle.wcv_types.specs.Rebuild.{types_in}
 use Rattle.wcv_types.specs.Standing.{Stands, Extends, with_node}
 use Rattle.wcv_types.specs.Tree.{module_type}
-use Rattle.wcv_types.specs.Unfold.{at, capped, rank, slot_tree, tree_at, tree_of, trees}
+use Rattle.wcv_types.specs.Unfold.{capped, rank, slot_tree, tree_at, tree_of, trees}
 use Rattle.wcv_types.specs.declared.arena.Node.TheVariants as n
 use Rattle.wcv_types.specs.declared.core_shapes.ModuleType.{ModuleType}
 use Rattle.wcv_types.specs.declared.ids.ComponentCoreModuleTypeId.{ComponentCoreModuleTypeId}

@@ -1,5 +1,5 @@
 -- Destructors: core functions that take one value and give nothing.
-use Rattle.std.proofs.Common.{◌≡◌, ◌<◌, ℕ, List, [], ◌∷◌, ◌++◌, length, refl, sym, ◌∙◌, ap, subst, Bool, true, false, not, ◌&&◌, Some, None, inl, inr}
+use Rattle.std.proofs.Common.{◌≡◌, ℕ, List, [], ◌∷◌, ◌++◌, length, refl, sym, ◌∙◌, ap, subst, Bool, true, false, not, ◌&&◌, Some, None, inl, inr}
 use Rattle.std.specs.Prelude.{slice_get, Option}
 use Rattle.std.specs.Option.{option_map}
 use Rattle.wcv_core.specs.CoreForm.{func_form}
@@ -15,7 +15,6 @@ use Rattle.wcv_core.proofs.Causes.{cause_left, cause_right, free_both}
 use Rattle.wcv_syntax.specs.declared.core_section.ExternalKind.TheVariants as core
 use Rattle.wcv_types.specs.Arena.{Arena}
 use Rattle.wcv_types.specs.Unfold.{Type_tree}
-use Rattle.wcv_matching.specs.ItemTests.{same_val}
 use Rattle.wcv_lower.specs.Checks.{Checks, Cause, IsFree, missing}
 use Rattle.wcv_lower.specs.Context.{is_concrete}
 use Rattle.wcv_lower.specs.CoreInstances.{core_item_at, test_found}

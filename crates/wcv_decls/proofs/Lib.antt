@@ -30,6 +30,7 @@ pub mod InstanceEnds
 pub mod Closing
 pub mod PathKeys
 pub mod TypesOn
+pub mod Unused
 pub mod OverInnermost
 pub mod AliasDecls
 pub mod Opening

@@ -6,7 +6,6 @@ use Rattle.wcv_core.specs.Refusal.{error_kind, error_offset}
 use Rattle.wcv_core.specs.declared.error.Error.{Error}
 use Rattle.wcv_core.specs.declared.error.ErrorKind.TheVariants as kind
 use Rattle.wcv_core.specs.declared.features.WasmFeatures.{WasmFeatures}
-use Rattle.wcv_syntax.specs.Built.{is_plain_type, is_built_ref}
 use Rattle.wcv_syntax.specs.Model.{Type_form, Form, Decl, core_type_decl, export_decl, import_decl, Core_type_form, core_type_item, import_item}
 use Rattle.wcv_syntax.specs.declared.component_type.ComponentTypeRef.{ComponentTypeRef}
 use Rattle.wcv_syntax.specs.declared.name.ComponentExternName.{ComponentExternName}
@@ -19,7 +18,7 @@ use Rattle.wcv_lower.specs.Given.{names_of, none_given}
 use Rattle.wcv_lower.specs.Names.{Names}
 use Rattle.wcv_lower.specs.Owned.{ItemRegular, IsLed}
 use Rattle.wcv_lower.specs.Trees.{Tree_context, Tree_stack, tree_maker}
-use Rattle.wcv_lower.specs.Types.{type_checks}
+use Rattle.wcv_lower.specs.Types.{is_plain_type, type_checks}
 use Rattle.wcv_state.specs.Contents.{Contents, spent, context_of, stack_of}
 use Rattle.wcv_state.specs.Instances.{MayOpen}
 use Rattle.wcv_state.specs.Stack.{uncharged}
@@ -63,8 +62,8 @@ module _ (a b : Arena) (ss ss' : List Contents) (w : ChangesLast stay ss ss') (h
     read_over : (d : Decl) → ((p : Place) → DeclRead w.old.features p (stack_of a w.old cs) d (stack_of b w.new cs) (numbers_of a) (numbers_of b)) → ReadsDecl a b ss ss' d
     read_over d r p = over_stack a b ss ss' w h.each k.arena (λ (fs : WasmFeatures) (u v : Tree_stack). DeclRead fs p u d v (numbers_of a) (numbers_of b)) (r p)
 
-    pub import_reads : (i : ComponentImport) → is_built_ref i.ty ≡ true → ((p : Place) → Grew a b cs p w.old w.new (import_item i)) → ReadsDecl a b ss ss' (import_decl i)
-    import_reads i e g = read_over (import_decl i) (λ p. import_read a b cs p w.old i e w.new (g p))
+    pub import_reads : (i : ComponentImport) → ((p : Place) → Grew a b cs p w.old w.new (import_item i)) → ReadsDecl a b ss ss' (import_decl i)
+    import_reads i g = read_over (import_decl i) (λ p. import_read a b cs p w.old i w.new (g p))
 
     pub export_reads : (n : ComponentExternName) (r : ComponentTypeRef) → ((p : Place) → ExportDeclared a b cs p w.old w.new n r) → ReadsDecl a b ss ss' (export_decl n r)
     export_reads n r g = read_over (export_decl n r) (λ p. export_read a b cs p w.old n r w.new (g p))
@@ -86,8 +85,8 @@ module _ (a b : Arena) (ss ss' : List Contents) (w : ChangesLast stay ss ss') (h
   refused_over : {M : Type 0} (d : Decl) (offset : ℕ) (x : Error M) → ((p : Place) → Refused a b d p offset x w.old.features (stack_of a w.old cs)) → MemoryOr (RefusesDecl a b ss d) offset x
   refused_over d offset x r p = over_before a b ss ss' w (Refused a b d p offset x) (r p)
 
-  pub import_refuses : {M : Type 0} (i : ComponentImport) → is_built_ref i.ty ≡ true → (offset : ℕ) (x : Error M) → ((p : Place) → CausedAt a b cs p w.old (import_item i) offset x) → MemoryOr (RefusesDecl a b ss (import_decl i)) offset x
-  import_refuses i e offset x c = refused_over (import_decl i) offset x (λ p. import_refused a b cs p w.old i e offset x (c p))
+  pub import_refuses : {M : Type 0} (i : ComponentImport) → (offset : ℕ) (x : Error M) → ((p : Place) → CausedAt a b cs p w.old (import_item i) offset x) → MemoryOr (RefusesDecl a b ss (import_decl i)) offset x
+  import_refuses i offset x c = refused_over (import_decl i) offset x (λ p. import_refused a b cs p w.old i offset x (c p))
 
   pub export_refuses : {M : Type 0} (n : ComponentExternName) (r : ComponentTypeRef) (offset : ℕ) (x : Error M) → ((p : Place) → ExportCaused a b p w.old n r offset x) → MemoryOr (RefusesDecl a b ss (export_decl n r)) offset x
   export_refuses n r offset x c = refused_over (export_decl n r) offset x (λ p. export_refused a b cs p w.old n r offset x (c p))

@@ -8,7 +8,6 @@ use Rattle.wcv_core.specs.Names.{Name, Place}
 use Rattle.wcv_core.specs.declared.core_types.ValType.{ValType}
 use Rattle.wcv_core.specs.declared.error.ErrorKind.{ErrorKind}
 use Rattle.wcv_core.specs.declared.features.WasmFeatures.{WasmFeatures}
-use Rattle.wcv_syntax.specs.Built.{is_plain_type}
 use Rattle.wcv_syntax.specs.Model.{Type_form, type_item, defined_type, func_type, component_type, instance_type, resource_type}
 use Rattle.wcv_types.specs.Arena.{Arena}
 use Rattle.wcv_types.specs.ComponentTrees.{resource_path}
@@ -24,7 +23,7 @@ use Rattle.wcv_lower.specs.Owned.{IsGiven, IsCalm, AllOwn}
 use Rattle.wcv_lower.specs.Readers.{New_node, Maker}
 use Rattle.wcv_lower.specs.Step.{Step, apply, defines, joins_types}
 use Rattle.wcv_lower.specs.Trees.{Entries, Tree_context, Tree_stack, tree_reader, tree_maker}
-use Rattle.wcv_lower.specs.Types.{added, type_made, type_checks}
+use Rattle.wcv_lower.specs.Types.{is_plain_type, added, type_made, type_checks}
 use Rattle.wcv_lower.proofs.CalmGrowth.{calm_grows}
 use Rattle.wcv_state.specs.Contents.{Contents, defined_resource, context_of, stack_of, StateStands}
 use Rattle.wcv_state.specs.Promises.{numbers_of}

@@ -1,14 +1,12 @@
 -- Declarations that are read one after another: what is read so far, and what that makes of the rest.
-use Rattle.std.proofs.Common.{◌≡◌, ℕ, suc, ◌≤◌, ◌<◌, List, [], ◌∷◌, ◌++◌, length, refl, sym, ◌∙◌, ap, subst, arith, inl, inr, true}
-use Rattle.std.specs.Prelude.{◌&&◌, ◌⊎◌, Bool, false}
-use Rattle.std.proofs.lemmas.Bool.{false≢true}
+use Rattle.std.proofs.Common.{◌≡◌, ℕ, suc, ◌≤◌, ◌<◌, List, [], ◌∷◌, ◌++◌, length, refl, sym, ◌∙◌, ap, subst, arith, inl, inr}
+use Rattle.std.specs.Prelude.{◌⊎◌}
 use Rattle.wcv_core.specs.Names.{Place, deeper}
 use Rattle.wcv_core.specs.Refusal.{error_kind, error_offset}
 use Rattle.wcv_core.specs.declared.error.Error.{Error}
 use Rattle.wcv_core.specs.declared.error.ErrorKind.{ErrorKind}
 use Rattle.wcv_core.specs.declared.error.ErrorKind.TheVariants as kind
 use Rattle.wcv_core.specs.declared.features.WasmFeatures.{WasmFeatures}
-use Rattle.wcv_syntax.specs.Built.{is_built_decl, are_built}
 use Rattle.wcv_syntax.specs.Model.{Decl, Decls, no_decls, declare}
 use Rattle.wcv_types.specs.Arena.{Arena}
 use Rattle.wcv_types.specs.Standing.{Extends}
@@ -113,32 +111,16 @@ pub record SoFar (k : Kind) (a : Arena) (ss : List Contents) (ds : Decls) (b : A
   pub ready : StayReady b ss ts
   pub reads : ReadsOn (features_in ss) k (stack_in a ss) ds (numbers_of a) n (stack_in b ts) left (numbers_of b)
   pub kept : KeepsOn a b ss ts
-  pub built : are_built left ≡ true
 
 pub nothing_left : {X : Type 0} (xs : List X) → length xs ≡ 0 → xs ≡ []
 nothing_left [] h = refl
 nothing_left (x ∷ xs) h = absurd (omega (arith, h))
 
-pub built_first : (d : Decl) (ds : Decls) → are_built (declare d ds) ≡ true → is_built_decl d ≡ true
-built_first d ds h = go (is_built_decl d) h
-  where
-    go : (b : Bool) → (b && are_built ds) ≡ true → b ≡ true
-    go true h = refl
-    go false h = h
-
-pub built_rest : (d : Decl) (ds : Decls) → are_built (declare d ds) ≡ true → are_built ds ≡ true
-built_rest d ds h = go (is_built_decl d) h
-  where
-    go : (b : Bool) → (b && are_built ds) ≡ true → are_built ds ≡ true
-    go true h = h
-    go false h = absurd (false≢true h)
-
-pub so_far_start : (k : Kind) (a : Arena) (ss : List Contents) (ds : Decls) → AreReady a ss → are_built ds ≡ true → SoFar k a ss ds a ss 0 ds
-so_far_start k a ss ds h built = record {
+pub so_far_start : (k : Kind) (a : Arena) (ss : List Contents) (ds : Decls) → AreReady a ss → SoFar k a ss ds a ss 0 ds
+so_far_start k a ss ds h = record {
   ready = record { ready = h; around = refl };
   reads = reads_start (features_in ss) k (stack_in a ss) ds (numbers_of a);
   kept = around_kept a a (extends_refl a) ss h.each;
-  built = built;
 }
 
 module _ (k : Kind) (a : Arena) (ss : List Contents) (ds : Decls) (some : 0 < length ss) (b : Arena) (ts : List Contents) (n : ℕ) where
@@ -154,7 +136,6 @@ module _ (k : Kind) (a : Arena) (ss : List Contents) (ds : Decls) (some : 0 < le
         ready = record { ready = w.ready; around = w.around ∙ h.ready.around };
         reads = reads_next (features_in ss) k (stack_in a ss) ds (numbers_of a) n (stack_in b ts) (numbers_of b) d left (stack_in c us) (numbers_of c) h.reads l one;
         kept = kept_both a b c ss ts us h.kept kept;
-        built = built_rest d left h.built;
       }
 
   pub so_far_all : (left : Decls) → left ≡ no_decls → SoFar k a ss ds b ts n left → ReadsDecls a b ss ts ds

@@ -8,7 +8,6 @@ use Rattle.wcv_core.specs.declared.error.Error.{Error}
 use Rattle.wcv_core.specs.declared.error.ErrorKind.{ErrorKind}
 use Rattle.wcv_core.specs.declared.error.ErrorKind.TheVariants as kind
 use Rattle.wcv_core.specs.declared.features.WasmFeatures.{WasmFeatures}
-use Rattle.wcv_syntax.specs.Built.{is_built_ref}
 use Rattle.wcv_syntax.specs.Model.{Core_type_form, core_rec, core_module_type, Form, core_type_item, import_item, Decl, core_type_decl, export_decl, import_decl}
 use Rattle.wcv_core.specs.CoreForm.{Group}
 use Rattle.wcv_core.specs.CoreJoining.{group_ids, grown}
@@ -26,14 +25,14 @@ use Rattle.wcv_types.specs.Tree.{Sort, is_nothing, is_value, is_resource, is_fun
 use Rattle.wcv_types.specs.Unfold.{Type_tree, tree_at, trees}
 use Rattle.wcv_types.specs.declared.ids.ComponentAnyTypeId.TheVariants as any
 use Rattle.wcv_types.specs.declared.ids.Part.TheVariants as part
-use Rattle.wcv_lower.specs.Checks.{Checks, Cause, IsFree}
+use Rattle.wcv_lower.specs.Checks.{Cause}
 use Rattle.wcv_lower.specs.Context.{core_types, in_instances, importing, exporting}
 use Rattle.wcv_lower.specs.CoreItems.{core_entries, is_closable, types_join, closed_step, module_joins, core_type_made}
 use Rattle.wcv_lower.specs.Declared.{applied, declared_export_step, declared_export_checks, decl_checks}
 use Rattle.wcv_lower.specs.DeclaredCalls.{DeclRead}
-use Rattle.wcv_lower.specs.Entries.{extern_name, import_checks, written}
+use Rattle.wcv_lower.specs.Entries.{extern_name, written}
 use Rattle.wcv_lower.specs.Given.{GivenNames, names_of, GivesAt}
-use Rattle.wcv_lower.specs.Growth.{grow, call_checks, unbuilt}
+use Rattle.wcv_lower.specs.Growth.{grow, call_checks}
 use Rattle.wcv_lower.specs.Names.{Under}
 use Rattle.wcv_lower.specs.Owned.{ItemRegular, IsCalm, IsLed}
 use Rattle.wcv_lower.specs.Readers.{Maker}
@@ -70,20 +69,16 @@ module _ (a b : Arena) (outer : List Tree_context) (p : Place) (s : Contents) wh
       go (inl m) = inl m
       go (inr c) = inr ((w.names, w.given, c.0), c.1)
 
-  module _ (i : ComponentImport) (built : is_built_ref i.ty ≡ true) where
+  module _ (i : ComponentImport) where
     pub import_read : (s' : Contents) → Grew a b outer p s s' (import_item i) → DeclRead s.features p (stack_of a s outer) (import_decl i) (stack_of b s' outer) (numbers_of a) (numbers_of b)
-    import_read s' w =
-        let cs : Checks = import_checks s.features (tree_maker (names_of w.names) p) (context_of a s) i in
-        (w.names, w.given, subst (λ (x : Bool). IsFree (cond x cs unbuilt)) built w.free, w.grown)
+    import_read s' w = (w.names, w.given, w.free, w.grown)
 
     pub import_refused : {M : Type 0} (offset : ℕ) (e : Error M) → CausedAt a b outer p s (import_item i) offset e → Refused a b (import_decl i) p offset e s.features (stack_of a s outer)
     import_refused offset e w = go w.caused
       where
         go : MemoryOrCausedBy (call_checks s.features (tree_maker (names_of w.names) p) (stack_of a s outer) (import_item i)) offset e → Refused a b (import_decl i) p offset e s.features (stack_of a s outer)
         go (inl m) = inl m
-        go (inr c) =
-            let cs : Checks = import_checks s.features (tree_maker (names_of w.names) p) (context_of a s) i in
-            inr ((w.names, w.given, subst (λ (x : Bool). Cause (cond x cs unbuilt) (error_kind e)) built c.0), c.1)
+        go (inr c) = inr ((w.names, w.given, c.0), c.1)
 
   module _ (n : ComponentExternName) (r : ComponentTypeRef) where
     pub export_read : (s' : Contents) → ExportDeclared a b outer p s s' n r → DeclRead s.features p (stack_of a s outer) (export_decl n r) (stack_of b s' outer) (numbers_of a) (numbers_of b)
@@ -155,18 +150,18 @@ module _ (fs : WasmFeatures) (mk : Maker tree_reader) (s u : Tree_stack) where
   core_sides (core_module_type ds) e = module_sides (core_type_made fs s (core_module_type ds)) e
 
 -- an entity that joins its space changes neither
-pub joined_sides : (k : Sort) (x : Type_tree) (s : Tree_stack) → SameSides s.top (apply (joins tree_reader k x) s).top
-joined_sides is_func x s = record { kind = refl; side = λ k. refl; defined = refl }
-joined_sides is_value x s = record { kind = refl; side = λ k. refl; defined = refl }
-joined_sides is_instance x s = record { kind = refl; side = λ k. refl; defined = refl }
-joined_sides is_component x s = record { kind = refl; side = λ k. refl; defined = refl }
-joined_sides is_type x s = record { kind = refl; side = λ k. refl; defined = refl }
-joined_sides is_module x s = record { kind = refl; side = λ k. refl; defined = refl }
-joined_sides is_resource x s = record { kind = refl; side = λ k. refl; defined = refl }
-joined_sides is_nothing x s = record { kind = refl; side = λ k. refl; defined = refl }
-joined_sides is_core_instance x s = record { kind = refl; side = λ k. refl; defined = refl }
-joined_sides is_core_type x s = record { kind = refl; side = λ k. refl; defined = refl }
-joined_sides is_core_item x s = record { kind = refl; side = λ k. refl; defined = refl }
+pub joined_sides : (used : Bool) (k : Sort) (x : Type_tree) (s : Tree_stack) → SameSides s.top (apply (joins tree_reader used k x) s).top
+joined_sides used is_func x s = record { kind = refl; side = λ k. refl; defined = refl }
+joined_sides used is_value x s = record { kind = refl; side = λ k. refl; defined = refl }
+joined_sides used is_instance x s = record { kind = refl; side = λ k. refl; defined = refl }
+joined_sides used is_component x s = record { kind = refl; side = λ k. refl; defined = refl }
+joined_sides used is_type x s = record { kind = refl; side = λ k. refl; defined = refl }
+joined_sides used is_module x s = record { kind = refl; side = λ k. refl; defined = refl }
+joined_sides used is_resource x s = record { kind = refl; side = λ k. refl; defined = refl }
+joined_sides used is_nothing x s = record { kind = refl; side = λ k. refl; defined = refl }
+joined_sides used is_core_instance x s = record { kind = refl; side = λ k. refl; defined = refl }
+joined_sides used is_core_type x s = record { kind = refl; side = λ k. refl; defined = refl }
+joined_sides used is_core_item x s = record { kind = refl; side = λ k. refl; defined = refl }
 
 -- an export is no import
 pub export_body : (mk : Maker tree_reader) (s u : Tree_stack) (n : ComponentExternName) (r : ComponentTypeRef) → applied s (declared_export_step mk s.top n r) ≡ Some u → IsInstanceBody s.top → IsLed u.top → IsInstanceBody u.top
@@ -177,7 +172,7 @@ export_body mk s u n r e h led = go (written mk s.top r) e
     go (Some w) e =
         let i : apply (enters exporting (extern_name n) w) s ≡ u = cc in
         let before : Tree_stack = change (creates exporting (tree_reader.creates w.entity)) (change (lists exporting (extern_name n) w.entity) (change (introduces exporting w.resources) s)) in
-        let t : SameSides before.top (apply (enters exporting (extern_name n) w) s).top = joined_sides (tree_reader.sort w.entity) w.entity before in
+        let t : SameSides before.top (apply (enters exporting (extern_name n) w) s).top = joined_sides true (tree_reader.sort w.entity) w.entity before in
         record {
           kind = ap (λ (x : Tree_stack). x.top.kind) (sym i) ∙ t.kind ∙ h.kind;
           imports = ap (λ (x : Tree_stack). x.top.side importing) (sym i) ∙ t.side importing ∙ h.imports;

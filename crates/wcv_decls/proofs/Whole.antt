@@ -194,7 +194,7 @@ module _ (limited : Bool) (a : Arena) (ss ts : List Contents) (h : AreReady a ss
   module _ (w : Opened declares_instance a ss ts) where
     pub instance_whole : (kept : KeepsOn a m ts us) (stay : StayReady m ts us) (b : Arena) (vs : List Contents) → ReadsDecls a m ts us ds → Ends declares_instance m b us vs → KeepsOn m b (around us) vs → ReadsType limited a b ss vs (instance_type ds)
     instance_whole kept stay b vs r z after p =
-        instance_read (features_in ss) p limited (stack_in a ss) (stack_in m us) (stack_in b vs) ds (numbers_of a) (numbers_of m) (numbers_of b) (z.names p) full (inside_read declares_instance a ss ts h w m us ds r p) room
+        instance_read (features_in ss) p limited (stack_in a ss) (stack_in m us) (stack_in b vs) ds (numbers_of a) (numbers_of m) (numbers_of b) (z.names p) full (inside_read declares_instance a ss ts h w m us ds r p) z.free room
         (later declares_instance a ss ts h w m us kept stay b vs z after) (z.given p) (z.ended p)
 
     pub instance_inside_refused : {M : Type 0} (offset : ℕ) (e : Error M) → MemoryOr (RefusesDecls declares_instance a m ts ds) offset e → MemoryOr (RefusesType limited a m ss (instance_type ds)) offset e

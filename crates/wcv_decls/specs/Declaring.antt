@@ -25,7 +25,7 @@ use Rattle.wcv_lower.specs.Trees.{Tree_context, Tree_stack, tree_reader, tree_ma
 use Rattle.wcv_state.specs.Contents.{Contents}
 use Rattle.wcv_state.specs.Promises.{numbers_of, Finished}
 pub use Rattle.wcv_state.specs.Stack.{innermost, around}
-use Rattle.wcv_decls.specs.Items.{declare_checks, HoldsComponent}
+use Rattle.wcv_decls.specs.Items.{HoldsComponent}
 use Rattle.wcv_decls.specs.Stack.{IsOpen, stack_on, all_spent, all_uncharged}
 
 -- ## The states
@@ -97,10 +97,6 @@ MemoryOr P offset e = (p : Place) → (error_kind e ≡ kind.OutOfMemory) ⊎ (P
 -- a type item
 abbrev pub RefusesType : Bool → Arena → Arena → List Contents → Type_form → Place → ErrorKind → Type 0
 RefusesType limited a b ss t p e = TypeRefused limited (features_in ss) p (stack_in a ss) t e (numbers_of a) (numbers_of b)
-
--- so where whether its form is built is looked at too
-abbrev pub RefusesItem : Bool → Arena → Arena → List Contents → Type_form → Place → ErrorKind → Type 0
-RefusesItem limited a b ss t p e = (n : GivenNames) × GivesAt (Under p) (numbers_of a) (numbers_of b) n × Cause (declare_checks limited (features_in ss) (tree_maker (names_of n)) p (stack_in a ss) t) e
 
 -- a declaration
 abbrev pub RefusesDecl : Arena → Arena → List Contents → Decl → Place → ErrorKind → Type 0

@@ -2,8 +2,6 @@
 use Rattle.std.specs.Prelude.{ℕ, suc, List, Bool, false, Some, length, slice_get, ◌≡◌}
 use Rattle.wcv_core.specs.Names.{Place, number}
 use Rattle.wcv_core.specs.declared.error.Error.{Error}
-use Rattle.wcv_core.specs.declared.features.WasmFeatures.{WasmFeatures}
-use Rattle.wcv_syntax.specs.Built.{is_built_type}
 use Rattle.wcv_syntax.specs.Model.{Type_form, type_item}
 use Rattle.wcv_types.specs.Arena.{Arena}
 use Rattle.wcv_types.specs.Unfold.{Type_tree, tree_of, trees}
@@ -11,21 +9,17 @@ use Rattle.wcv_types.specs.declared.arena.Node.{Node}
 use Rattle.wcv_types.specs.declared.arena.Node.TheVariants as n
 use Rattle.wcv_types.specs.declared.component_type.ComponentType.{ComponentType}
 use Rattle.wcv_types.specs.declared.ids.ComponentTypeId.{ComponentTypeId}
-use Rattle.wcv_lower.specs.Checks.{Checks, IsFree}
-use Rattle.wcv_lower.specs.Context.{Space, in_types, Stack, push}
-use Rattle.wcv_lower.specs.Declared.{Makers, read_type, declared_checks}
+use Rattle.wcv_lower.specs.Checks.{IsFree}
+use Rattle.wcv_lower.specs.Context.{Space, in_types, push}
+use Rattle.wcv_lower.specs.Declared.{read_type, declared_checks}
 use Rattle.wcv_lower.specs.Given.{GivenNames, names_of, GivesAt}
 use Rattle.wcv_lower.specs.Growth.{grow}
 use Rattle.wcv_lower.specs.Names.{Under}
-use Rattle.wcv_lower.specs.Readers.{Reader, New_node}
+use Rattle.wcv_lower.specs.Readers.{New_node}
 use Rattle.wcv_lower.specs.Trees.{Tree_context, tree_reader, tree_maker, node_tree, type_entry}
 use Rattle.wcv_lower.specs.Types.{type_made}
 use Rattle.wcv_state.specs.Contents.{Contents, context_of, stack_of}
-use Rattle.wcv_state.specs.Promises.{MemoryOrCausedBy, numbers_of, Keeps, if_built}
-
--- the causes of a type item, where the number of types is looked at if `limited` says so
-abbrev pub declare_checks : {X : Reader} → Bool → WasmFeatures → Makers X → Place → Stack X → Type_form → Checks
-declare_checks limited fs mk p s t = if_built (is_built_type t) (declared_checks limited fs mk p s t)
+use Rattle.wcv_state.specs.Promises.{MemoryOrCausedBy, numbers_of, Keeps}
 
 -- a type as an entry of a space: among types it stands for what it creates and for what it refers to
 abbrev pub entry_in : Space → Type_tree → Type_tree
@@ -68,11 +62,11 @@ pub record Declared (limited : Bool) (a a' : Arena) (outer outer' : List Tree_co
   pub names : GivenNames
   pub given : GivesAt (Under p) (numbers_of a) (numbers_of a') names
   pub read : read_type s.features (tree_maker (names_of names)) p (stack_of a s outer) t ≡ Some (stack_of a' s' outer')
-  pub free : IsFree (declare_checks limited s.features (tree_maker (names_of names)) p (stack_of a s outer) t)
+  pub free : IsFree (declared_checks limited s.features (tree_maker (names_of names)) p (stack_of a s outer) t)
   pub live : s'.spent ≡ false
 
 -- the error is out of memory, or a cause of the type item at that place by names that the arena gave
 pub record TypeCaused {M : Type 0} (limited : Bool) (a a' : Arena) (outer : List Tree_context) (p : Place) (s : Contents) (t : Type_form) (offset : ℕ) (e : Error M) : Type 0 where
   pub names : GivenNames
   pub given : GivesAt (Under p) (numbers_of a) (numbers_of a') names
-  pub caused : MemoryOrCausedBy (declare_checks limited s.features (tree_maker (names_of names)) p (stack_of a s outer) t) offset e
+  pub caused : MemoryOrCausedBy (declared_checks limited s.features (tree_maker (names_of names)) p (stack_of a s outer) t) offset e

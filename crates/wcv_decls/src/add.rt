@@ -1,7 +1,6 @@
 // Type items of each form.
 ghost use Rattle.std.specs.Prelude.{◌≡◌, [], true, false, List, cond, OnOk, OnErr, IfErr};
 ghost use Rattle.wcv_core.specs.Names.{Place};
-ghost use Rattle.wcv_syntax.specs.Built.{is_plain_type};
 ghost use Rattle.wcv_syntax.specs.Model.{defined_type, func_type};
 ghost use Rattle.wcv_syntax.specs.View.{defined_view, func_view, type_view};
 ghost use Rattle.wcv_lower.specs.Checks.{IsFree};
@@ -9,7 +8,7 @@ ghost use Rattle.wcv_lower.specs.Defined.{own_checks, defined_checks};
 ghost use Rattle.wcv_lower.specs.Names.{Names};
 ghost use Rattle.wcv_lower.specs.Trees.{Tree_context, tree_maker};
 ghost use Rattle.wcv_lower.specs.Values.{lacks, cm_async};
-ghost use Rattle.wcv_lower.specs.Types.{func_own_checks, func_checks, tree_checks};
+ghost use Rattle.wcv_lower.specs.Types.{is_plain_type, func_own_checks, func_checks, tree_checks};
 ghost use Rattle.wcv_state.specs.Contents.{context_of, stack_of, StateStands};
 ghost use Rattle.wcv_state.specs.Promises.{MemoryOrCausedBy, Keeps};
 ghost use Rattle.wcv_decls.specs.Items.{Added, Declares};

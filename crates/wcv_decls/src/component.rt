@@ -5,18 +5,20 @@ ghost use Rattle.wcv_types.specs.Standing.{Fits};
 ghost use Rattle.wcv_types.specs.declared.arena.Node.TheVariants as node;
 ghost use Rattle.wcv_lower.specs.Checks.{IsFree};
 ghost use Rattle.wcv_lower.specs.Context.{concrete, in_components};
-ghost use Rattle.wcv_lower.specs.Ending.{end_checks};
+ghost use Rattle.wcv_lower.specs.Ending.{component_end_checks};
+ghost use Rattle.wcv_lower.specs.Marks.{unused_checks};
 ghost use Rattle.wcv_state.specs.Contents.{StateStands};
-ghost use Rattle.wcv_state.specs.Promises.{MemoryOrCausedBy, Keeps};
+ghost use Rattle.wcv_state.specs.Promises.{MemoryOrCausedBy, Keeps, Finished};
 ghost use Rattle.wcv_decls.specs.Declaring.{innermost, around, stack_in, top_in, component_room, AreReady, SameAround, Opened, TypeKept, Ends};
 ghost use Rattle.wcv_decls.specs.Items.{HoldsComponent, Stored};
 ghost use Rattle.wcv_decls.specs.Stack.{KeepsOn};
 
-use crate::close::{look_at, pop_type};
+use crate::close::{leave, look_at, pop_type};
 use crate::core_type::innermost;
 use crate::limits::check_count;
 use crate::open::{check_open, push_state};
 use crate::room::check_components;
+use crate::used::check_used;
 use wcv_core::limits::MAX_LIST;
 use wcv_core::{Error, OutOfMemory, Refusal};
 use wcv_state::{ComponentKind, ComponentState};
@@ -77,6 +79,27 @@ fn add_component(
     Ok(id)
 }
 
+/// The type of the component that the innermost state read, which leaves. Each value has to be used.
+fn pop_component(
+    components: &mut Vec<ComponentState>,
+    types: &TypeAlloc,
+    offset: u64,
+) -> Result<ComponentType, Error>
+    requires { AreReady types.now components.old.items }
+    ensures left { components.new.items ≡ around components.old.items }
+    ensures ok { IfOk result (Finished types.now (innermost components.old.items)) }
+    ensures used { OnOk result (IsFree (unused_checks (top_in types.now components.old.items))) }
+    ensures err { IfErr result (MemoryOrCausedBy (component_end_checks (top_in types.now components.old.items)) offset) }
+{
+    match check_used(innermost(components.as_slice()), types, offset) {
+        Ok(()) => pop_type(components, types, offset),
+        Err(refusal) => {
+            leave(components);
+            Err(Error::from(refusal))
+        }
+    }
+}
+
 /// Ends a component, and says where its type stands in the arena.
 pub fn end_component(
     components: &mut Vec<ComponentState>,
@@ -87,11 +110,11 @@ pub fn end_component(
     requires inside { 0 < length (around components.old.items) }
     ensures ok { OnOk result (Ends concrete types.old types.new components.old.items components.new.items) }
     ensures kept { IfOk result (TypeKept types.old types.new (innermost components.old.items)) }
-    ensures err { IfErr result (MemoryOrCausedBy (end_checks (top_in types.old components.old.items)) offset) }
+    ensures err { IfErr result (MemoryOrCausedBy (component_end_checks (top_in types.old components.old.items)) offset) }
     ensures around { OnErr result (SameAround (around components.old.items) components.new.items) }
     ensures keeps { KeepsOn types.old types.new (around components.old.items) components.new.items }
 {
-    let ty = pop_type(components, types, offset)?;
+    let ty = pop_component(components, types, offset)?;
     look_at(&ty.info);
     let last = components.len() - 1;
     let id = add_component(ty, &mut components[last], types)?;

@@ -1,7 +1,6 @@
 // Declarations that hold no type, over the states that are open.
-ghost use Rattle.std.specs.Prelude.{◌≡◌, true, false, List, OnOk, OnErr, IfErr};
+ghost use Rattle.std.specs.Prelude.{◌≡◌, false, List, OnOk, OnErr, IfErr};
 ghost use Rattle.wcv_core.specs.Names.{Place};
-ghost use Rattle.wcv_syntax.specs.Built.{is_built_ref, is_built_alias};
 ghost use Rattle.wcv_syntax.specs.Model.{core_type_decl, alias_decl, export_decl, import_decl};
 ghost use Rattle.wcv_syntax.specs.View.{core_type_view};
 ghost use Rattle.wcv_lower.specs.Owned.{IsLed};
@@ -46,7 +45,6 @@ pub fn declare_alias(
     offset: u64,
 ) -> Result<(), Error>
     requires ready { AreReady types.old components.old.items }
-    requires built { is_built_alias alias ≡ true }
     ensures ok { OnOk result (ReadsDecl types.old types.new components.old.items components.new.items (alias_decl alias)) }
     ensures ready { OnOk result (StayReady types.new components.old.items components.new.items) }
     ensures declares { OnOk result (DeclaresInstance types.old components.old.items → DeclaresInstance types.new components.new.items) }
@@ -67,7 +65,6 @@ fn add_export(
 ) -> Result<(), Error>
     requires live { state.old.spent ≡ false }
     requires stands { StateStands types.old state.old }
-    requires built { is_built_ref ty ≡ true }
     requires opens { MayOpen types.old state.old.spaces.types ty }
     ensures ok { OnOk result ((outer : List Tree_context) (p : Place) → ExportDeclared types.old types.new outer p state.old state.new name ty) }
     ensures led { OnOk result (IsLed (context_of types.old state.old) → IsLed (context_of types.new state.new)) }
@@ -88,7 +85,6 @@ pub fn declare_export(
     offset: u64,
 ) -> Result<(), Error>
     requires ready { AreReady types.old components.old.items }
-    requires built { is_built_ref ty ≡ true }
     ensures ok { OnOk result (ReadsDecl types.old types.new components.old.items components.new.items (export_decl name ty)) }
     ensures ready { OnOk result (StayReady types.new components.old.items components.new.items) }
     ensures declares { OnOk result (DeclaresInstance types.old components.old.items → DeclaresInstance types.new components.new.items) }
@@ -108,7 +104,6 @@ pub fn declare_import(
     offset: u64,
 ) -> Result<(), Error>
     requires ready { AreReady types.old components.old.items }
-    requires built { is_built_ref import.ty ≡ true }
     ensures ok { OnOk result (ReadsDecl types.old types.new components.old.items components.new.items (import_decl import)) }
     ensures ready { OnOk result (StayReady types.new components.old.items components.new.items) }
     ensures err { IfErr result (MemoryOr (RefusesDecl types.old types.new components.old.items (import_decl import)) offset) }

@@ -1,12 +1,11 @@
 // Types that are made in one step.
 ghost use Rattle.std.specs.Prelude.{◌≡◌, true, false, List, OnOk, OnErr, IfErr};
 ghost use Rattle.wcv_core.specs.Names.{Place};
-ghost use Rattle.wcv_syntax.specs.Built.{is_plain_type};
 ghost use Rattle.wcv_syntax.specs.View.{type_view};
 ghost use Rattle.wcv_lower.specs.Checks.{IsFree};
 ghost use Rattle.wcv_lower.specs.Names.{Names};
 ghost use Rattle.wcv_lower.specs.Trees.{Tree_context, tree_maker};
-ghost use Rattle.wcv_lower.specs.Types.{type_checks};
+ghost use Rattle.wcv_lower.specs.Types.{is_plain_type, type_checks};
 ghost use Rattle.wcv_state.specs.Contents.{stack_of, StateStands};
 ghost use Rattle.wcv_state.specs.Promises.{MemoryOrCausedBy, Keeps};
 ghost use Rattle.wcv_decls.specs.Declaring.{AreReady, StayReady, DeclaresInstance, MemoryOr, SameAround, ReadsType, RefusesType};

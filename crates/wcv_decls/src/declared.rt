@@ -1,7 +1,6 @@
 // Declared types: each declaration is read in order, in a state on top of the others.
-ghost use Rattle.std.specs.Prelude.{◌≡◌, true, map, OnOk, OnErr, IfErr};
+ghost use Rattle.std.specs.Prelude.{◌≡◌, map, OnOk, OnErr, IfErr};
 ghost use Rattle.wcv_core.specs.Refusal.{error_kind, error_offset};
-ghost use Rattle.wcv_syntax.specs.Built.{is_built_type, is_built_decl, are_built};
 ghost use Rattle.wcv_syntax.specs.Model.{component_type, instance_type};
 ghost use Rattle.wcv_syntax.specs.View.{decls_of, type_view, component_decl_view, instance_decl_view};
 ghost use Rattle.wcv_lower.specs.Context.{declares_instance, declares_component};
@@ -29,7 +28,7 @@ fn in_declaration(error: &Error, position: usize) -> Error
     )
 }
 
-/// A type of a built form joins the types of the innermost state.
+/// A type joins the types of the innermost state.
 #[cycle(declared)]
 pub fn declare_type(
     ty: ComponentType,
@@ -39,7 +38,6 @@ pub fn declare_type(
     check_limit: bool,
 ) -> Result<(), Error>
     requires ready { AreReady types.old components.old.items }
-    requires built { is_built_type (type_view ty) ≡ true }
     ensures ok { OnOk result (ReadsType check_limit types.old types.new components.old.items components.new.items (type_view ty)) }
     ensures ready { OnOk result (StayReady types.new components.old.items components.new.items) }
     ensures declares { OnOk result (DeclaresInstance types.old components.old.items → DeclaresInstance types.new components.new.items) }
@@ -68,7 +66,6 @@ fn declare_component_type(
     check_limit: bool,
 ) -> Result<(), Error>
     requires ready { AreReady types.old components.old.items }
-    requires built { are_built (decls_of (map component_decl_view decls.items)) ≡ true }
     ensures ok { OnOk result (ReadsType check_limit types.old types.new components.old.items components.new.items (component_type (decls_of (map component_decl_view decls.items)))) }
     ensures ready { OnOk result (StayReady types.new components.old.items components.new.items) }
     ensures declares { OnOk result (DeclaresInstance types.old components.old.items → DeclaresInstance types.new components.new.items) }
@@ -102,7 +99,6 @@ fn declare_instance_type(
     check_limit: bool,
 ) -> Result<(), Error>
     requires ready { AreReady types.old components.old.items }
-    requires built { are_built (decls_of (map instance_decl_view decls.items)) ≡ true }
     ensures ok { OnOk result (ReadsType check_limit types.old types.new components.old.items components.new.items (instance_type (decls_of (map instance_decl_view decls.items)))) }
     ensures ready { OnOk result (StayReady types.new components.old.items components.new.items) }
     ensures declares { OnOk result (DeclaresInstance types.old components.old.items → DeclaresInstance types.new components.new.items) }
@@ -135,7 +131,6 @@ fn read_component_decls(
     offset: u64,
 ) -> Result<(), Error>
     requires ready { AreReady types.old components.old.items }
-    requires built { are_built (decls_of (map component_decl_view decls.items)) ≡ true }
     ensures ok { OnOk result (ReadsDecls types.old types.new components.old.items components.new.items (decls_of (map component_decl_view decls.items))) }
     ensures ready { OnOk result (StayReady types.new components.old.items components.new.items) }
     ensures err { IfErr result (MemoryOr (RefusesDecls declares_component types.old types.new components.old.items (decls_of (map component_decl_view decls.items))) offset) }
@@ -162,7 +157,6 @@ fn read_instance_decls(
 ) -> Result<(), Error>
     requires ready { AreReady types.old components.old.items }
     requires declares { DeclaresInstance types.old components.old.items }
-    requires built { are_built (decls_of (map instance_decl_view decls.items)) ≡ true }
     ensures ok { OnOk result (ReadsDecls types.old types.new components.old.items components.new.items (decls_of (map instance_decl_view decls.items))) }
     ensures ready { OnOk result (StayReady types.new components.old.items components.new.items) }
     ensures declares { OnOk result (DeclaresInstance types.new components.new.items) }
@@ -190,7 +184,6 @@ fn read_component_decl(
     offset: u64,
 ) -> Result<(), Error>
     requires ready { AreReady types.old components.old.items }
-    requires built { is_built_decl (component_decl_view decl) ≡ true }
     ensures ok { OnOk result (ReadsDecl types.old types.new components.old.items components.new.items (component_decl_view decl)) }
     ensures ready { OnOk result (StayReady types.new components.old.items components.new.items) }
     ensures err { IfErr result (MemoryOr (RefusesDecl types.old types.new components.old.items (component_decl_view decl)) offset) }
@@ -223,7 +216,6 @@ fn read_instance_decl(
 ) -> Result<(), Error>
     requires ready { AreReady types.old components.old.items }
     requires declares { DeclaresInstance types.old components.old.items }
-    requires built { is_built_decl (instance_decl_view decl) ≡ true }
     ensures ok { OnOk result (ReadsDecl types.old types.new components.old.items components.new.items (instance_decl_view decl)) }
     ensures ready { OnOk result (StayReady types.new components.old.items components.new.items) }
     ensures declares { OnOk result (DeclaresInstance types.new components.new.items) }

@@ -1,32 +1,15 @@
 // Features that a type needs.
-ghost use Rattle.std.specs.Prelude.{◌≡◌, true, false, OnOk, OnErr, IfErr};
-ghost use Rattle.wcv_core.specs.Refusal.{error_kind, error_offset};
+ghost use Rattle.std.specs.Prelude.{◌≡◌, true, false, OnOk, IfErr};
 ghost use Rattle.wcv_syntax.specs.View.{defined_view};
 ghost use Rattle.wcv_lower.specs.Checks.{IsFree};
 ghost use Rattle.wcv_lower.specs.Defined.{feature_checks};
-ghost use Rattle.wcv_lower.specs.Values.{has_feature, lacks, cm64, cm_async, cm_map, cm_fixed_length_lists, cm_error_context, primitive_checks};
+ghost use Rattle.wcv_lower.specs.Values.{has_feature, lacks, cm64, cm_async, cm_map, cm_fixed_length_lists, primitive_checks};
 ghost use Rattle.wcv_state.specs.Promises.{MemoryOrCausedBy};
 
 use bitflags::Flags;
-use wcv_core::{ErrorKind, PrimitiveValType, Refusal, WasmFeatures, missing_feature};
+use wcv_core::{Refusal, WasmFeatures};
+use wcv_state::{check_feature, check_primitive};
 use wcv_syntax::ComponentDefinedType;
-
-/// Refuses what needs a feature that is missing, by its name and by what needs it.
-fn check_feature(
-    has: bool,
-    name: &'static str,
-    needed_by: &'static str,
-    offset: u64,
-) -> Result<(), Refusal<'static>>
-    ensures ok { OnOk result (has ≡ true) }
-    ensures not { OnErr result (has ≡ false) }
-    ensures err { IfErr result (λ e. (error_kind e ≡ ErrorKind.Feature) × (error_offset e ≡ offset)) }
-{
-    if !has {
-        return Err(missing_feature(needed_by, "", name, offset));
-    }
-    Ok(())
-}
 
 /// Whether futures, streams and async functions may stand.
 pub fn check_async(
@@ -56,26 +39,6 @@ pub fn check_cm64(features: &WasmFeatures, offset: u64) -> Result<(), Refusal<'s
         "a resource that `i64` represents",
         offset,
     )
-}
-
-/// Whether a primitive may stand.
-pub fn check_primitive(
-    ty: PrimitiveValType,
-    features: &WasmFeatures,
-    offset: u64,
-) -> Result<(), Refusal<'static>>
-    ensures ok { OnOk result (IsFree (primitive_checks features.now ty)) }
-    ensures err { IfErr result (MemoryOrCausedBy (primitive_checks features.now ty) offset) }
-{
-    match ty {
-        PrimitiveValType::ErrorContext => check_feature(
-            features.contains(WasmFeatures::CM_ERROR_CONTEXT),
-            "cm-error-context",
-            "`error-context`",
-            offset,
-        ),
-        _ => Ok(()),
-    }
 }
 
 /// Whether a defined type of that form may stand.

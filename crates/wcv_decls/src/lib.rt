@@ -31,6 +31,7 @@ mod shape;
 mod size;
 mod stack;
 mod store;
+mod used;
 mod values;
 
 pub use canon_limits::check_canon_limits;
@@ -44,3 +45,4 @@ pub use instance_limits::check_component_instance_limits;
 pub use limits::check_limits;
 pub use name_texts::check_name;
 pub use stack::Declare;
+pub use used::check_used;

@@ -4,7 +4,6 @@ ghost use Rattle.wcv_core.specs.CoreGroups.{total};
 ghost use Rattle.wcv_core.specs.CoreSizes.{IsEntityWithin};
 ghost use Rattle.wcv_core.specs.Names.{Place};
 ghost use Rattle.wcv_module.specs.Kept.{module_items};
-ghost use Rattle.wcv_syntax.specs.Built as built;
 ghost use Rattle.wcv_syntax.specs.Model.{core_type_item};
 ghost use Rattle.wcv_syntax.specs.ModuleTypes.{whole_checks};
 ghost use Rattle.wcv_syntax.specs.View.{type_view, core_type_view};
@@ -13,7 +12,6 @@ ghost use Rattle.wcv_lower.specs.Checks.{IsFree};
 ghost use Rattle.wcv_lower.specs.Context.{core_modules};
 ghost use Rattle.wcv_state.specs.Promises.{MemoryOrCausedBy, Keeps};
 ghost use Rattle.wcv_decls.specs.CoreItems.{JoinedModule};
-ghost use Rattle.wcv_decls.specs.Declaring.{AreReady, StayReady, MemoryOr, SameAround, ReadsType, RefusesItem};
 ghost use Rattle.wcv_decls.specs.Stack.{IsOpen, AreCalm, DeclaresOn, RefusesOn, GrewOn, RefusedOn, KeepsOn};
 
 use crate::core_module::{ModuleSpace, join_module};
@@ -21,8 +19,8 @@ use crate::core_type::add_core_type_on;
 use crate::declared::declare_type;
 use wcv_core::Error;
 use wcv_module::Module;
-use wcv_state::{ComponentState, check_form, mark_all_spent};
-use wcv_syntax::{ComponentType, CoreType, TypeForm, is_built_type};
+use wcv_state::{ComponentState, mark_all_spent};
+use wcv_syntax::{ComponentType, CoreType};
 use wcv_types::TypeAlloc;
 
 /// A state to which items that declare something are added. Those that are open around it stand before it.
@@ -80,26 +78,6 @@ pub trait Declare: Sized {
         ensures keeps { Keeps types.old types.new (contents self.old) (contents self.new) };
 }
 
-/// A type item joins the types of the innermost state, where its form is built.
-fn declare_item(
-    ty: ComponentType,
-    components: &mut Vec<ComponentState>,
-    types: &mut TypeAlloc,
-    offset: u64,
-    check_limit: bool,
-) -> Result<(), Error>
-    requires { AreReady types.old components.old.items }
-    ensures built { OnOk result (built.is_built_type (type_view ty) ≡ true) }
-    ensures ok { OnOk result (ReadsType check_limit types.old types.new components.old.items components.new.items (type_view ty)) }
-    ensures ready { OnOk result (StayReady types.new components.old.items components.new.items) }
-    ensures err { IfErr result (MemoryOr (RefusesItem check_limit types.old types.new components.old.items (type_view ty)) offset) }
-    ensures around { OnErr result (SameAround components.old.items components.new.items) }
-    ensures keeps { KeepsOn types.old types.new components.old.items components.new.items }
-{
-    check_form(is_built_type(&ty), TypeForm(&ty), offset)?;
-    declare_type(ty, components, types, offset, check_limit)
-}
-
 impl Declare for ComponentState {
     ghost use Rattle.wcv_state.specs.Contents.{Contents};
 
@@ -112,7 +90,7 @@ impl Declare for ComponentState {
         offset: u64,
         check_limit: bool,
     ) -> Result<(), Error> {
-        match declare_item(ty, components, types, offset, check_limit) {
+        match declare_type(ty, components, types, offset, check_limit) {
             Ok(()) => Ok(()),
             Err(error) => {
                 mark_all_spent(components.as_mut_slice());

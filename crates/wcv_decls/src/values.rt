@@ -6,9 +6,8 @@ ghost use Rattle.wcv_state.specs.Contents.{context_of, StateStands};
 ghost use Rattle.wcv_state.specs.Promises.{MemoryOrCausedBy};
 ghost use Rattle.wcv_decls.specs.Resolved.{IsOption};
 
-use crate::features::check_primitive;
 use wcv_core::Refusal;
-use wcv_state::ComponentState;
+use wcv_state::{ComponentState, check_primitive};
 use wcv_syntax::ComponentValType as Written;
 use wcv_types::{ComponentValType, TypeAlloc};
 

@@ -207,7 +207,7 @@ module _ (P : Name → Type 0) where
 
 module _ (p : Place) (s : Tree_stack) (h : Ready p s) where
   joining-does : (t : Type_tree) → Fine (Near s) t → Does exporting p s (joining t)
-  joining-does t w = same-does p s h (joining t) (joins-bring (Fine (After (joining t) s)) (created-fine (After (joining t) s)) (sort t) t (later-fine (joining t) s t w)) (joins-same (sort t) t s)
+  joining-does t w = same-does p s h (joining t) (joins-bring (Fine (After (joining t) s)) (created-fine (After (joining t) s)) false (sort t) t (later-fine (joining t) s t w)) (joins-same false (sort t) t s)
 
   pub export_alias-does : AreBare s.top → (w : ComponentExternalKind) (i : ℕ) (n : Text) (x : Step tree_reader) → export_alias_step s.top w i n ≡ Some x → Does exporting p s x
   export_alias-does bare w i n x e =

@@ -9,13 +9,15 @@ use Rattle.wcv_core.specs.declared.features.WasmFeatures.{WasmFeatures}
 use Rattle.wcv_syntax.specs.Model.{Items}
 use Rattle.wcv_types.specs.Arena.{Arena}
 use Rattle.wcv_types.specs.declared.component_type.ComponentType.{ComponentType}
+use Rattle.wcv_lower.specs.Checks.{IsFree}
 use Rattle.wcv_lower.specs.Context.{concrete}
-use Rattle.wcv_lower.specs.Ending.{end_checks}
+use Rattle.wcv_lower.specs.Ending.{component_end_checks}
+use Rattle.wcv_lower.specs.Marks.{unused_checks}
 use Rattle.wcv_lower.specs.Owned.{IsCalm}
 use Rattle.wcv_lower.specs.Trees.{Tree_stack}
 use Rattle.wcv_lower.proofs.Calm.{calm_start}
 use Rattle.wcv_state.specs.Contents.{Contents, context_of, stack_of, empty_state, finished}
-use Rattle.wcv_state.specs.Promises.{numbers_of, RefusesBy, Finished}
+use Rattle.wcv_state.specs.Promises.{MemoryOrCausedBy, numbers_of, Finished}
 use Rattle.wcv_state.specs.declared.kind.ComponentKind.TheVariants.{Component}
 use Rattle.wcv_state.proofs.Keeping.{empty_stands}
 use Rattle.wcv_decls.specs.Declaring.{innermost, around, features_in, stack_in}
@@ -78,10 +80,13 @@ module _ (a : Arena) (features : WasmFeatures) (none : a.core ≡ []) (ss : List
           let none_there : around ts ≡ [] = none_around (around ts) (w.goes_on.around ∙ ap (λ (xs : List Contents). all_uncharged (around xs)) alone) in
           parted ts w.goes_on.ready.some ∙ ap (λ (os : List Contents). os ++ innermost ts ∷ []) none_there
 
+      pub looked_up : (s : Contents) → s ≡ slice_index_or ts 0 s → s ≡ innermost ts
+      looked_up s first = first ∙ ap (λ (xs : List Contents). slice_index_or xs 0 s) still_alone
+
       -- the state is looked up as the first
       module _ (s : Contents) (first : s ≡ slice_index_or ts 0 s) where
         first_alone : ts ≡ s ∷ []
-        first_alone = still_alone ∙ ap (λ (t : Contents). t ∷ []) (sym (first ∙ ap (λ (xs : List Contents). slice_index_or xs 0 s) still_alone))
+        first_alone = still_alone ∙ ap (λ (t : Contents). t ∷ []) (sym (looked_up s first))
 
         pub alone_open : IsOpen b s
         alone_open = All-head (IsOpen b) s [] (subst (All (IsOpen b)) first_alone w.goes_on.ready.usable)
@@ -92,14 +97,14 @@ module _ (a : Arena) (features : WasmFeatures) (none : a.core ≡ []) (ss : List
             (from_start (λ fs t. ItemsRead fs [] 0 t is (stack_in b ts) (numbers_of a) (numbers_of b)) (w.reads []))
 
         -- the end was refused
-        pub stops_at_end : {M : Type 0} (s' : Contents) (end : ℕ) (x : Error M) → RefusesBy (end_checks (context_of b s)) s' end x → MemoryOrRefused features is end x
-        stops_at_end s' end x h = refused_end a b features is end x s alone_read s' h
+        pub stops_at_end : {M : Type 0} (end : ℕ) (x : Error M) → MemoryOrCausedBy (component_end_checks (context_of b s)) end x → MemoryOrRefused features is end x
+        stops_at_end end x h = refused_end a b features is end x s alone_read h
 
         -- the type was taken
-        pub ends : (s' t : Contents) (ty : ComponentType) → slice_set ts 0 s' ≡ t ∷ [] → s' ≡ finished s → Finished b s ty → AcceptsWith features is b t ty
-        ends s' t ty set g h = λ x types state type nested.
+        pub ends : IsFree (unused_checks (context_of b s)) → (s' t : Contents) (ty : ComponentType) → slice_set ts 0 s' ≡ t ∷ [] → s' ≡ finished s → Finished b s ty → AcceptsWith features is b t ty
+        ends used s' t ty set g h = λ x types state type nested.
             let same : t ≡ s' = sym (only s' t (ap (λ (xs : List Contents). slice_set xs 0 s') (sym first_alone) ∙ set)) in
-            read_all a b s features is (root_read a b s features is w.goes_on.arena alone_read) alone_open.stands x types (state ∙ same ∙ g) (subst (Finished b s) (sym type) h) nested
+            read_all a b s features is (root_read a b s features is w.goes_on.arena alone_read) alone_open.stands used x types (state ∙ same ∙ g) (subst (Finished b s) (sym type) h) nested
 
         pub still_one : (s' : Contents) → length (slice_set ts 0 s') ≡ 1
         still_one s' = ap (λ (xs : List Contents). length (slice_set xs 0 s')) first_alone

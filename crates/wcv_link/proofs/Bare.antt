@@ -3,7 +3,7 @@ use Rattle.std.specs.Prelude.{[], map, ◌≡◌, All}
 use Rattle.std.proofs.lemmas.List.Elements.{All-nil, All-cons}
 use Rattle.wcv_core.specs.Names.{Name, Place}
 use Rattle.wcv_types.specs.FirstPath.{first_path}
-use Rattle.wcv_types.specs.Tree.{Text, Head, here, label, import, export, core_import, core_export, node, Parts, none, part, exports, owned}
+use Rattle.wcv_types.specs.Tree.{Text, Head, here, label, import, export, core_import, core_export, func, node, Parts, none, part, exports, owned}
 use Rattle.wcv_types.specs.Unfold.{Type_tree}
 use Rattle.wcv_matching.specs.Matching.{named_exports, named_imports, named_exports_in, named_imports_in}
 use Rattle.wcv_matching.specs.Orderly.{EachNode, EachNodeIn}
@@ -28,6 +28,16 @@ EntriesOwnNothing none = Unit {0}
 EntriesOwnNothing (part (import n) t ps) = OwnsNothing t × EntriesOwnNothing ps
 EntriesOwnNothing (part (export n) t ps) = OwnsNothing t × EntriesOwnNothing ps
 EntriesOwnNothing (part k t ps) = EntriesOwnNothing ps
+
+-- so each part
+abbrev pub PartsOwnNothing : Parts Name Name → Type 0
+PartsOwnNothing none = Unit {0}
+PartsOwnNothing (part k t ps) = OwnsNothing t × PartsOwnNothing ps
+
+-- what a function takes and gives owns nothing
+abbrev pub ValuesOwnNothing : Head Name Name → Parts Name Name → Type 0
+ValuesOwnNothing (func i b) ps = PartsOwnNothing ps
+ValuesOwnNothing h ps = Unit {0}
 
 -- the entry and each entry inside it, at any depth
 abbrev pub IsBare : Type_tree → Type 0

@@ -25,7 +25,7 @@ use Rattle.wcv_lower.specs.Names.{names_by_place}
 use Rattle.wcv_lower.proofs.Given.{or_left}
 use Rattle.wcv_matching.proofs.PassSame.{and_left, and_right}
 use Rattle.wcv_link.proofs.Alike.{SameKind, kind-sym, kind-both, IsAlike, IsOf, stands, known-kind, OfKind, AllKnown, given_for-kind}
-use Rattle.wcv_link.proofs.Bare.{OwnsNothing, EntriesOwnNothing, exports-each, imports-each}
+use Rattle.wcv_link.proofs.Bare.{OwnsNothing, EntriesOwnNothing, PartsOwnNothing, ValuesOwnNothing, exports-each, imports-each}
 
 none-owned : (own : List Name) → ((r : Name) → member r own ≡ false) → own ≡ []
 none-owned [] h = refl
@@ -93,6 +93,33 @@ module _ (g : Name → Type_tree) (m : Replacement) (kinds : (i : Identity) (u :
   entries-own (part (label l) t ps) k w = entries-own ps k.1 w
   entries-own (part (core_import a n) t ps) k w = entries-own ps k.1 w
   entries-own (part (core_export n) t ps) k w = entries-own ps k.1 w
+
+  parts-own : (ps : Parts Name Name) → EachNodeIn (IsOf g) ps → PartsOwnNothing ps → PartsOwnNothing (replaced_in m ps)
+  parts-own none k w = tt
+  parts-own (part l t ps) k w = (replaced-owns t k.0 w.0, parts-own ps k.1 w.1)
+
+  -- so what a function takes and gives
+  pub values-own : (b : Bool) (h : Head Name Name) (ps : Parts Name Name) → EachNodeIn (IsOf g) ps → ValuesOwnNothing h ps → ValuesOwnNothing (new_head m b h) (replaced_in m ps)
+  values-own true (func i x) ps k w = parts-own ps k w
+  values-own false (func i x) ps k w = parts-own ps k w
+  values-own b nothing ps k w = tt
+  values-own b (primitive p) ps k w = tt
+  values-own b (resource r s) ps k w = tt
+  values-own b type_entity ps k w = tt
+  values-own true (defined i x) ps k w = tt
+  values-own true (instance i own) ps k w = tt
+  values-own true (component i ins outs) ps k w = tt
+  values-own true (core_module i x) ps k w = tt
+  values-own true (core_instance i x) ps k w = tt
+  values-own true (core_type i) ps k w = tt
+  values-own true (core_item x) ps k w = tt
+  values-own false (defined i x) ps k w = tt
+  values-own false (instance i own) ps k w = tt
+  values-own false (component i ins outs) ps k w = tt
+  values-own false (core_module i x) ps k w = tt
+  values-own false (core_instance i x) ps k w = tt
+  values-own false (core_type i) ps k w = tt
+  values-own false (core_item x) ps k w = tt
 
 -- ## What arguments give
 

@@ -13,7 +13,7 @@ use Rattle.wcv_types.proofs.Grown.{extends_refl, extends_trans}
 use Rattle.wcv_lower.specs.Checks.{IsFree}
 use Rattle.wcv_lower.specs.Context.{concrete}
 use Rattle.wcv_lower.specs.Declared.{inside}
-use Rattle.wcv_lower.specs.Ending.{end_checks}
+use Rattle.wcv_lower.specs.Ending.{component_end_checks}
 use Rattle.wcv_lower.specs.Items.{component_checks}
 use Rattle.wcv_lower.specs.Trees.{Tree_stack}
 use Rattle.wcv_state.specs.Contents.{Contents}
@@ -74,10 +74,10 @@ module _ (a : Arena) (ss ts : List Contents) (some : 0 < length ss) (w : Opened 
       later = extends_on m b (around us) vs some_around after
 
       -- a refusal at its end
-      pub end_refused : {M : Type 0} (offset : ℕ) (e : Error M) → MemoryOrCausedBy (end_checks (top_in m us)) end e → RefusesItem a b ss (component_item is end) offset e
+      pub end_refused : {M : Type 0} (offset : ℕ) (e : Error M) → MemoryOrCausedBy (component_end_checks (top_in m us)) end e → RefusesItem a b ss (component_item is end) offset e
       end_refused offset e x = record { refused = λ p. go p x; arena = extends_trans a m b r.goes_on.arena later }
         where
-          go : (p : Place) → MemoryOrCausedBy (end_checks (top_in m us)) end e →
+          go : (p : Place) → MemoryOrCausedBy (component_end_checks (top_in m us)) end e →
               (error_kind e ≡ kind.OutOfMemory) ⊎ ItemRefused (features_in ss) p (stack_in a ss) offset (component_item is end) (error_kind e) (error_offset e) (numbers_of a) (numbers_of b)
           go p (inl y) = inl y
           go p (inr c) =

@@ -1,11 +1,10 @@
 -- What an import or an export does to a context: it lists the resources that the entry brings, each with a path that leads to it.
 use Rattle.std.proofs.Common.{◌≡◌, ℕ, zero, suc, List, [], ◌∷◌, ◌++◌, length, true, false, refl, sym, ◌∙◌, ap, subst, inl, inr, Some, None, ◌⊎◌}
-use Rattle.std.specs.Prelude.{All, slice_get, Option}
+use Rattle.std.specs.Prelude.{All, slice_get, Bool, Option}
 use Rattle.std.specs.Option.{option_map}
 use Rattle.std.proofs.lemmas.Bool.{false≢true}
 use Rattle.std.proofs.lemmas.List.Elements.{All-append, All-nil, All-cons, All-head, All-tail, All-weaker}
 use Rattle.wcv_core.specs.Names.{Name, Place, base, at}
-use Rattle.wcv_syntax.specs.Built.{is_built_ref, is_built_written}
 use Rattle.wcv_syntax.specs.declared.component_type.ComponentTypeRef.{ComponentTypeRef}
 use Rattle.wcv_syntax.specs.declared.component_type.ComponentTypeRef.TheVariants as ref
 use Rattle.wcv_syntax.specs.declared.component_type.TypeBounds.TheVariants as bounds
@@ -19,21 +18,21 @@ use Rattle.wcv_types.specs.Resources.{Free}
 use Rattle.wcv_types.specs.Tree.{Extern_name, Sort, is_func, is_instance, is_component, sort, instance, node, exports_in}
 use Rattle.wcv_types.proofs.Lists.{some-inj, map-map}
 use Rattle.wcv_lower.specs.Checks.{same_sort}
-use Rattle.wcv_lower.specs.Context.{Space, in_types, in_funcs, in_values, in_instances, in_components, core_modules, Side, importing, exporting, is_concrete, placed, unknown}
+use Rattle.wcv_lower.specs.Context.{Space, in_types, in_funcs, in_values, in_instances, in_components, core_modules, Side, importing, exporting, same_side, is_concrete, placed, unknown}
 use Rattle.wcv_lower.specs.Entries.{module_type_at, again_brought, new_resource, written, items_of, exported_at, exported_as, exported_by}
 use Rattle.wcv_lower.specs.Names.{names_by_place}
 use Rattle.wcv_lower.specs.NewTypes.{new_reference, path_or_none}
 use Rattle.wcv_lower.specs.Owned.{OwnsNot, OwnsApart, OwnApart, AllEntries, IsLed}
 use Rattle.wcv_lower.specs.Step.{lists, introduces, creates, change, apply, joins, enters, Brought, bare}
 use Rattle.wcv_lower.specs.Trees.{Type_tree, Entries, type_entry, referenced, Tree_context, Tree_stack, tree_reader, tree_maker}
-use Rattle.wcv_lower.specs.Values.{type_at, type_of_sort}
+use Rattle.wcv_lower.specs.Values.{type_at, type_of_sort, value_entry}
 use Rattle.wcv_lower.proofs.Bringing.{of_some, type_has}
 use Rattle.wcv_lower.proofs.Owning.{apart_outside, owns_not_inherited, own_apart_inherited}
 use Rattle.wcv_link.proofs.Bare.{OwnsNothing, IsBare, AreBare, bare-instance}
 use Rattle.wcv_link.proofs.Growing.{Leads, Ready, AreNew, Adds, Does, SameLists, same-leads, same-led, nothing-new}
 use Rattle.wcv_link.proofs.Having.{Has, has-right, has-beside, has-beside_back, once-beside}
 use Rattle.wcv_link.proofs.Known.{mapped-some, then-some, all-get, Fine, created-fine, Any, enters-bring}
-use Rattle.wcv_link.proofs.Looking.{sorted-here, again-fine, reference-fine, type-fine, sorted-fine, sorted-sort, module-fine}
+use Rattle.wcv_link.proofs.Looking.{sorted-here, again-fine, reference-fine, type-fine, sorted-fine, sorted-sort, value-fine, module-fine}
 use Rattle.wcv_link.proofs.Near.{Near, After, near-apply, later-fine}
 use Rattle.wcv_link.proofs.OpenedInstances.{free-opened, brought-placed, opened-once, opened-leads}
 use Rattle.wcv_link.proofs.Placed.{PlacedAt, placed_here}
@@ -41,16 +40,16 @@ use Rattle.wcv_link.proofs.Sound.{instance-sound}
 
 -- ## One more entry
 
-pub joins-same : (o : Sort) (t : Type_tree) (s : Tree_stack) → SameLists s.top (apply (joins tree_reader o t) s).top
-joins-same is_func t s = record { imported = refl; defined = refl; imports = refl; exports = refl }
-joins-same o t s = record { imported = refl; defined = refl; imports = refl; exports = refl }
+pub joins-same : (used : Bool) (o : Sort) (t : Type_tree) (s : Tree_stack) → SameLists s.top (apply (joins tree_reader used o t) s).top
+joins-same used is_func t s = record { imported = refl; defined = refl; imports = refl; exports = refl }
+joins-same used o t s = record { imported = refl; defined = refl; imports = refl; exports = refl }
 
 -- before it joins its space
 abbrev entered : Side → Extern_name → Brought tree_reader → Tree_stack → Tree_stack
 entered d n b s = change (creates d (tree_reader.creates b.entity)) (change (lists d n b.entity) (change (introduces d b.resources) s))
 
 enters-same : (d : Side) (n : Extern_name) (b : Brought tree_reader) (s : Tree_stack) → SameLists (entered d n b s).top (apply (enters d n b) s).top
-enters-same d n b s = joins-same (sort b.entity) b.entity (entered d n b s)
+enters-same d n b s = joins-same (same_side d exporting) (sort b.entity) b.entity (entered d n b s)
 
 -- one more entry behind the others changes no path
 get-before : {X : Type 0} (xs ys : List X) (k : ℕ) (x : X) → slice_get xs k ≡ Some x → slice_get (xs ++ ys) k ≡ Some x
@@ -190,24 +189,26 @@ module _ (p : Place) (s : Tree_stack) (h : Ready p s) where
   owns-apart : (k : ℕ) (t : Type_tree) → type_of_sort is_instance s.top k ≡ Some t → OwnsApart t
   owns-apart k t e = apart_outside t (of_some OwnApart (type_at s.top k) t (type_has own_apart_inherited Any s.top (h.apart zero s.top refl) k) (sorted-here is_instance (type_at s.top k) t e).0)
 
-  pub written-does : (d : Side) (n : Extern_name) (x : ComponentTypeRef) (b : Brought tree_reader) → is_built_ref x ≡ true → written (tree_maker names_by_place p) s.top x ≡ Some b → Does d p s (enters d n b)
-  written-does d n (ref.Func k) b i e =
+  pub written-does : (d : Side) (n : Extern_name) (x : ComponentTypeRef) (b : Brought tree_reader) → written (tree_maker names_by_place p) s.top x ≡ Some b → Does d p s (enters d n b)
+  written-does d n (ref.Func k) b e =
       let m = mapped-some (bare tree_reader) (type_of_sort is_func s.top k) b e in
       subst (Enters d n) m.2 (bare-does d n m.0 (sorted-fine (Near s) s.top top-fine is_func k m.0 m.1))
-  written-does d n (ref.Component k) b i e =
+  written-does d n (ref.Component k) b e =
       let m = mapped-some (bare tree_reader) (type_of_sort is_component s.top k) b e in
       subst (Enters d n) m.2 (bare-does d n m.0 (sorted-fine (Near s) s.top top-fine is_component k m.0 m.1))
-  written-does d n (ref.Instance k) b i e =
+  written-does d n (ref.Instance k) b e =
       let m = mapped-some instance_of (type_of_sort is_instance s.top k) b e in
       subst (Enters d n) m.2 (instance-does d n m.0 (sorted-sort (Near s) s.top top-fine is_instance k m.0 m.1) (sorted-fine (Near s) s.top top-fine is_instance k m.0 m.1) (owns-apart k m.0 m.1) (spared k m.0 m.1))
-  written-does d n (ref.Ty (bounds.Eq k)) b i e =
+  written-does d n (ref.Ty (bounds.Eq k)) b e =
       let m = mapped-some (again_brought (tree_maker names_by_place p)) (type_at s.top k) b e in
       subst (Enters d n) m.2 (bare-does d n (again_brought (tree_maker names_by_place p) m.0).entity (again-fine (Near s) names_by_place p m.0 (type-fine (Near s) s.top top-fine k m.0 m.1)))
-  written-does d n (ref.Ty bounds.SubResource) b i e = subst (Enters d n) (some-inj e) (new_resource-does d n)
-  written-does d n (ref.Module k) b i e =
+  written-does d n (ref.Ty bounds.SubResource) b e = subst (Enters d n) (some-inj e) (new_resource-does d n)
+  written-does d n (ref.Module k) b e =
       let m = mapped-some (bare tree_reader) (module_type_at s.top k) b e in
       subst (Enters d n) m.2 (bare-does d n m.0 (module-fine (Near s) s.top top-fine k m.0 m.1))
-  written-does d n (ref.Value v) b i e = absurd (false≢true i)
+  written-does d n (ref.Value v) b e =
+      let m = mapped-some (bare tree_reader) (value_entry s.top v) b e in
+      subst (Enters d n) m.2 (bare-does d n m.0 (value-fine (Near s) s.top top-fine v m.0 m.1))
 
   -- ## Exported items
 
@@ -238,8 +239,8 @@ module _ (p : Place) (s : Tree_stack) (h : Ready p s) where
       subst (Enters exporting n) m.2 (bare-does exporting n m.0 (all-get (Fine (Near s)) (s.top.core core_modules) i m.0 (top-fine.core core_modules) m.1))
 
   -- an item, with what is written beside it
-  pub exported-does : AreBare s.top → (n : Extern_name) (e : ComponentExport) (o : Option ComponentTypeRef) (b : Brought tree_reader) → is_built_written o ≡ true → exported_by (tree_maker names_by_place p) s.top e o ≡ Some b → Does exporting p s (enters exporting n b)
-  exported-does alone n e None b w q = export-does alone n e.kind e.index b q
-  exported-does alone n e (Some r) b w q =
+  pub exported-does : AreBare s.top → (n : Extern_name) (e : ComponentExport) (o : Option ComponentTypeRef) (b : Brought tree_reader) → exported_by (tree_maker names_by_place p) s.top e o ≡ Some b → Does exporting p s (enters exporting n b)
+  exported-does alone n e None b q = export-does alone n e.kind e.index b q
+  exported-does alone n e (Some r) b q =
       let m = then-some (λ (x : Type_tree). written (tree_maker names_by_place p) s.top r) (exported_at s.top e) b q in
-      written-does exporting n r b w m.2
+      written-does exporting n r b m.2

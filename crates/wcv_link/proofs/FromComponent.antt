@@ -11,8 +11,6 @@ use Rattle.wcv_core.specs.Refusal.{error_kind}
 use Rattle.wcv_core.specs.declared.error.Error.{Error}
 use Rattle.wcv_core.specs.declared.error.ErrorKind.TheVariants as kind
 use Rattle.wcv_core.proofs.Causes.{cause_left, cause_right, free_both}
-use Rattle.wcv_core.proofs.Names.{and_left, and_right}
-use Rattle.wcv_syntax.specs.Built.{is_built_arg, is_built_instance}
 use Rattle.wcv_syntax.specs.Model.{instantiate}
 use Rattle.wcv_syntax.specs.declared.instance.ComponentInstantiationArg.{ComponentInstantiationArg}
 use Rattle.wcv_types.specs.Arena.{Arena}
@@ -38,11 +36,11 @@ use Rattle.wcv_subtype.specs.Openings.{named_args, ArgumentStands}
 use Rattle.wcv_lower.specs.Checks.{if_found, is_none, missing, has_repeat, no_room}
 use Rattle.wcv_lower.specs.Context.{in_components, counts}
 use Rattle.wcv_lower.specs.Given.{names_of, none_given}
-use Rattle.wcv_lower.specs.Growth.{unbuilt}
 use Rattle.wcv_lower.specs.Instances as rules
-use Rattle.wcv_lower.specs.Instances.{argument_at, argument_names, arguments, component_at, if_opened, instance_checks, instance_of_component, opened, opening_checks}
+use Rattle.wcv_lower.specs.Instances.{argument_at, argument_names, argument_checks, arguments, component_at, if_opened, instance_of_component, made_checks, opened, opening_checks}
 use Rattle.wcv_lower.specs.Readers.{Brought}
 use Rattle.wcv_lower.specs.Trees.{Tree_context, tree_maker, tree_reader}
+use Rattle.wcv_lower.specs.Values.{kind_checks}
 use Rattle.wcv_state.specs.Contents.{Contents, context_of, id_tree, stack_of, StateStands}
 use Rattle.wcv_state.specs.Instantiations.{ComponentInstanceMade, MayInstantiate, brought_of}
 use Rattle.wcv_state.specs.Promises.{MemoryOrCausedBy}
@@ -50,7 +48,7 @@ use Rattle.wcv_state.specs.declared.instances.NewInstance.{NewInstance}
 use Rattle.wcv_state.proofs.Ascribed.{mismatch_caused}
 use Rattle.wcv_state.proofs.Calls.{caused_more}
 use Rattle.wcv_state.proofs.Found.{get_same, stands_at}
-use Rattle.wcv_state.proofs.ItemsAt.{is_item, item_there, items_missing}
+use Rattle.wcv_state.proofs.ItemsAt.{item_stands, item_there, items_missing}
 use Rattle.wcv_state.proofs.Stacks.{none_made}
 use Rattle.wcv_link.proofs.CoreInstances.{same_names}
 use Rattle.wcv_link.specs.Instances.{arg_checks, size_checks, AllMayInstantiate, CausedInstance, IsArg, MadeInstance}
@@ -64,12 +62,9 @@ module _ (a : Arena) (s : Contents) (h : StateStands a s) where
   arg_is : (x : ComponentInstantiationArg) (y : Text × ComponentEntityType) → IsArg s.spaces x y → argument_at (context_of a s) x ≡ Some (entity_tree ts y.1)
   arg_is x y w = item_there a s h x.kind x.index y.1 w.1
 
-  args_same : (xs : List ComponentInstantiationArg) → list_all is_built_arg xs ≡ true → all_checks (arg_checks s.spaces) xs ≡ all_checks (λ (x : ComponentInstantiationArg). missing (argument_at (context_of a s) x)) xs
-  args_same [] b = refl
-  args_same (x ∷ xs) b =
-      let e : arg_checks s.spaces x ≡ missing (argument_at (context_of a s) x) = sym (items_missing a s h x.kind x.index (and_left (is_built_arg x) (list_all is_built_arg xs) b)) in
-      let es = args_same xs (and_right (is_built_arg x) (list_all is_built_arg xs) b) in
-      λ j. e j ++ es j
+  args_same : (xs : List ComponentInstantiationArg) → all_checks (arg_checks s.features s.spaces) xs ≡ all_checks (argument_checks s.features (context_of a s)) xs
+  args_same [] = refl
+  args_same (x ∷ xs) = λ j. (kind_checks s.features x.kind ++ sym (items_missing a s h x.kind x.index) j) ++ args_same xs j
 
   all_there : (xs : List ComponentInstantiationArg) (ys : List (Text × ComponentEntityType)) → AllZip (IsArg s.spaces) xs ys → list_all (λ (x : ComponentInstantiationArg). not (is_none (argument_at (context_of a s) x))) xs ≡ true
   all_there [] [] w = refl
@@ -90,11 +85,11 @@ module _ (a : Arena) (s : Contents) (h : StateStands a s) where
   args_stand [] [] w = All-nil _
   args_stand [] (y ∷ ys) w = elim w [ ]
   args_stand (x ∷ xs) [] w = elim w [ ]
-  args_stand (x ∷ xs) (y ∷ ys) w = All-cons (ArgumentStands a) y ys (is_item a s h x.kind x.index y.1 w.0.1).stands (args_stand xs ys w.1)
+  args_stand (x ∷ xs) (y ∷ ys) w = All-cons (ArgumentStands a) y ys (item_stands a s h x.kind x.index y.1 w.0.1) (args_stand xs ys w.1)
 
   -- ## The component
 
-  module _ (k : ℕ) (args : List ComponentInstantiationArg) (built : list_all is_built_arg args ≡ true) where
+  module _ (k : ℕ) (args : List ComponentInstantiationArg) where
     abbrev at_index : Option ComponentTypeId
     at_index = slice_get s.spaces.components k
 
@@ -124,7 +119,7 @@ module _ (a : Arena) (s : Contents) (h : StateStands a s) where
     there_same = sym (mapped_missing at_index) ∙ ap missing (sym component_here)
 
     abbrev args_there : Checks
-    args_there = all_checks (λ (x : ComponentInstantiationArg). missing (argument_at (context_of a s) x)) args
+    args_there = all_checks (argument_checks s.features (context_of a s)) args
 
     abbrev unopened : Checks
     unopened = if_found (opening_checks tree_reader a.core (arguments (context_of a s) args)) (component_at (context_of a s) k)
@@ -144,9 +139,6 @@ module _ (a : Arena) (s : Contents) (h : StateStands a s) where
 
     repeats_same : (found : List (Text × ComponentEntityType)) → AllZip (IsArg s.spaces) args found → (kind.Conflict, has_repeat (texts_in found)) ∷ [] ≡ repeats
     repeats_same found w = λ j. (kind.Conflict, has_repeat (same_names (λ (x : ComponentInstantiationArg). x.name) (IsArg s.spaces) (λ x y i. i.0) args found w j)) ∷ []
-
-    built_caused : {M : Type 0} (offset : ℕ) (x : Error M) (cs : Checks) → MemoryOrCausedBy cs offset x → MemoryOrCausedBy (cond (is_built_instance (instantiate k args)) cs unbuilt) offset x
-    built_caused offset x cs t = subst (λ (z : Bool). MemoryOrCausedBy (cond z cs unbuilt) offset x) (sym built) t
 
     module _ (i : ComponentTypeId) (found : List (Text × ComponentEntityType)) (e : at_index ≡ Some i) (w : AllZip (IsArg s.spaces) args found) where
       abbrev comp : Type_tree
@@ -186,23 +178,22 @@ module _ (a : Arena) (s : Contents) (h : StateStands a s) where
             (λ j. option_and_then (if_opened tree_reader a.core (args_are args found w j)) (component_is i e j)) ∙ ap (λ (z : Bool). cond z (Some (named_args a found, comp)) None) open_true in
             ap (option_map (instance_of_component mk)) opened_is ∙ ap Some (made.brought q)
 
-        made_free : IsFree (all_checks (arg_checks s.spaces) args) → IsFree ((kind.Conflict, has_repeat (texts_in found)) ∷ []) → IsFree room → IsFree (size_checks (tree_at b (p.Instance m.ty))) → (outer : List Tree_context) (q : Place) →
-            IsFree (instance_checks s.features (tree_maker (names_of (made.given_names q)) q) (stack_of a s outer) (instantiate k args))
+        made_free : IsFree (all_checks (arg_checks s.features s.spaces) args) → IsFree ((kind.Conflict, has_repeat (texts_in found)) ∷ []) → IsFree room → IsFree (size_checks (tree_at b (p.Instance m.ty))) → (outer : List Tree_context) (q : Place) →
+            IsFree (made_checks s.features (tree_maker (names_of (made.given_names q)) q) (stack_of a s outer) (instantiate k args))
         made_free f r q l outer place =
             let o : Option (Brought tree_reader) = Some (brought_of b m) in
             subst (λ (x : Option (Brought tree_reader)). IsFree (all x)) (sym (made_at outer place))
             (free_both there (args_there ++ (unopened ++ (repeats ++ (sizes o ++ room)))) (subst IsFree (ap missing (sym (component_is i e))) (refl, tt))
-            (free_both args_there (unopened ++ (repeats ++ (sizes o ++ room))) (subst IsFree (args_same args built) f)
+            (free_both args_there (unopened ++ (repeats ++ (sizes o ++ room))) (subst IsFree (args_same args) f)
             (free_both unopened (repeats ++ (sizes o ++ room)) (subst IsFree unopened_same (ap not open_true, tt))
             (free_both repeats (sizes o ++ room) (subst IsFree (repeats_same found w) r) (free_both (sizes o) room l q)))))
 
-        pub component_instance : IsFree (all_checks (arg_checks s.spaces) args) → IsFree ((kind.Conflict, has_repeat (texts_in found)) ∷ []) → IsFree room → IsFree (size_checks (tree_at b (p.Instance m.ty))) → MadeInstance a b s (instantiate k args) m
+        pub component_instance : IsFree (all_checks (arg_checks s.features s.spaces) args) → IsFree ((kind.Conflict, has_repeat (texts_in found)) ∷ []) → IsFree room → IsFree (size_checks (tree_at b (p.Instance m.ty))) → MadeInstance a b s (instantiate k args) m
         component_instance f r q l = record {
           given_names = made.given_names;
           given = made.given;
           made = made_at;
           free = made_free f r q l;
-          built = built;
           stands = made.stands;
           alone = made.alone;
           fresh = made.fresh;
@@ -218,12 +209,11 @@ module _ (a : Arena) (s : Contents) (h : StateStands a s) where
           given = made.given;
           caused = λ outer q.
               let o : Option (Brought tree_reader) = Some (brought_of b m) in
-              built_caused offset x (rules.instance_checks s.features (tree_maker (names_of (made.given_names q)) q) (stack_of a s outer) (instantiate k args))
-              (subst (λ (y : Option (Brought tree_reader)). MemoryOrCausedBy (all y) offset x) (sym (made_at outer q))
+              subst (λ (y : Option (Brought tree_reader)). MemoryOrCausedBy (all y) offset x) (sym (made_at outer q))
               (caused_more (sizes o) (all o) offset x
               (λ c. cause_right there (args_there ++ (unopened ++ (repeats ++ (sizes o ++ room)))) (error_kind x)
               (cause_right args_there (unopened ++ (repeats ++ (sizes o ++ room))) (error_kind x)
-              (cause_right unopened (repeats ++ (sizes o ++ room)) (error_kind x) (cause_right repeats (sizes o ++ room) (error_kind x) (cause_left (sizes o) room (error_kind x) c))))) t));
+              (cause_right unopened (repeats ++ (sizes o ++ room)) (error_kind x) (cause_right repeats (sizes o ++ room) (error_kind x) (cause_left (sizes o) room (error_kind x) c))))) t);
         }
 
     -- ## Refused before anything was made
@@ -239,7 +229,7 @@ module _ (a : Arena) (s : Contents) (h : StateStands a s) where
       made_none q outer = rules.instance_made (tree_maker (names_of none_given) q) (stack_of a s outer) (instantiate k args)
 
       refused : (cs : Checks) → ((o : Option (Brought tree_reader)) → Cause cs (error_kind x) → Cause (all o) (error_kind x)) → Caused cs → Refused
-      refused cs f t = record { given_names = λ q. none_given; given = λ q. none_made a b q; caused = λ outer q. built_caused offset x (all (made_none q outer)) (caused_more cs (all (made_none q outer)) offset x (f (made_none q outer)) t) }
+      refused cs f t = record { given_names = λ q. none_given; given = λ q. none_made a b q; caused = λ outer q. caused_more cs (all (made_none q outer)) offset x (f (made_none q outer)) t }
 
       behind : (cs : Checks) → ((o : Option (Brought tree_reader)) → Cause cs (error_kind x) → Cause (unopened ++ (repeats ++ (sizes o ++ room))) (error_kind x)) → Caused cs → Refused
       behind cs f t =
@@ -249,10 +239,10 @@ module _ (a : Arena) (s : Contents) (h : StateStands a s) where
       pub no_component : Caused (missing at_index) → Refused
       no_component t = refused there (λ o c. cause_left there (args_there ++ (unopened ++ (repeats ++ (sizes o ++ room)))) (error_kind x) c) (subst Caused there_same t)
 
-      pub no_arg : Caused (all_checks (arg_checks s.spaces) args) → Refused
+      pub no_arg : Caused (all_checks (arg_checks s.features s.spaces) args) → Refused
       no_arg t =
           refused args_there (λ o c. cause_right there (args_there ++ (unopened ++ (repeats ++ (sizes o ++ room)))) (error_kind x) (cause_left args_there (unopened ++ (repeats ++ (sizes o ++ room))) (error_kind x) c))
-          (subst Caused (args_same args built) t)
+          (subst Caused (args_same args) t)
 
       pub arg_twice : (found : List (Text × ComponentEntityType)) → AllZip (IsArg s.spaces) args found → Caused ((kind.Conflict, has_repeat (texts_in found)) ∷ []) → Refused
       arg_twice found w t = behind repeats (λ o c. cause_right unopened (repeats ++ (sizes o ++ room)) (error_kind x) (cause_left repeats (sizes o ++ room) (error_kind x) c)) (subst Caused (repeats_same found w) t)

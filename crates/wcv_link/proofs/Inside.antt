@@ -1,24 +1,26 @@
 -- The end of a declared type whose declarations settle, or of a component whose items do: its node joins the stack around it.
-use Rattle.std.proofs.Common.{◌≡◌, ℕ, zero, List, ◌∷◌, ◌++◌, Bool, true, false, cond, refl, sym, ◌∙◌, ap, subst, Some, ◌⊎◌, inl, inr}
+use Rattle.std.proofs.Common.{◌≡◌, ℕ, zero, List, [], ◌∷◌, ◌++◌, true, false, not, refl, sym, ◌∙◌, ap, subst, Some, ◌⊎◌, inl, inr}
+use Rattle.std.specs.Prelude.{All, slice_get}
 use Rattle.std.proofs.lemmas.Bool.{false≢true}
+use Rattle.std.proofs.lemmas.List.Elements.{All-head}
 use Rattle.wcv_core.specs.Names.{Name, Place, base, member}
 use Rattle.wcv_core.specs.declared.features.WasmFeatures.{WasmFeatures}
-use Rattle.wcv_syntax.specs.Built.{is_built_inside}
-use Rattle.wcv_syntax.specs.Model.{Decl, core_type_decl, type_decl, alias_decl, export_decl, import_decl}
-use Rattle.wcv_types.specs.Tree.{Parts}
+use Rattle.wcv_syntax.specs.Model.{Decl, import_decl}
+use Rattle.wcv_types.specs.Paths.{PathLeadsTo}
+use Rattle.wcv_types.specs.Tree.{Extern_name, Parts}
 use Rattle.wcv_types.specs.Unfold.{Type_tree}
 use Rattle.wcv_matching.specs.Orderly.{height}
-use Rattle.wcv_lower.specs.Checks.{Checks, IsFree}
+use Rattle.wcv_lower.specs.Checks.{IsFree}
 use Rattle.wcv_lower.specs.Context.{Kind, concrete, declares_instance, declares_component, in_components, Side, importing, exporting, is_concrete}
 use Rattle.wcv_lower.specs.Declared.{closed_as, ended}
-use Rattle.wcv_lower.specs.Ending.{declared_made}
+use Rattle.wcv_lower.specs.Defined.{is_empty}
+use Rattle.wcv_lower.specs.Ending.{declared_made, declared_end_checks}
 use Rattle.wcv_lower.specs.Even.{IsBalanced}
-use Rattle.wcv_lower.specs.Growth.{unbuilt}
 use Rattle.wcv_lower.specs.Names.{names_by_place}
 use Rattle.wcv_lower.specs.Owned.{OwnsNot, OwnApart, Everywhere, IsOwn, IsLed}
 use Rattle.wcv_lower.specs.Readers.{New_node}
 use Rattle.wcv_lower.specs.Step.{appends, Step, apply}
-use Rattle.wcv_lower.specs.Trees.{Tree_context, Tree_stack, tree_reader, node_tree, tree_maker}
+use Rattle.wcv_lower.specs.Trees.{Entries, Tree_context, Tree_stack, tree_reader, node_tree, tree_maker}
 use Rattle.wcv_lower.proofs.Bringing.{AllBring, brings_one}
 use Rattle.wcv_lower.proofs.Calm.{around_has}
 use Rattle.wcv_lower.proofs.CalmEnds.{closed_bring}
@@ -36,11 +38,6 @@ use Rattle.wcv_link.proofs.Near.{NearAmong, Near, AreSorted, near-around, all-ch
 use Rattle.wcv_link.proofs.Outer.{around-parts, ends}
 use Rattle.wcv_link.proofs.Placed.{PlacedAt, PlacedUnder, placed_here, in_list, not_in_list}
 use Rattle.wcv_link.proofs.Settled.{Settles}
-
--- what has no cause is of a form that is built
-pub built_here : (b : Bool) (cs : Checks) → IsFree (cond b cs unbuilt) → b ≡ true
-built_here true cs h = refl
-built_here false cs h = absurd (false≢true (sym h.0))
 
 -- ## What is counted as aliased
 
@@ -172,10 +169,24 @@ abbrev pub decl_side : Decl → Side
 decl_side (import_decl i) = importing
 decl_side d = exporting
 
--- one of an instance type imports nothing
-pub inside-imports : (d : Decl) (p : Place) (s t : Tree_stack) → is_built_inside d ≡ true → Grows (decl_side d) p s t → t.top.imported ≡ s.top.imported
-inside-imports (core_type_decl t) p s u b g = g.adds.imported
-inside-imports (type_decl t) p s u b g = g.adds.imported
-inside-imports (alias_decl a) p s u b g = g.adds.imported
-inside-imports (export_decl n r) p s u b g = g.adds.imported
-inside-imports (import_decl i) p s u b g = absurd (false≢true b)
+-- no path leads to a resource where nothing is imported
+none-there : (es : Entries) (k : ℕ) (x : Extern_name × Type_tree) → es ≡ [] → slice_get es k ≡ Some x → ⊥
+none-there [] k x q e = cc
+none-there (y ∷ es) k x q e = cc
+
+leads-nowhere : (p : List ℕ) (r : Name) → PathLeadsTo p r [] → ⊥
+leads-nowhere [] r x = x
+leads-nowhere (k ∷ []) r x = none-there [] k x.0 refl x.1
+leads-nowhere (k ∷ j ∷ p) r x = none-there [] k x.0 refl x.1
+
+none-lead : (rs : List (Name × List ℕ)) → All (λ p. PathLeadsTo p.1 p.0 []) rs → rs ≡ []
+none-lead [] a = refl
+none-lead (x ∷ rs) a = absurd (leads-nowhere x.1 x.0 (All-head (λ (p : Name × List ℕ). PathLeadsTo p.1 p.0 []) x rs a))
+
+-- so an instance type imports no resource
+pub no-imports : (c : Tree_context) → Leads c → IsFree (declared_end_checks declares_instance c) → c.imported ≡ []
+no-imports c h free = none-lead c.imported (subst (λ (es : Entries). All (λ (p : Name × List ℕ). PathLeadsTo p.1 p.0 es) c.imported) (empty (c.side importing) free.0) h)
+  where
+    empty : (es : Entries) → not (is_empty es) ≡ false → es ≡ []
+    empty [] q = refl
+    empty (x ∷ es) q = absurd (false≢true (sym q))

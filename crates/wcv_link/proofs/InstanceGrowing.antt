@@ -1,8 +1,8 @@
 -- What an instance does to the context of a component: what is new in it is defined, and what else is free in it was listed.
-use Rattle.std.proofs.Common.{◌≡◌, ℕ, zero, List, [], ◌∷◌, map, Bool, true, false, cond, refl, sym, ◌∙◌, subst, Some, None, ◌⊎◌, inl, inr}
+use Rattle.std.proofs.Common.{◌≡◌, ℕ, zero, List, [], ◌∷◌, ◌++◌, map, Bool, true, false, cond, refl, sym, ◌∙◌, subst, Some, None, ◌⊎◌, inl, inr}
 use Rattle.std.specs.Prelude.{All, not}
 use Rattle.std.specs.List.{list_all}
-use Rattle.std.specs.Option.{option_and_then}
+use Rattle.std.specs.Option.{option_map, option_and_then}
 use Rattle.std.proofs.lemmas.Bool.{false≢true}
 use Rattle.std.proofs.lemmas.List.Elements.{All-nil, All-cons, All-head, All-tail, All-weaker}
 use Rattle.wcv_core.specs.Names.{Name, Place, base, at}
@@ -20,9 +20,10 @@ use Rattle.wcv_matching.specs.OnePass.{made_paths}
 use Rattle.wcv_subtype.specs.Hygiene.{Hygienic}
 use Rattle.wcv_lower.specs.Checks.{is_none}
 use Rattle.wcv_lower.specs.Context.{in_instances, in_components, exporting, is_concrete, unknown}
-use Rattle.wcv_lower.specs.Instances.{component_at, argument_at, arguments, if_opened, opened, listed_at, listed, bag_made, instance_of_component, instance_of_items, instance_made, instance_joins, instance_step}
+use Rattle.wcv_lower.specs.Instances.{component_at, argument_at, arguments, if_opened, opened, listed_at, listed, bag_made, instance_of_component, instance_of_items, instance_made, instance_joins, instance_values, instance_step}
 use Rattle.wcv_lower.specs.Instantiated.{opening}
 use Rattle.wcv_lower.specs.Mapped.{map_entries}
+use Rattle.wcv_lower.specs.Marks.{uses_each}
 use Rattle.wcv_lower.specs.Names.{names_by_place}
 use Rattle.wcv_lower.specs.Owned.{OwnsNot, OwnApart, AllEntries}
 use Rattle.wcv_lower.specs.Readers.{New_node, instance_node}
@@ -37,6 +38,7 @@ use Rattle.wcv_link.proofs.CoreGrowing.{if-some}
 use Rattle.wcv_link.proofs.Growing.{Ready, AreNew, Does, nothing-new}
 use Rattle.wcv_link.proofs.Having.{Has, has-right, has-beside, has-beside_back, Once, once-beside}
 use Rattle.wcv_link.proofs.Known.{mapped-some, then-some, all-get, Fine, node-within, Any}
+use Rattle.wcv_link.proofs.Marked.{uses-does}
 use Rattle.wcv_link.proofs.MayMake.{opening-hygienic}
 use Rattle.wcv_link.proofs.Near.{Near, near-listed, After, near-apply}
 use Rattle.wcv_link.proofs.Opened.{FreeAmong, free-instantiated}
@@ -90,7 +92,7 @@ module _ (p : Place) (s : Tree_stack) (h : Ready p s) (c : is_concrete s.top.kin
   listed-fine : (es : List ComponentExport) → Fine (After (instance_joins (instance_listed es)) s) (instance_listed es).entity
   listed-fine es = (node-within (After (instance_joins (instance_listed es)) s) (instance (base p) []) (entries export (listed s.top es) none) (λ r x. x) (listed-inside es), listed-sound es)
 
-  bag-does : (es : List ComponentExport) (x : Step tree_reader) → instance_step (tree_maker names_by_place p) s (bag es) ≡ Some x → Does exporting p s x
+  bag-does : (es : List ComponentExport) (x : Step tree_reader) → option_map instance_joins (instance_made (tree_maker names_by_place p) s (bag es)) ≡ Some x → Does exporting p s x
   bag-does es x e =
       let m = mapped-some instance_joins (instance_made (tree_maker names_by_place p) s (bag es)) x e in
       let o = mapped-some (instance_of_items (tree_maker names_by_place p)) (bag_made s.top es) m.0 m.1 in
@@ -184,7 +186,7 @@ module _ (p : Place) (s : Tree_stack) (h : Ready p s) (c : is_concrete s.top.kin
         (apart_outside t (all-get OwnApart (s.top.space in_components) i t ((h.apart zero s.top refl).space in_components) e))
         (λ r x. all-get (OwnsNot r) (s.top.space in_components) i t ((h.spared r (near-listed s r (w.0 r x)) zero s.top refl).space in_components) e)
 
-    instantiate-does : (i : ℕ) (given : List ComponentInstantiationArg) (x : Step tree_reader) → instance_step (tree_maker names_by_place p) s (instantiate i given) ≡ Some x → Does exporting p s x
+    instantiate-does : (i : ℕ) (given : List ComponentInstantiationArg) (x : Step tree_reader) → option_map instance_joins (instance_made (tree_maker names_by_place p) s (instantiate i given)) ≡ Some x → Does exporting p s x
     instantiate-does i given x e =
         let args : List (Text × Type_tree) = arguments s.top given in
         let m = mapped-some instance_joins (instance_made (tree_maker names_by_place p) s (instantiate i given)) x e in
@@ -202,6 +204,11 @@ module _ (p : Place) (s : Tree_stack) (h : Ready p s) (c : is_concrete s.top.kin
         (subst (λ (y : List (Text × Type_tree) × Type_tree). Does exporting p s (instance_joins (instance_of_component (tree_maker names_by_place p) y))) q.1
         (component-does args t.0 w.1 (opened-inside args t.0 a w (arguments_have IsBare s.top are-bare given) v q.0) sound)))
 
+    joined : (i : Instance_form) (x : Step tree_reader) → option_map instance_joins (instance_made (tree_maker names_by_place p) s i) ≡ Some x → Does exporting p s x
+    joined (bag es) x e = bag-does es x e
+    joined (instantiate i given) x e = instantiate-does i given x e
+
     pub instance-does : (i : Instance_form) (x : Step tree_reader) → instance_step (tree_maker names_by_place p) s i ≡ Some x → Does exporting p s x
-    instance-does (bag es) x e = bag-does es x e
-    instance-does (instantiate i args) x e = instantiate-does i args x e
+    instance-does i x e =
+        let m = mapped-some (λ (z : Step tree_reader). uses_each (instance_values i) ++ z) (option_map instance_joins (instance_made (tree_maker names_by_place p) s i)) x e in
+        subst (Does exporting p s) m.2 (uses-does exporting p s (instance_values i) m.0 (joined i m.0 m.1))

@@ -1,10 +1,8 @@
 -- What an item, but for a declared type, and a declared export do to the stack that they stand in.
-use Rattle.std.proofs.Common.{◌≡◌, ℕ, zero, refl, true, ◌∙◌, ap, subst, Some}
+use Rattle.std.proofs.Common.{◌≡◌, ℕ, zero, ◌++◌, refl, true, ◌∙◌, ap, subst, Some}
 use Rattle.std.specs.Option.{option_map}
 use Rattle.wcv_core.specs.Names.{Name, Place}
 use Rattle.wcv_core.specs.declared.features.WasmFeatures.{WasmFeatures}
-use Rattle.wcv_core.proofs.Names.{and_right}
-use Rattle.wcv_syntax.specs.Built.{is_plain, is_built_ref, is_built_sort, is_built_written}
 use Rattle.wcv_syntax.specs.Model.{Form, core_type_item, core_module_item, core_instance_item, type_item, import_item, export_item, component_item, instance_item, alias_item, start_item, canon_item}
 use Rattle.wcv_syntax.specs.declared.component_type.ComponentTypeRef.{ComponentTypeRef}
 use Rattle.wcv_syntax.specs.declared.instance.ComponentAlias.TheVariants as alias
@@ -13,9 +11,10 @@ use Rattle.wcv_types.specs.Tree.{Parts}
 use Rattle.wcv_lower.specs.Checks.{IsFree}
 use Rattle.wcv_lower.specs.Context.{is_concrete, Side, importing, exporting}
 use Rattle.wcv_lower.specs.Declared.{applied, declared_export_step}
-use Rattle.wcv_lower.specs.Entries.{extern_name, written, exported}
+use Rattle.wcv_lower.specs.Entries.{extern_name, written, exported, exported_values}
 use Rattle.wcv_lower.specs.Even.{IsBalanced}
-use Rattle.wcv_lower.specs.Growth.{step, grow, form_checks}
+use Rattle.wcv_lower.specs.Growth.{step, grow, call_checks}
+use Rattle.wcv_lower.specs.Marks.{uses_each}
 use Rattle.wcv_lower.specs.Names.{names_by_place}
 use Rattle.wcv_lower.specs.Owned.{OwnsNot, OwnApart, AllEntries, Everywhere, AreRegular}
 use Rattle.wcv_lower.specs.Step.{Step, apply, enters, Brought}
@@ -34,6 +33,8 @@ use Rattle.wcv_link.proofs.Growing.{Ready, Grows, Does, Owns, own-nothing, does-
 use Rattle.wcv_link.proofs.InstanceGrowing.{instance-does}
 use Rattle.wcv_link.proofs.Known.{mapped-some, Any}
 use Rattle.wcv_link.proofs.Joining.{still-sorted, items-join, entry-joins}
+use Rattle.wcv_link.proofs.Marked.{uses-does}
+use Rattle.wcv_link.proofs.StartGrowing.{start-does}
 use Rattle.wcv_link.proofs.Tidy.{Known, TidyEntry, tidy-bare}
 use Rattle.wcv_link.proofs.TidyRegular.{tidy-regular}
 
@@ -55,24 +56,25 @@ module _ (p : Place) (s : Tree_stack) (h : Ready p s) (g : Known) (y : Everywher
   abbrev here : AllEntries (TidyEntry g) s.top
   here = y zero s.top refl
 
-  step-does : (fs : WasmFeatures) (f : Form) (x : Step tree_reader) → MayStand f s.top → is_plain f ≡ true → IsFree (form_checks fs (tree_maker names_by_place p) s f) → step fs (tree_maker names_by_place p) s f ≡ Some x → Does (side_of f) p s x
-  step-does fs (type_item t) x may b free e = type-does p s h t x e
-  step-does fs (import_item i) x may b free e =
+  step-does : (fs : WasmFeatures) (f : Form) (x : Step tree_reader) → MayStand f s.top → IsFree (call_checks fs (tree_maker names_by_place p) s f) → step fs (tree_maker names_by_place p) s f ≡ Some x → Does (side_of f) p s x
+  step-does fs (type_item t) x may free e = type-does p s h t x e
+  step-does fs (import_item i) x may free e =
       let m = mapped-some (enters importing (extern_name i.name)) (written (tree_maker names_by_place p) s.top i.ty) x e in
-      subst (Does importing p s) m.2 (written-does p s h importing (extern_name i.name) i.ty m.0 b m.1)
-  step-does fs (export_item i) x may b free e =
-      let m = mapped-some (enters exporting (extern_name i.name)) (exported (tree_maker names_by_place p) s.top i) x e in
-      subst (Does exporting p s) m.2 (exported-does p s h (tidy-bare g s.top here) (extern_name i.name) i i.ty m.0 (and_right (is_built_sort i.kind) (is_built_written i.ty) b) m.1)
-  step-does fs (core_type_item t) x may b free e = core_type-does p s h fs t x e
-  step-does fs (core_module_item ds) x may b free e = core_module-does p s h fs ds x e
-  step-does fs (core_instance_item i) x may b free e = core_instance-does p s h i x e
-  step-does fs (component_item is end) x may b free e = cc
-  step-does fs (instance_item i) x may b free e = instance-does p s h may g here i x e
-  step-does fs (alias_item (alias.CoreInstanceExport k i n)) x may b free e = core_alias-does p s h k i n x e
-  step-does fs (alias_item (alias.InstanceExport k i n)) x may b free e = export_alias-does p s h (tidy-bare g s.top here) k i n x e
-  step-does fs (alias_item (alias.Outer k n i)) x may b free e = outer_alias-does p s h g y k n i x free e
-  step-does fs (start_item k args results) x may b free e = cc
-  step-does fs (canon_item f) x may b free e = canon-does p s h f x e
+      subst (Does importing p s) m.2 (written-does p s h importing (extern_name i.name) i.ty m.0 m.1)
+  step-does fs (export_item i) x may free e =
+      let u = mapped-some (λ (z : Step tree_reader). uses_each (exported_values i) ++ z) (option_map (enters exporting (extern_name i.name)) (exported (tree_maker names_by_place p) s.top i)) x e in
+      let m = mapped-some (enters exporting (extern_name i.name)) (exported (tree_maker names_by_place p) s.top i) u.0 u.1 in
+      subst (Does exporting p s) u.2 (uses-does exporting p s (exported_values i) u.0 (subst (Does exporting p s) m.2 (exported-does p s h (tidy-bare g s.top here) (extern_name i.name) i i.ty m.0 m.1)))
+  step-does fs (core_type_item t) x may free e = core_type-does p s h fs t x e
+  step-does fs (core_module_item ds) x may free e = core_module-does p s h fs ds x e
+  step-does fs (core_instance_item i) x may free e = core_instance-does p s h i x e
+  step-does fs (component_item is end) x may free e = cc
+  step-does fs (instance_item i) x may free e = instance-does p s h may g here i x e
+  step-does fs (alias_item (alias.CoreInstanceExport k i n)) x may free e = core_alias-does p s h k i n x e
+  step-does fs (alias_item (alias.InstanceExport k i n)) x may free e = export_alias-does p s h (tidy-bare g s.top here) k i n x e
+  step-does fs (alias_item (alias.Outer k n i)) x may free e = outer_alias-does p s h g y k n i x free e
+  step-does fs (start_item f args n) x may free e = start-does s f args x e p h
+  step-does fs (canon_item f) x may free e = canon-does p s h f x e
 
   -- ## What its entries own
 
@@ -97,11 +99,11 @@ module _ (p : Place) (s : Tree_stack) (h : Ready p s) (g : Known) (y : Everywher
       (of_some (AllBring OwnApart Any) (step fs (tree_maker names_by_place p) s f) x (items_bring own_apart_inherited Any names_by_place p (λ o. tt) s h.apart fs f (item-apart fs f x e)) e)
       (λ v all. of_some (AllBring (IsBalanced v) Any) (step fs (tree_maker names_by_place p) s f) x (items_bring (balanced_inherited v) Any names_by_place p (λ o. tt) s all fs f (item-balanced fs f x v all e)) e)
 
-  pub grow-grows : (fs : WasmFeatures) (f : Form) (u : Tree_stack) → MayStand f s.top → is_plain f ≡ true → IsFree (form_checks fs (tree_maker names_by_place p) s f) → grow fs (tree_maker names_by_place p) s f ≡ Some u → Grows (side_of f) p s u
-  grow-grows fs f u may b free e =
+  pub grow-grows : (fs : WasmFeatures) (f : Form) (u : Tree_stack) → MayStand f s.top → IsFree (call_checks fs (tree_maker names_by_place p) s f) → grow fs (tree_maker names_by_place p) s f ≡ Some u → Grows (side_of f) p s u
+  grow-grows fs f u may free e =
       let m = mapped-some (λ (x : Step tree_reader). apply x s) (step fs (tree_maker names_by_place p) s f) u e in
       subst (λ (t : Tree_stack). Grows (side_of f) p s t) m.2
-      (does-grow p s m.0 h (side_of f) (step-owns fs f m.0 m.1) (still-sorted m.0 s (items-join p s h.fine fs f m.0 m.1) h.fine.0.sorted) (step-does fs f m.0 may b free m.1))
+      (does-grow p s m.0 h (side_of f) (step-owns fs f m.0 m.1) (still-sorted m.0 s (items-join p s h.fine fs f m.0 m.1) h.fine.0.sorted) (step-does fs f m.0 may free m.1))
 
 -- ## A declared export
 
@@ -117,10 +119,10 @@ module _ (p : Place) (s : Tree_stack) (h : Ready p s) (n : ComponentExternName) 
   export-owns b e =
       own-nothing p s (entering b) h (λ r all. export-brings (owns_not_inherited r) b e all) (export-brings own_apart_inherited b e h.apart) (λ v all. export-brings (balanced_inherited v) b e all)
 
-  pub declared-grows : (u : Tree_stack) → is_built_ref x ≡ true → applied s (declared_export_step (tree_maker names_by_place p) s.top n x) ≡ Some u → Grows exporting p s u
-  declared-grows u b e =
+  pub declared-grows : (u : Tree_stack) → applied s (declared_export_step (tree_maker names_by_place p) s.top n x) ≡ Some u → Grows exporting p s u
+  declared-grows u e =
       let m = mapped-some (λ (y : Step tree_reader). apply y s) (declared_export_step (tree_maker names_by_place p) s.top n x) u e in
       let v = mapped-some (enters exporting (extern_name n)) (written (tree_maker names_by_place p) s.top x) m.0 m.1 in
       let w : Grows exporting p s (apply (entering v.0) s) =
-      does-grow p s (entering v.0) h exporting (export-owns v.0 v.1) (still-sorted (entering v.0) s (entry-joins exporting (extern_name n) v.0) h.fine.0.sorted) (written-does p s h exporting (extern_name n) x v.0 b v.1) in
+      does-grow p s (entering v.0) h exporting (export-owns v.0 v.1) (still-sorted (entering v.0) s (entry-joins exporting (extern_name n) v.0) h.fine.0.sorted) (written-does p s h exporting (extern_name n) x v.0 v.1) in
       subst (λ (t : Tree_stack). Grows exporting p s t) (ap (λ (y : Step tree_reader). apply y s) v.2 ∙ m.2) w

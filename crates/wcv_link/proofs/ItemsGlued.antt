@@ -9,7 +9,7 @@ use Rattle.wcv_lower.specs.Checks.{Cause, IsFree}
 use Rattle.wcv_lower.specs.Context.{concrete}
 use Rattle.wcv_lower.specs.Declared.{inside, ended}
 use Rattle.wcv_lower.specs.DeclaredCalls.{FromDecl}
-use Rattle.wcv_lower.specs.Ending.{end_checks}
+use Rattle.wcv_lower.specs.Ending.{component_end_checks}
 use Rattle.wcv_lower.specs.Given.{GivenNames, names_of, none_given, both_given, Numbers, AtMost, GivesAt}
 use Rattle.wcv_lower.specs.Items.{component_checks}
 use Rattle.wcv_lower.specs.Names.{Under, SameNames}
@@ -77,9 +77,9 @@ module _ (fs : WasmFeatures) (w : Place) where
   most_items k s u (next_item at f is) a b r = most_both a r.1 b r.2 r.3
 
   -- a cause of the end, once all were read
-  pub ended_refused : (k : ℕ) (s u : Tree_stack) (is : Items) (end : ℕ) (kind : ErrorKind) (offset : ℕ) (a m b : Numbers) → AtMost m b → ItemsRead fs w k s is u a m → Cause (end_checks u.top) kind → offset ≡ end →
+  pub ended_refused : (k : ℕ) (s u : Tree_stack) (is : Items) (end : ℕ) (kind : ErrorKind) (offset : ℕ) (a m b : Numbers) → AtMost m b → ItemsRead fs w k s is u a m → Cause (component_end_checks u.top) kind → offset ≡ end →
       ItemsRefused fs w k s is end kind offset a b
-  ended_refused k s u no_items end kind offset a m b l r c e = (subst (λ (t : Tree_stack). Cause (end_checks t.top) kind) (sym r.0) c, e)
+  ended_refused k s u no_items end kind offset a m b l r c e = (subst (λ (t : Tree_stack). Cause (component_end_checks t.top) kind) (sym r.0) c, e)
   ended_refused k s u (next_item at f is) end kind offset a m b l r c e =
       inr (r.0, r.1, r.2, most_both r.1 m b r.3 l, r.4, ended_refused (suc k) r.0 u is end kind offset r.1 m b l r.5 c e)
 
@@ -87,7 +87,7 @@ module _ (fs : WasmFeatures) (w : Place) where
 
 module _ (fs : WasmFeatures) (p : Place) (s : Tree_stack) (is : Items) (end : ℕ) where
   -- calls that read its items, and then give its type a name, read it
-  pub component_read : (u v : Tree_stack) (a m b : Numbers) (own : GivenNames) → IsFree (component_checks s is) → ItemsRead fs p 0 (inside concrete s) is u a m → IsFree (end_checks u.top) → AtMost m b → GivesAt (λ q. q ≡ p) m b own →
+  pub component_read : (u v : Tree_stack) (a m b : Numbers) (own : GivenNames) → IsFree (component_checks s is) → ItemsRead fs p 0 (inside concrete s) is u a m → IsFree (component_end_checks u.top) → AtMost m b → GivesAt (λ q. q ≡ p) m b own →
       ended concrete (tree_maker (names_of own) p) u ≡ Some v → ItemRead fs p s (component_item is end) v a b
   component_read u v a m b own free r x l h e =
       let each = items_read fs p 0 (inside concrete s) u is a m r in

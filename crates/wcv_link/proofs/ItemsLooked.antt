@@ -1,23 +1,13 @@
--- What holds of each of a list, of the next that is looked up; an item that is there is not missing.
-use Rattle.std.proofs.Common.{◌≡◌, ℕ, List, ◌∷◌, refl, sym, ap, ◌∙◌, Bool, true, Some, None, option_map}
+-- An item that is there is not missing.
+use Rattle.std.proofs.Common.{◌≡◌, ℕ, refl, Some, None, option_map}
 use Rattle.std.specs.Prelude.{Option, slice_get}
-use Rattle.std.specs.List.{list_all}
-use Rattle.std.proofs.lemmas.List.Folds.{list_all-append}
-use Rattle.wcv_core.proofs.Names.{and_left, and_right}
-use Rattle.wcv_core.specs.Checks.{Checks, IsFree, missing}
+use Rattle.wcv_core.specs.Checks.{IsFree, missing}
 use Rattle.wcv_syntax.specs.declared.instance.ComponentExternalKind.{ComponentExternalKind}
 use Rattle.wcv_syntax.specs.declared.instance.ComponentExternalKind.TheVariants as kind
 use Rattle.wcv_types.specs.declared.shapes.ComponentEntityType.{ComponentEntityType}
 use Rattle.wcv_types.specs.declared.shapes.ComponentEntityType.TheVariants as entity
 use Rattle.wcv_state.specs.Contents.{SpaceLists}
 use Rattle.wcv_state.specs.Looking.{item_id, item_id_checks}
-use Rattle.wcv_link.proofs.Looked.{Looked}
-
-pub next_holds : {A B : Type 0} (f : A → Bool) (Is : A → B → Type 0) (checks : A → Checks) (all left : List A) (found : List B) (x : A) → list_all f all ≡ true → Looked Is checks all (x ∷ left) found → f x ≡ true
-next_holds f Is checks all left found x h w =
-    and_left (f x) (list_all f left) (and_right (list_all f w.before) (list_all f (x ∷ left)) (sym (list_all-append f w.before (x ∷ left)) ∙ sym (ap (list_all f) w.was) ∙ h))
-
--- ## Items by sort
 
 there : {I : Type 0} (to : I → ComponentEntityType) (o : Option I) (x : ComponentEntityType) → option_map to o ≡ Some x → IsFree (missing o)
 there to None x e = cc
@@ -29,4 +19,4 @@ item_free s kind.Func k x e = there entity.Func (slice_get s.funcs k) x e
 item_free s kind.Ty k x e = there (λ r. entity.Ty r r) (slice_get s.types k) x e
 item_free s kind.Instance k x e = there entity.Instance (slice_get s.instances k) x e
 item_free s kind.Component k x e = there entity.Component (slice_get s.components k) x e
-item_free s kind.Value k x e = cc
+item_free s kind.Value k x e = there (λ v. entity.Value v.0) (slice_get s.values k) x e

@@ -23,17 +23,20 @@ use Rattle.wcv_syntax.specs.declared.name.ComponentExport.{ComponentExport}
 use Rattle.wcv_types.specs.Tree.{Extern_name, Sort, is_nothing, is_value, is_resource, is_func, is_instance, is_component, is_type, is_module, is_core_instance, is_core_type, is_core_item, sort}
 use Rattle.wcv_lower.specs.Aliases.{joining, outer_items, outer_at, outer_joins, is_charged, concrete_at, charged, alias_step}
 use Rattle.wcv_lower.specs.Checks.{is_none}
-use Rattle.wcv_lower.specs.Context.{in_types, in_funcs, in_values, in_instances, in_components, core_types, core_funcs, core_modules, core_instances, Core_space, Side, importing, exporting, is_concrete, at_distance}
+use Rattle.wcv_lower.specs.Context.{in_types, in_funcs, in_values, in_instances, in_components, core_types, core_funcs, core_modules, core_instances, Core_space, Side, importing, exporting, same_side, is_concrete, at_distance}
 use Rattle.wcv_lower.specs.CoreInstances.{space_of, core_instance_made, core_instance_step, item_joins}
 use Rattle.wcv_lower.specs.CoreInstances as core
 use Rattle.wcv_lower.specs.CoreItems.{core_entries, is_closable, types_join, closed_step, module_joins, core_type_made, core_type_step, core_module_made, core_module_step}
-use Rattle.wcv_lower.specs.Entries.{extern_name, written, exported, import_step, export_step}
+use Rattle.wcv_lower.specs.Canons.{func_at}
+use Rattle.wcv_lower.specs.Entries.{extern_name, written, exported, exported_values, import_step, export_step}
 use Rattle.wcv_lower.specs.Growth.{step}
-use Rattle.wcv_lower.specs.Instances.{listed_at, listed, instance_of_component, instance_of_items, instance_joins, instance_step, opened}
+use Rattle.wcv_lower.specs.Instances.{listed_at, listed, instance_of_component, instance_of_items, instance_made, instance_joins, instance_values, instance_step, opened}
+use Rattle.wcv_lower.specs.Marks.{uses_each, using, value_at}
 use Rattle.wcv_lower.specs.Names.{names_by_place}
 use Rattle.wcv_lower.specs.NewTypes.{new_reference}
 use Rattle.wcv_lower.specs.Readers.{instance_node}
-use Rattle.wcv_lower.specs.Step.{Change, appends, lists, introduces, defines, creates, core_appends, interns, charges, types_slots, Step, Brought, joins_types, joins, enters, change, apply}
+use Rattle.wcv_lower.specs.Start.{result_joins, start_joins, start_step}
+use Rattle.wcv_lower.specs.Step.{Change, appends, lists, introduces, defines, creates, core_appends, interns, charges, types_slots, marks_value, uses_value, names_start, Step, Brought, joins_types, joins, enters, change, apply}
 use Rattle.wcv_lower.specs.Trees.{Type_tree, Entries, Tree_context, Tree_stack, tree_reader, tree_maker, module_tree, node_tree, type_entry, created}
 use Rattle.wcv_lower.specs.Types.{type_made, added, type_step}
 use Rattle.wcv_lower.proofs.Bringing.{OfAny, of_some, any_cond}
@@ -74,6 +77,9 @@ sorted-change (interns gs) s w h = h
 sorted-change (charges zero n) s w h = h
 sorted-change (charges (suc k) n) s w h = h
 sorted-change (types_slots v) s w h = h
+sorted-change (marks_value b) s w h = h
+sorted-change (uses_value k) s w h = h
+sorted-change names_start s w h = h
 
 pub still-sorted : (x : Step tree_reader) (s : Tree_stack) → AllJoin x → AreSorted s.top → AreSorted (apply x s).top
 still-sorted [] s w h = h
@@ -95,25 +101,34 @@ mapped-twice : {A B : Type 0} (g : B → Step tree_reader) (f : A → B) → ((a
 mapped-twice g f h None = tt
 mapped-twice g f h (Some a) = h a
 
-joins-all : (o : Sort) (t : Type_tree) → sort t ≡ o → AllJoin (joins tree_reader o t)
-joins-all is_func t e = one (appends in_funcs t) tt
-joins-all is_value t e = one (appends in_values t) tt
-joins-all is_instance t e = one (appends in_instances t) e
-joins-all is_component t e = one (appends in_components t) tt
-joins-all is_type t e = one (appends in_types (created t)) tt
-joins-all is_module t e = one (core_appends core_modules t) e
-joins-all is_resource t e = All-nil Joins
-joins-all is_nothing t e = All-nil Joins
-joins-all is_core_instance t e = All-nil Joins
-joins-all is_core_type t e = All-nil Joins
-joins-all is_core_item t e = All-nil Joins
+-- so it is behind uses of values
+uses-all : (ks : List ℕ) (x : Step tree_reader) → AllJoin x → AllJoin (uses_each ks ++ x)
+uses-all [] x w = w
+uses-all (k ∷ ks) x w = more (uses_value k) (uses_each ks ++ x) tt (uses-all ks x w)
+
+using-all : (ks : List ℕ) (o : Option (Step tree_reader)) → OfAny AllJoin o → OfAny AllJoin (using ks o)
+using-all ks None w = tt
+using-all ks (Some x) w = uses-all ks x w
+
+joins-all : (used : Bool) (o : Sort) (t : Type_tree) → sort t ≡ o → AllJoin (joins tree_reader used o t)
+joins-all used is_func t e = one (appends in_funcs t) tt
+joins-all used is_value t e = more (appends in_values t) (marks_value used ∷ []) tt (one (marks_value used) tt)
+joins-all used is_instance t e = one (appends in_instances t) e
+joins-all used is_component t e = one (appends in_components t) tt
+joins-all used is_type t e = one (appends in_types (created t)) tt
+joins-all used is_module t e = one (core_appends core_modules t) e
+joins-all used is_resource t e = All-nil Joins
+joins-all used is_nothing t e = All-nil Joins
+joins-all used is_core_instance t e = All-nil Joins
+joins-all used is_core_type t e = All-nil Joins
+joins-all used is_core_item t e = All-nil Joins
 
 -- an entry of a side
 pub entry-joins : (d : Side) (n : Extern_name) (b : Brought tree_reader) → AllJoin (enters d n b)
 entry-joins d n b =
-    let last : Step tree_reader = joins tree_reader (sort b.entity) b.entity in
+    let last : Step tree_reader = joins tree_reader (same_side d exporting) (sort b.entity) b.entity in
     more (introduces d b.resources) (lists d n b.entity ∷ creates d (tree_reader.creates b.entity) ∷ last) tt
-    (more (lists d n b.entity) (creates d (tree_reader.creates b.entity) ∷ last) tt (more (creates d (tree_reader.creates b.entity)) last tt (joins-all (sort b.entity) b.entity refl)))
+    (more (lists d n b.entity) (creates d (tree_reader.creates b.entity) ∷ last) tt (more (creates d (tree_reader.creates b.entity)) last tt (joins-all (same_side d exporting) (sort b.entity) b.entity refl)))
 
 types-all : (is : List ℕ) → AllJoin (types_join tree_reader is)
 types-all [] = All-nil Joins
@@ -167,9 +182,12 @@ module _ (p : Place) (s : Tree_stack) (h : IsFine s) where
   bag-joins true es = joined (instance_of_items (tree_maker names_by_place p) (instance_node [] es)) refl
   bag-joins false es = tt
 
+  made-join : (i : Instance_form) → OfAny AllJoin (option_map instance_joins (instance_made (tree_maker names_by_place p) s i))
+  made-join (instantiate i args) = mapped-twice instance_joins (instance_of_component (tree_maker names_by_place p)) (λ o. joined (instance_of_component (tree_maker names_by_place p) o) refl) (opened s i args)
+  made-join (bag es) = bag-joins (list_all (λ (e : ComponentExport). not (is_none (listed_at s.top e))) es) (listed s.top es)
+
   instances-join : (i : Instance_form) → OfAny AllJoin (instance_step (tree_maker names_by_place p) s i)
-  instances-join (instantiate i args) = mapped-twice instance_joins (instance_of_component (tree_maker names_by_place p)) (λ o. joined (instance_of_component (tree_maker names_by_place p) o) refl) (opened s i args)
-  instances-join (bag es) = bag-joins (list_all (λ (e : ComponentExport). not (is_none (listed_at s.top e))) es) (listed s.top es)
+  instances-join i = using-all (instance_values i) (option_map instance_joins (instance_made (tree_maker names_by_place p) s i)) (made-join i)
 
   -- ## Aliases
 
@@ -195,7 +213,7 @@ module _ (p : Place) (s : Tree_stack) (h : IsFine s) where
       go false = All-nil Joins
 
   aliases-join : (a : ComponentAlias) → OfAny AllJoin (alias_step s a)
-  aliases-join (alias.InstanceExport w i n) = mapped joining (λ t. joins-all (sort t) t refl) _
+  aliases-join (alias.InstanceExport w i n) = mapped joining (λ t. joins-all false (sort t) t refl) _
   aliases-join (alias.CoreInstanceExport w i n) = mapped (item_joins tree_reader w) (λ e. one (core_appends (space_of w) (tree_reader.core_item e)) (item-one w (tree_reader.core_item e))) _
   aliases-join (alias.Outer w n i) = go (outer_at s w n i) refl
     where
@@ -203,17 +221,33 @@ module _ (p : Place) (s : Tree_stack) (h : IsFine s) where
       go None e = tt
       go (Some t) e = All-append Joins (charged s w n t) (outer_joins w t) (charge-joins w n t) (out-joins w n i t e)
 
+  -- ## Start functions
+
+  result-joins : (o : Option Type_tree) → AllJoin (names_start ∷ result_joins {X = tree_reader} o)
+  result-joins None = one names_start tt
+  result-joins (Some t) = more names_start (appends in_values t ∷ marks_value false ∷ []) tt (more (appends in_values t) (marks_value false ∷ []) tt (one (marks_value false) tt))
+
+  starts-join : (f : ℕ) (args : List ℕ) → OfAny AllJoin (start_step s.top f args)
+  starts-join f args = go (list_all (λ k. not (is_none (value_at s.top k))) args)
+    where
+      go : (b : Bool) → OfAny AllJoin (cond b (option_map (start_joins args) (func_at s.top f)) None)
+      go true = mapped (start_joins args) (λ t. uses-all args (names_start ∷ result_joins (tree_reader.result t)) (result-joins (tree_reader.result t))) (func_at s.top f)
+      go false = tt
+
   -- ## Items
 
   pub items-join : (fs : WasmFeatures) (f : Form) (x : Step tree_reader) → step fs (tree_maker names_by_place p) s f ≡ Some x → AllJoin x
   items-join fs (type_item t) x e = of_some AllJoin (type_step (tree_maker names_by_place p) s.top t) x (type-joins t) e
   items-join fs (import_item i) x e = of_some AllJoin (import_step (tree_maker names_by_place p) s.top i) x (mapped (enters importing (extern_name i.name)) (λ b. entry-joins importing (extern_name i.name) b) (written (tree_maker names_by_place p) s.top i.ty)) e
-  items-join fs (export_item i) x e = of_some AllJoin (export_step (tree_maker names_by_place p) s.top i) x (mapped (enters exporting (extern_name i.name)) (λ b. entry-joins exporting (extern_name i.name) b) (exported (tree_maker names_by_place p) s.top i)) e
+  items-join fs (export_item i) x e =
+      of_some AllJoin (export_step (tree_maker names_by_place p) s.top i) x
+      (using-all (exported_values i) (option_map (enters exporting (extern_name i.name)) (exported (tree_maker names_by_place p) s.top i))
+      (mapped (enters exporting (extern_name i.name)) (λ b. entry-joins exporting (extern_name i.name) b) (exported (tree_maker names_by_place p) s.top i))) e
   items-join fs (core_type_item t) x e = of_some AllJoin (core_type_step fs (tree_maker names_by_place p) s t) x (core_type-joins fs t) e
   items-join fs (core_module_item ds) x e = of_some AllJoin (core_module_step fs (tree_maker names_by_place p) s ds) x (module-joins core_modules (core_module_made fs s ds)) e
   items-join fs (core_instance_item i) x e = of_some AllJoin (core_instance_step (tree_maker names_by_place p) s i) x (mapped (core.instance_joins (tree_maker names_by_place p)) (λ m. one (core_appends core_instances (node_tree (base p) m)) tt) (core_instance_made s i)) e
   items-join fs (component_item is end) x e = cc
   items-join fs (instance_item i) x e = of_some AllJoin (instance_step (tree_maker names_by_place p) s i) x (instances-join i) e
   items-join fs (alias_item a) x e = of_some AllJoin (alias_step s a) x (aliases-join a) e
-  items-join fs (start_item k args results) x e = cc
+  items-join fs (start_item f args n) x e = of_some AllJoin (start_step s.top f args) x (starts-join f args) e
   items-join fs (canon_item c) x e = canon-holds s AllJoin (λ v y w. more (types_slots v) y tt w) (λ g. more (interns (grown s.groups g)) (core_appends core_funcs (func_item s.groups g) ∷ []) tt (one (core_appends core_funcs (func_item s.groups g)) tt)) (λ k t q. one (appends in_funcs t) tt) c x e

@@ -1,5 +1,5 @@
 -- What a step brings to a context: entries in which what is free has a property, and sound ones.
-use Rattle.std.proofs.Common.{◌≡◌, ℕ, zero, suc, List, [], ◌∷◌, length, refl, ◌∙◌, subst, Some, None, ◌⊎◌, inl, inr}
+use Rattle.std.proofs.Common.{◌≡◌, ℕ, zero, suc, List, [], ◌∷◌, length, Bool, refl, ◌∙◌, subst, Some, None, ◌⊎◌, inl, inr}
 use Rattle.std.specs.Prelude.{All, slice_get, Option}
 use Rattle.std.specs.Option.{option_map, option_and_then}
 use Rattle.std.proofs.lemmas.List.Elements.{All-weaker, All-nil}
@@ -9,11 +9,11 @@ use Rattle.wcv_types.specs.Resources.{RefersTo, Free, FreeIn}
 use Rattle.wcv_types.specs.Tree as tree
 use Rattle.wcv_types.specs.Tree.{Extern_name, Head, type_entity, Sort, is_nothing, is_value, is_resource, is_func, is_instance, is_component, is_type, is_module, is_core_instance, is_core_type, is_core_item, sort, node, Parts, none, part, first_part, rest_parts, type_of}
 use Rattle.wcv_types.proofs.Lists.{some-inj}
-use Rattle.wcv_lower.specs.Context.{in_types, in_funcs, in_values, in_instances, in_components, core_modules, Side, importing, exporting, placed, unknown}
+use Rattle.wcv_lower.specs.Context.{in_types, in_funcs, in_values, in_instances, in_components, core_modules, Side, importing, exporting, same_side, placed, unknown}
 use Rattle.wcv_lower.specs.Mapped.{map_context}
 use Rattle.wcv_lower.specs.Owned.{AllEntries}
 use Rattle.wcv_lower.specs.Renamed.{Renaming, renaming}
-use Rattle.wcv_lower.specs.Step.{Change, appends, lists, introduces, defines, creates, core_appends, interns, charges, types_slots, Step, change, apply, joins, enters, Brought}
+use Rattle.wcv_lower.specs.Step.{Change, appends, lists, introduces, defines, creates, core_appends, interns, charges, types_slots, marks_value, uses_value, names_start, Step, change, apply, joins, enters, Brought}
 use Rattle.wcv_lower.specs.Trees.{Type_tree, Tree_context, Tree_stack, tree_reader, created, referenced}
 use Rattle.wcv_lower.proofs.Bringing.{Brings, AllBring, brings_one, brings_more}
 use Rattle.wcv_link.proofs.Having.{Has, has-left, has-renamed_back}
@@ -117,26 +117,26 @@ abbrev pub Any : Name → Type 0
 Any r = Unit {0}
 
 module _ (E : Type_tree → Type 0) (creates_too : (t : Type_tree) → E t → E (created t)) where
-  pub joins-bring : (o : Sort) (t : Type_tree) → E t → AllBring E Any (joins tree_reader o t)
-  joins-bring is_func t w = brings_one E Any (appends in_funcs t) w
-  joins-bring is_value t w = brings_one E Any (appends in_values t) w
-  joins-bring is_instance t w = brings_one E Any (appends in_instances t) w
-  joins-bring is_component t w = brings_one E Any (appends in_components t) w
-  joins-bring is_type t w = brings_one E Any (appends in_types (created t)) (creates_too t w)
-  joins-bring is_module t w = brings_one E Any (core_appends core_modules t) w
-  joins-bring is_resource t w = All-nil (Brings E Any)
-  joins-bring is_nothing t w = All-nil (Brings E Any)
-  joins-bring is_core_instance t w = All-nil (Brings E Any)
-  joins-bring is_core_type t w = All-nil (Brings E Any)
-  joins-bring is_core_item t w = All-nil (Brings E Any)
+  pub joins-bring : (used : Bool) (o : Sort) (t : Type_tree) → E t → AllBring E Any (joins tree_reader used o t)
+  joins-bring used is_func t w = brings_one E Any (appends in_funcs t) w
+  joins-bring used is_value t w = brings_more E Any (appends in_values t) (marks_value used ∷ []) w (brings_one E Any (marks_value used) tt)
+  joins-bring used is_instance t w = brings_one E Any (appends in_instances t) w
+  joins-bring used is_component t w = brings_one E Any (appends in_components t) w
+  joins-bring used is_type t w = brings_one E Any (appends in_types (created t)) (creates_too t w)
+  joins-bring used is_module t w = brings_one E Any (core_appends core_modules t) w
+  joins-bring used is_resource t w = All-nil (Brings E Any)
+  joins-bring used is_nothing t w = All-nil (Brings E Any)
+  joins-bring used is_core_instance t w = All-nil (Brings E Any)
+  joins-bring used is_core_type t w = All-nil (Brings E Any)
+  joins-bring used is_core_item t w = All-nil (Brings E Any)
 
   -- an entry of a side, with what it brings
   pub enters-bring : (d : Side) (n : Extern_name) (b : Brought tree_reader) → E b.entity → AllBring E Any (enters d n b)
   enters-bring d n b w =
-      let last : Step tree_reader = joins tree_reader (sort b.entity) b.entity in
+      let last : Step tree_reader = joins tree_reader (same_side d exporting) (sort b.entity) b.entity in
       let named : Step tree_reader = creates d (tree_reader.creates b.entity) ∷ last in
       brings_more E Any (introduces d b.resources) (lists d n b.entity ∷ named) (λ k x l. tt)
-      (brings_more E Any (lists d n b.entity) named w (brings_more E Any (creates d (tree_reader.creates b.entity)) last tt (joins-bring (sort b.entity) b.entity w)))
+      (brings_more E Any (lists d n b.entity) named w (brings_more E Any (creates d (tree_reader.creates b.entity)) last tt (joins-bring (same_side d exporting) (sort b.entity) b.entity w)))
 
 -- ## What was listed stays so
 
@@ -155,6 +155,9 @@ in-change (interns gs) s r h = h
 in-change (charges zero n) s r h = h
 in-change (charges (suc k) n) s r h = h
 in-change (types_slots v) s r h = h
+in-change (marks_value b) s r h = h
+in-change (uses_value k) s r h = h
+in-change names_start s r h = h
 
 pub in-apply : (p : Step tree_reader) (s : Tree_stack) (r : Name) → In s.top r → In (apply p s).top r
 in-apply [] s r h = h

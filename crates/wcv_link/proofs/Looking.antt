@@ -75,7 +75,7 @@ module _ (P : Name → Type 0) (c : Tree_context) (h : AllEntries (Fine P) c) wh
   no-parts : FineParts P none
   no-parts = ((λ r x. absurd x), tt)
 
-  value-fine : (v : ComponentValType) (t : Type_tree) → value_entry c v ≡ Some t → Fine P t
+  pub value-fine : (v : ComponentValType) (t : Type_tree) → value_entry c v ≡ Some t → Fine P t
   value-fine (val.Primitive p) t e = subst (Fine P) (some-inj e) (node-within P (primitive p) none (λ r x. x) no-parts.0, ((tt, tt), tt))
   value-fine (val.Ty k) t e = sorted-fine is_value k t e
 

@@ -5,9 +5,9 @@ use Rattle.std.specs.Prelude.{All, slice_get}
 use Rattle.wcv_core.specs.Names.{Name}
 use Rattle.wcv_types.specs.Tree.{is_instance, is_module, sort}
 use Rattle.wcv_types.proofs.Lists.{some-inj}
-use Rattle.wcv_lower.specs.Context.{in_instances, core_types, core_modules, is_concrete, push, push_core, enlist, introduce, define, name_types, charge, type_slots}
+use Rattle.wcv_lower.specs.Context.{in_instances, core_types, core_modules, is_concrete, push, push_core, enlist, introduce, define, name_types, charge, type_slots, mark, name_start}
 use Rattle.wcv_lower.specs.Owned.{AllEntries}
-use Rattle.wcv_lower.specs.Step.{Change, appends, lists, introduces, defines, creates, core_appends, interns, charges, types_slots, Step, change, apply}
+use Rattle.wcv_lower.specs.Step.{Change, appends, lists, introduces, defines, creates, core_appends, interns, charges, types_slots, marks_value, uses_value, names_start, Step, use_value, change, apply}
 use Rattle.wcv_lower.specs.Trees.{Type_tree, Tree_context, Tree_stack, tree_reader}
 use Rattle.wcv_lower.proofs.Applied.{applied_has}
 use Rattle.wcv_lower.proofs.Bringing.{AllBring}
@@ -129,6 +129,9 @@ change-top (interns gs) s t e = e
 change-top (charges zero n) s t e = ap (λ (c : Tree_context). charge {X = tree_reader} n c) e
 change-top (charges (suc k) n) s t e = e
 change-top (types_slots v) s t e = ap (λ (c : Tree_context). type_slots {X = tree_reader} v c) e
+change-top (marks_value b) s t e = ap (λ (c : Tree_context). mark {X = tree_reader} b c) e
+change-top (uses_value k) s t e = ap (λ (c : Tree_context). use_value {X = tree_reader} k c) e
+change-top names_start s t e = ap (λ (c : Tree_context). name_start {X = tree_reader} c) e
 
 apply-top : (x : Step tree_reader) (s t : Tree_stack) → s.top ≡ t.top → (apply x s).top ≡ (apply x t).top
 apply-top [] s t e = e

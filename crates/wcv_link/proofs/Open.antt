@@ -1,12 +1,11 @@
 -- The states that are open, before and after an item in the innermost of them.
-use Rattle.std.proofs.Common.{◌≡◌, ℕ, ◌<◌, ◌-◌, List, [], ◌∷◌, ◌++◌, length, refl, sym, ◌∙◌, ap, subst, slice_set, slice_index_or, true, false, cond, ◌⊎◌, inl, inr}
+use Rattle.std.proofs.Common.{◌≡◌, ℕ, ◌<◌, ◌-◌, List, [], ◌∷◌, ◌++◌, length, refl, sym, ◌∙◌, ap, subst, slice_set, slice_index_or, true, false, ◌⊎◌, inl, inr}
 use Rattle.wcv_core.specs.Names.{Place}
 use Rattle.wcv_core.specs.Refusal.{error_kind, error_offset}
 use Rattle.wcv_core.specs.declared.error.Error.{Error}
 use Rattle.wcv_core.specs.declared.error.ErrorKind.{ErrorKind}
 use Rattle.wcv_core.specs.declared.error.ErrorKind.TheVariants as kind
 use Rattle.wcv_core.specs.declared.features.WasmFeatures.{WasmFeatures}
-use Rattle.wcv_syntax.specs.Built.{is_plain, is_built_type, is_built_alias}
 use Rattle.wcv_syntax.specs.Model.{Form, Type_form, type_item, alias_item}
 use Rattle.wcv_syntax.specs.declared.instance.ComponentAlias.{ComponentAlias}
 use Rattle.wcv_types.specs.Arena.{Arena}
@@ -16,7 +15,7 @@ use Rattle.wcv_lower.specs.Aliases.{alias_left}
 use Rattle.wcv_lower.specs.Checks.{IsFree}
 use Rattle.wcv_lower.specs.Declared.{declared_left}
 use Rattle.wcv_lower.specs.Given.{names_of}
-use Rattle.wcv_lower.specs.Growth.{left_checks, unbuilt}
+use Rattle.wcv_lower.specs.Growth.{left_checks}
 use Rattle.wcv_lower.specs.Names.{Under}
 use Rattle.wcv_lower.specs.Owned.{ItemRegular, IsCalm}
 use Rattle.wcv_lower.specs.Trees.{Tree_context, Tree_stack, tree_maker}
@@ -180,7 +179,7 @@ refuses_last a b ss k s e some i f offset x w =
 
 module _ (a b : Arena) (ss ss' : List Contents) (h : IsReady a ss) (keeps : KeepsOn a b ss ss') where
   -- an item that is read in one step was taken
-  module _ (f : Form) (one : OneStep f) (regular : (s : Contents) → ItemRegular (context_of a s) f) (built : is_plain f ≡ true) (left : (s : Contents) → IsFree (left_checks (context_of a s) f)) (grew : (p : Place) → GrewOn a b p ss ss' f) where
+  module _ (f : Form) (one : OneStep f) (regular : (s : Contents) → ItemRegular (context_of a s) f) (left : (s : Contents) → IsFree (left_checks (context_of a s) f)) (grew : (p : Place) → GrewOn a b p ss ss' f) where
     abbrev one_taken : (p : Place) → TakenOn a b p ss ss' f
     one_taken p =
         let g = grew p in
@@ -193,7 +192,7 @@ module _ (a b : Arena) (ss ss' : List Contents) (h : IsReady a ss) (keeps : Keep
           becomes = g.last.becomes;
           same = refl;
           grew = subst (λ (cs : List Tree_context). GrewAt a b (contexts_around a g.last.outer) cs g.last.old g.last.new f p) (sym g.around)
-              (grew_here a b g.last.old g.last.new f one (contexts_around a g.last.outer) p built (left g.last.old) g.grew);
+              (grew_here a b g.last.old g.last.new f one (contexts_around a g.last.outer) p (left g.last.old) g.grew);
           features = (last_kept a b ss ss' (ready_here a ss h) keeps g.last.outer g.last.outer g.last.old g.last.new g.last.was g.last.becomes refl).features;
         }
 
@@ -201,7 +200,7 @@ module _ (a b : Arena) (ss ss' : List Contents) (h : IsReady a ss) (keeps : Keep
     accepts_one = accepts_step a b ss ss' h keeps f one_taken (grew []).grew.live one (regular (grew []).last.old)
 
   -- an alias was
-  module _ (x : ComponentAlias) (built : is_built_alias x ≡ true) (left : IsFree (alias_left x)) (w : AliasedOn a b ss ss' x) where
+  module _ (x : ComponentAlias) (left : IsFree (alias_left x)) (w : AliasedOn a b ss ss' x) where
     abbrev alias_taken : (p : Place) → TakenOn a b p ss ss' (alias_item x)
     alias_taken p = record {
       outer = w.outer;
@@ -211,7 +210,7 @@ module _ (a b : Arena) (ss ss' : List Contents) (h : IsReady a ss) (keeps : Keep
       was = w.was;
       becomes = w.becomes;
       same = w.same;
-      grew = alias_grew a b ss ss' x p built left w;
+      grew = alias_grew a b ss ss' x p left w;
       features = (last_kept a b ss ss' (ready_here a ss h) keeps w.outer w.outer' w.old w.new w.was w.becomes w.same).features;
     }
 
@@ -219,7 +218,7 @@ module _ (a b : Arena) (ss ss' : List Contents) (h : IsReady a ss) (keeps : Keep
     accepts_alias = accepts_step a b ss ss' h keeps (alias_item x) alias_taken w.live (one_step (alias_item x) refl) tt
 
   -- a type was
-  module _ (t : Type_form) (built : is_built_type t ≡ true) (left : IsFree (declared_left t)) (declares : (p : Place) → DeclaresOn true a b p ss ss' t) where
+  module _ (t : Type_form) (left : IsFree (declared_left t)) (declares : (p : Place) → DeclaresOn true a b p ss ss' t) where
     abbrev type_taken : (p : Place) → TakenOn a b p ss ss' (type_item t)
     type_taken p =
         let g = declares p in
@@ -231,7 +230,7 @@ module _ (a b : Arena) (ss ss' : List Contents) (h : IsReady a ss) (keeps : Keep
           was = g.was;
           becomes = g.becomes;
           same = g.same;
-          grew = type_grew a b (contexts_around a g.outer) p g.old t (contexts_around b g.outer') g.new built left g.declared;
+          grew = type_grew a b (contexts_around a g.outer) p g.old t (contexts_around b g.outer') g.new left g.declared;
           features = (last_kept a b ss ss' (ready_here a ss h) keeps g.outer g.outer' g.old g.new g.was g.becomes g.same).features;
         }
 
@@ -261,7 +260,7 @@ module _ {M : Type 0} (a : Arena) (ss : List Contents) (offset : ℕ) (x : Error
   refuses_left f w = refuses_so a a ss f offset x (extends_refl a) (λ p. (w (innermost ss)).refused (contexts_around a (around ss)) p)
 
   -- so of a type
-  pub refuses_type_left : (t : Type_form) → MemoryOrCausedBy (cond (is_built_type t) (declared_left t) unbuilt) offset x → RefusesItem a a ss (type_item t) offset x
+  pub refuses_type_left : (t : Type_form) → MemoryOrCausedBy (declared_left t) offset x → RefusesItem a a ss (type_item t) offset x
   refuses_type_left t w = refuses_so a a ss (type_item t) offset x (extends_refl a) (λ p. type_left_caused a a (contexts_around a (around ss)) p (innermost ss) t offset x w)
 
 -- ## Messages

@@ -1,9 +1,8 @@
 -- On each side of a context names differ still behind an item that has no cause: it lists one entry at most, and under a name that is new
 -- there. So do the names of the entries that an instance lists.
-use Rattle.std.proofs.Common.{◌≡◌, ℕ, zero, suc, List, [], ◌∷◌, ◌++◌, Bool, true, false, cond, ◌&&◌, bytes_eq, refl, sym, ◌∙◌, ap, subst, Option, Some, None, ◌⊎◌, inl, inr}
-use Rattle.std.specs.List.{list_any}
-use Rattle.std.specs.Option.{option_and_then}
-use Rattle.std.proofs.lemmas.Bool.{false≢true}
+use Rattle.std.proofs.Common.{◌≡◌, ℕ, zero, suc, List, [], ◌∷◌, ◌++◌, Bool, true, false, cond, ◌&&◌, not, bytes_eq, refl, sym, ◌∙◌, ap, subst, Option, Some, None, ◌⊎◌, inl, inr}
+use Rattle.std.specs.List.{list_all, list_any}
+use Rattle.std.specs.Option.{option_map, option_and_then}
 use Rattle.std.proofs.lemmas.List.{append_assoc, append-nil}
 use Rattle.wcv_core.specs.Checks.{all_checks}
 use Rattle.wcv_core.specs.CoreForm.{Group}
@@ -12,7 +11,6 @@ use Rattle.wcv_core.specs.CoreWritten.{closed_group}
 use Rattle.wcv_core.specs.Names.{Name, Place, deeper}
 use Rattle.wcv_core.specs.declared.features.WasmFeatures.{WasmFeatures}
 use Rattle.wcv_core.proofs.Causes.{free_left, free_right}
-use Rattle.wcv_syntax.specs.Built.{is_built_type, is_plain}
 use Rattle.wcv_syntax.specs.Model.{Form, core_type_item, core_module_item, core_instance_item, type_item, import_item, export_item, component_item, instance_item, alias_item, start_item, canon_item, Type_form, defined_type, func_type, component_type, instance_type, resource_type, Core_type_form, core_rec, core_module_type, instantiate, bag, Decl, core_type_decl, type_decl, alias_decl, export_decl, import_decl, Decls, no_decls, declare, Items, no_items, next_item}
 use Rattle.wcv_syntax.specs.declared.component_type.ComponentTypeRef.{ComponentTypeRef}
 use Rattle.wcv_syntax.specs.declared.instance.ComponentAlias.{ComponentAlias}
@@ -26,26 +24,32 @@ use Rattle.wcv_types.proofs.Lists.{some-inj}
 use Rattle.wcv_names.specs.Externs.{entry_names}
 use Rattle.wcv_matching.specs.Matching.{named}
 use Rattle.wcv_lower.specs.Aliases.{sort_named, instance_at, export_of, joining, outer_at, outer_joins, is_charged, concrete_at, charged, alias_step}
-use Rattle.wcv_lower.specs.Checks.{Checks, IsFree, full_side, if_found, no_room, no_type_room, bad_entity}
-use Rattle.wcv_lower.specs.Context.{Kind, concrete, declares_instance, declares_component, core_types, core_modules, Side, importing, exporting, is_concrete, counts, push, push_core, enlist, introduce, define, name_types, charge, type_slots}
+use Rattle.wcv_lower.specs.Checks.{Checks, IsFree, is_none, full_side, if_found, no_room, no_type_room, bad_entity}
+use Rattle.wcv_lower.specs.Context.{Kind, concrete, declares_instance, declares_component, core_types, core_modules, Side, importing, exporting, same_side, is_concrete, counts, push, push_core, enlist, introduce, define, name_types, charge, type_slots, mark, name_start}
 use Rattle.wcv_lower.specs.CoreInstances.{core_instance_made, core_export_of, core_instance_at, if_of, item_joins}
 use Rattle.wcv_lower.specs.CoreInstances as core
 use Rattle.wcv_lower.specs.CoreItems.{core_entries, is_closable, types_join, closed_step, module_joins, core_type_made, core_module_made, core_type_step}
 use Rattle.wcv_lower.specs.Declared.{Makers, inside, closed_as, ended, full_stack, applied, declared_export_step, declared_export_checks, read_type, read_decl, read_decls, on_read, declared_checks, declared_left, decl_checks, decls_checks}
+use Rattle.wcv_lower.specs.Ending.{declared_end_checks}
 use Rattle.wcv_lower.specs.EntryNames.{resource_names, name_checks, bare_name_checks}
-use Rattle.wcv_lower.specs.Entries.{extern_name, written, written_checks, exported, exported_checks, unnamed, entity_checks, entry_checks}
-use Rattle.wcv_lower.specs.Growth.{step, grow, form_checks, left_checks, unbuilt}
-use Rattle.wcv_lower.specs.Instances.{listed, listed_checks, names_checks, size_checks, instance_made, instance_joins}
+use Rattle.wcv_lower.specs.Canons.{func_at}
+use Rattle.wcv_lower.specs.Entries.{extern_name, written, written_checks, exported, exported_values, exported_checks, unnamed, lent, entity_checks, entry_checks}
+use Rattle.wcv_lower.specs.Growth.{step, grow, call_checks, left_checks}
+use Rattle.wcv_lower.specs.Instances.{listed, listed_values, listed_checks, names_checks, size_checks, made_checks, instance_made, instance_joins, instance_values}
 use Rattle.wcv_lower.specs.Items.{read_item, read_items, item_causes}
+use Rattle.wcv_lower.specs.Marks.{value_at, uses_each, use_checks}
 use Rattle.wcv_lower.specs.Names.{Names}
 use Rattle.wcv_lower.specs.Readers.{New_node, if_sort, weight}
-use Rattle.wcv_lower.specs.Step.{Change, appends, lists, introduces, defines, creates, core_appends, interns, charges, types_slots, Step, on_top, on_outer, change, apply, Brought, joins, enters, joins_types}
-use Rattle.wcv_lower.specs.Trees.{Type_tree, Entries, Tree_context, Tree_stack, tree_reader, tree_maker}
+use Rattle.wcv_lower.specs.Start.{result_joins, start_joins, start_step}
+use Rattle.wcv_lower.specs.Step.{Change, appends, lists, introduces, defines, creates, core_appends, interns, charges, types_slots, marks_value, uses_value, names_start, Step, on_top, on_outer, use_value, change, apply, Brought, joins, enters, joins_types}
+use Rattle.wcv_lower.specs.Trees.{Type_tree, Entries, Tree_context, Tree_stack, tree_reader, tree_maker, result}
 use Rattle.wcv_lower.specs.Types.{type_made, added, type_step}
 use Rattle.wcv_lower.proofs.Applied.{change_at_cases}
 use Rattle.wcv_state.proofs.NamesApart.{new_name}
 use Rattle.wcv_link.proofs.CanonGrowing.{canon-holds}
+use Rattle.wcv_link.proofs.CoreGrowing.{if-some}
 use Rattle.wcv_link.proofs.Known.{mapped-some, then-some}
+use Rattle.wcv_link.proofs.Marked.{uses-marked}
 use Rattle.wcv_link.proofs.Outer.{ends}
 use Rattle.wcv_link.proofs.ValidRead.{valid_reads}
 use Rattle.wcv_link.specs.Valid.{ValidFrom, ValidItem}
@@ -109,10 +113,23 @@ change-differ (core_appends k t) s q h = top-differ (push_core k t) s h (h zero 
 change-differ (interns gs) s q h = h
 change-differ (charges k n) s q h = outer-differ k n s h
 change-differ (types_slots v) s q h = top-differ (type_slots v) s h (h zero s.top refl)
+change-differ (marks_value b) s q h = top-differ (mark b) s h (h zero s.top refl)
+change-differ (uses_value k) s q h = top-differ (use_value k) s h (h zero s.top refl)
+change-differ names_start s q h = top-differ name_start s h (h zero s.top refl)
 
 pub quiet-differ : (p : Step tree_reader) (s : Tree_stack) → AllQuiet p → AllSidesDiffer s → AllSidesDiffer (apply p s)
 quiet-differ [] s q h = h
 quiet-differ (x ∷ p) s q h = quiet-differ p (change x s) q.1 (change-differ x s q.0 h)
+
+-- uses of values list none, and what is behind them lists what it does without them
+uses-quiet : (ks : List ℕ) (p : Step tree_reader) → AllQuiet p → AllQuiet (uses_each ks ++ p)
+uses-quiet [] p w = w
+uses-quiet (k ∷ ks) p w = (tt, uses-quiet ks p w)
+
+uses-differ : (ks : List ℕ) (p : Step tree_reader) (s : Tree_stack) → AllSidesDiffer (apply p s) → AllSidesDiffer (apply (uses_each ks ++ p) s)
+uses-differ ks p s h =
+    let m = uses-marked ks p s in
+    subst AllSidesDiffer (sym m.1) (top-differ (λ (c : Tree_context). record c { used = m.0 }) (apply p s) h (h zero (apply p s).top refl))
 
 -- ## An entry of a side
 
@@ -122,25 +139,26 @@ enlisted-differ importing n t c new h exporting = h exporting
 enlisted-differ exporting n t c new h importing = h importing
 enlisted-differ exporting n t c new h exporting = differ-joined (c.side exporting) (n, t) (h exporting) new
 
-joins-quiet : (o : Sort) (t : Type_tree) → AllQuiet (joins tree_reader o t)
-joins-quiet is_func t = (tt, tt)
-joins-quiet is_value t = (tt, tt)
-joins-quiet is_instance t = (tt, tt)
-joins-quiet is_component t = (tt, tt)
-joins-quiet is_type t = (tt, tt)
-joins-quiet is_module t = (tt, tt)
-joins-quiet is_resource t = tt
-joins-quiet is_nothing t = tt
-joins-quiet is_core_instance t = tt
-joins-quiet is_core_type t = tt
-joins-quiet is_core_item t = tt
+joins-quiet : (used : Bool) (o : Sort) (t : Type_tree) → AllQuiet (joins tree_reader used o t)
+joins-quiet used is_func t = (tt, tt)
+joins-quiet used is_value t = (tt, (tt, tt))
+joins-quiet used is_instance t = (tt, tt)
+joins-quiet used is_component t = (tt, tt)
+joins-quiet used is_type t = (tt, tt)
+joins-quiet used is_module t = (tt, tt)
+joins-quiet used is_resource t = tt
+joins-quiet used is_nothing t = tt
+joins-quiet used is_core_instance t = tt
+joins-quiet used is_core_type t = tt
+joins-quiet used is_core_item t = tt
 
 enters-differ : (d : Side) (n : Extern_name) (b : Brought tree_reader) (s : Tree_stack) → list_any (bytes_eq n.name) (entry_names (s.top.side d)) ≡ false → AllSidesDiffer s → AllSidesDiffer (apply (enters d n b) s)
 enters-differ d n b s new h =
     let u : Tree_stack = change (introduces d b.resources) s in
     let v : AllSidesDiffer u = change-differ (introduces d b.resources) s tt h in
     let still : list_any (bytes_eq n.name) (entry_names (u.top.side d)) ≡ false = ap (λ (es : Entries). list_any (bytes_eq n.name) (entry_names es)) (introduced-side d d b.resources s.top) ∙ new in
-    quiet-differ (creates d (tree_reader.creates b.entity) ∷ joins tree_reader (sort b.entity) b.entity) (change (lists d n b.entity) u) (tt, joins-quiet (sort b.entity) b.entity)
+    let last : Step tree_reader = joins tree_reader (same_side d exporting) (sort b.entity) b.entity in
+    quiet-differ (creates d (tree_reader.creates b.entity) ∷ last) (change (lists d n b.entity) u) (tt, joins-quiet (same_side d exporting) (sort b.entity) b.entity)
     (top-differ (enlist d n b.entity) u v (enlisted-differ d n b.entity u.top still (v zero u.top refl)))
 
 -- what has no cause has a new name
@@ -149,7 +167,7 @@ entry-new : (fs : WasmFeatures) (d : Side) (n : Extern_name) (c : Tree_context) 
 entry-new fs d n c looked None b e free = absurd (cc)
 entry-new fs d n c looked (Some x) b e free =
     let all : Checks = entity_checks fs d n c x.entity in
-    let more : Checks = bad_entity (counts c) (weight tree_reader x.entity) ++ unnamed tree_reader c.kind c.named d x.entity in
+    let more : Checks = bad_entity (counts c) (weight tree_reader x.entity) ++ (unnamed tree_reader c.kind c.named d x.entity ++ lent tree_reader d x.entity) in
     let own : IsFree all = free_right looked all (free_right (full_side true d (counts c)) (looked ++ all) free) in
     new_name (resource_names (c.side d)) fs (c.side d) n x.entity (free_left (name_checks fs (c.side d) n x.entity) more own)
 
@@ -177,13 +195,22 @@ module _ (s : Tree_stack) where
   alias-quiet : (a : ComponentAlias) (x : Step tree_reader) → alias_step s a ≡ Some x → AllQuiet x
   alias-quiet (alias.InstanceExport w i n) x e =
       let m = mapped-some joining (option_and_then (if_sort tree_reader (sort_named w)) (option_and_then (export_of tree_reader n) (instance_at s.top i))) x e in
-      subst AllQuiet m.2 (joins-quiet (sort m.0) m.0)
+      subst AllQuiet m.2 (joins-quiet false (sort m.0) m.0)
   alias-quiet (alias.CoreInstanceExport k i n) x e =
       let m = mapped-some (item_joins tree_reader k) (option_and_then (if_of k) (option_and_then (core_export_of tree_reader n) (core_instance_at s.top i))) x e in
       subst AllQuiet m.2 (tt, tt)
   alias-quiet (alias.Outer w n i) x e =
       let m = mapped-some (λ (t : Type_tree). charged s w n t ++ outer_joins w t) (outer_at s w n i) x e in
       subst AllQuiet m.2 (both-quiet (charged s w n m.0) (outer_joins w m.0) (charged-quiet w n m.0) (outer-quiet w m.0))
+
+  result-quiet : (o : Option Type_tree) → AllQuiet (names_start ∷ result_joins o)
+  result-quiet None = (tt, tt)
+  result-quiet (Some x) = (tt, (tt, (tt, tt)))
+
+  start-quiet : (f : ℕ) (args : List ℕ) (x : Step tree_reader) → start_step s.top f args ≡ Some x → AllQuiet x
+  start-quiet f args x e =
+      let m = mapped-some (start_joins args) (func_at s.top f) x (if-some (list_all (λ (k : ℕ). not (is_none (value_at s.top k))) args) (option_map (start_joins args) (func_at s.top f)) x e) in
+      subst AllQuiet m.2 (uses-quiet args (names_start ∷ result_joins (result m.0)) (result-quiet (result m.0)))
 
   module _ (fs : WasmFeatures) (names : Names) (p : Place) where
     type-quiet : (t : Type_form) (x : Step tree_reader) → type_step (tree_maker names p) s.top t ≡ Some x → AllQuiet x
@@ -216,16 +243,18 @@ module _ (s : Tree_stack) where
 
     -- ## Items
 
-    step-differ : (f : Form) (x : Step tree_reader) → IsFree (form_checks fs (tree_maker names p) s f) → step fs (tree_maker names p) s f ≡ Some x → AllSidesDiffer s → AllSidesDiffer (apply x s)
+    step-differ : (f : Form) (x : Step tree_reader) → IsFree (call_checks fs (tree_maker names p) s f) → step fs (tree_maker names p) s f ≡ Some x → AllSidesDiffer s → AllSidesDiffer (apply x s)
     step-differ (type_item t) x free e h = quiet-differ x s (type-quiet t x e) h
     step-differ (import_item i) x free e h =
         let m = mapped-some (enters importing (extern_name i.name)) (written (tree_maker names p) s.top i.ty) x e in
-        let new = entry-new fs importing (extern_name i.name) s.top (written_checks s.top i.ty) (written (tree_maker names p) s.top i.ty) m.0 m.1 free in
+        let new = entry-new fs importing (extern_name i.name) s.top (written_checks fs s.top i.ty) (written (tree_maker names p) s.top i.ty) m.0 m.1 free in
         subst (λ (y : Step tree_reader). AllSidesDiffer (apply y s)) m.2 (enters-differ importing (extern_name i.name) m.0 s new h)
     step-differ (export_item i) x free e h =
-        let m = mapped-some (enters exporting (extern_name i.name)) (exported (tree_maker names p) s.top i) x e in
-        let new = entry-new fs exporting (extern_name i.name) s.top (exported_checks s.groups (tree_maker names p) s.top i) (exported (tree_maker names p) s.top i) m.0 m.1 free in
-        subst (λ (y : Step tree_reader). AllSidesDiffer (apply y s)) m.2 (enters-differ exporting (extern_name i.name) m.0 s new h)
+        let u = mapped-some (λ (z : Step tree_reader). uses_each (exported_values i) ++ z) (option_map (enters exporting (extern_name i.name)) (exported (tree_maker names p) s.top i)) x e in
+        let m = mapped-some (enters exporting (extern_name i.name)) (exported (tree_maker names p) s.top i) u.0 u.1 in
+        let new = entry-new fs exporting (extern_name i.name) s.top (exported_checks fs s.groups (tree_maker names p) s.top i) (exported (tree_maker names p) s.top i) m.0 m.1 free in
+        let v : AllSidesDiffer (apply u.0 s) = subst (λ (y : Step tree_reader). AllSidesDiffer (apply y s)) m.2 (enters-differ exporting (extern_name i.name) m.0 s new h) in
+        subst (λ (y : Step tree_reader). AllSidesDiffer (apply y s)) u.2 (uses-differ (exported_values i) u.0 s v)
     step-differ (core_type_item t) x free e h = quiet-differ x s (core_type-quiet t x e) h
     step-differ (core_module_item ds) x free e h =
         let m = mapped-some (module_joins (tree_maker names p) core_modules) (core_module_made fs s ds) x e in
@@ -235,13 +264,14 @@ module _ (s : Tree_stack) where
         quiet-differ x s (subst AllQuiet m.2 (tt, tt)) h
     step-differ (component_item is end) x free e h = cc
     step-differ (instance_item i) x free e h =
-        let m = mapped-some instance_joins (instance_made (tree_maker names p) s i) x e in
-        quiet-differ x s (subst AllQuiet m.2 (tt, (tt, tt))) h
+        let u = mapped-some (λ (z : Step tree_reader). uses_each (instance_values i) ++ z) (option_map instance_joins (instance_made (tree_maker names p) s i)) x e in
+        let m = mapped-some instance_joins (instance_made (tree_maker names p) s i) u.0 u.1 in
+        quiet-differ x s (subst AllQuiet u.2 (uses-quiet (instance_values i) u.0 (subst AllQuiet m.2 (tt, (tt, tt))))) h
     step-differ (alias_item a) x free e h = quiet-differ x s (alias-quiet a x e) h
-    step-differ (start_item k args results) x free e h = cc
+    step-differ (start_item k args n) x free e h = quiet-differ x s (start-quiet k args x e) h
     step-differ (canon_item f) x free e h = quiet-differ x s (canon-holds s AllQuiet (λ v y w. (tt, w)) (λ g. (tt, (tt, tt))) (λ k t q. (tt, tt)) f x e) h
 
-    grow-differ : (f : Form) (u : Tree_stack) → IsFree (form_checks fs (tree_maker names p) s f) → grow fs (tree_maker names p) s f ≡ Some u → AllSidesDiffer s → AllSidesDiffer u
+    grow-differ : (f : Form) (u : Tree_stack) → IsFree (call_checks fs (tree_maker names p) s f) → grow fs (tree_maker names p) s f ≡ Some u → AllSidesDiffer s → AllSidesDiffer u
     grow-differ f u free e h =
         let m = mapped-some (λ (x : Step tree_reader). apply x s) (step fs (tree_maker names p) s f) u e in
         subst AllSidesDiffer m.2 (step-differ f m.0 free m.1 h)
@@ -251,15 +281,16 @@ module _ (s : Tree_stack) where
     declared-differ n r u free e h =
         let m = mapped-some (λ (x : Step tree_reader). apply x s) (declared_export_step (tree_maker names p) s.top n r) u e in
         let v = mapped-some (enters exporting (extern_name n)) (written (tree_maker names p) s.top r) m.0 m.1 in
-        let new = entry-new fs exporting (extern_name n) s.top (written_checks s.top r) (written (tree_maker names p) s.top r) v.0 v.1 free in
+        let new = entry-new fs exporting (extern_name n) s.top (written_checks fs s.top r) (written (tree_maker names p) s.top r) v.0 v.1 free in
         subst AllSidesDiffer (ap (λ (x : Step tree_reader). apply x s) v.2 ∙ m.2) (enters-differ exporting (extern_name n) v.0 s new h)
 
     -- what an item lists in an instance
-    pub item-named : (f : Form) → IsFree (form_checks fs (tree_maker names p) s f) → ItemNamed s.top f
+    pub item-named : (f : Form) → IsFree (call_checks fs (tree_maker names p) s f) → ItemNamed s.top f
     item-named (instance_item (bag es)) free =
         let xs : Entries = listed s.top es in
         let made : Checks = if_found size_checks (instance_made (tree_maker names p) s (bag es)) ++ no_room (counts s.top) is_instance in
-        names-listed fs [] xs no-names (free_left (names_checks tree_reader fs [] xs) made (free_right (all_checks (listed_checks s.top) es) (names_checks tree_reader fs [] xs ++ made) free))
+        let own : IsFree (made_checks fs (tree_maker names p) s (bag es)) = free_right (use_checks s.top (listed_values es)) (made_checks fs (tree_maker names p) s (bag es)) free in
+        names-listed fs [] xs no-names (free_left (names_checks tree_reader fs [] xs) made (free_right (all_checks (listed_checks fs s.top) es) (names_checks tree_reader fs [] xs ++ made) own))
     item-named (instance_item (instantiate i args)) free = tt
     item-named f free = tt
 
@@ -287,6 +318,13 @@ module _ (fs : WasmFeatures) (names : Names) where
       let own : Checks = decl_checks fs mk (deeper p n) s d in
       let later : Checks = on_read rest (read_decl fs mk (deeper p n) s d) in
       (free_left own later free, subst (λ (o : Option Tree_stack). IsFree (on_read rest o)) e (free_right own later free))
+
+  -- nor has the end
+  pub decls-end : (k : Kind) (p : Place) (n : ℕ) (s u : Tree_stack) (ds : Decls) → IsFree (decls_checks fs mk p n k s ds) → read_decls fs mk p n s ds ≡ Some u → IsFree (declared_end_checks k u.top)
+  decls-end k p n s u no_decls free e = subst (λ (t : Tree_stack). IsFree (declared_end_checks k t.top)) (some-inj e) free
+  decls-end k p n s u (declare d ds) free e =
+      let m = then-some (λ (t : Tree_stack). read_decls fs mk p (suc n) t ds) (read_decl fs mk (deeper p n) s d) u e in
+      decls-end k p (suc n) m.0 u ds (decls-free k p n s m.0 d ds m.1 free).1 m.2
 
   -- and the declarations of a type have none that has none
   pub type-free : (k : Kind) (p : Place) (s : Tree_stack) (ds : Decls) → IsFree (full_stack s ++ (decls_checks fs mk p 0 k (inside k s) ds ++ no_type_room true (counts s.top))) → IsFree (decls_checks fs mk p 0 k (inside k s) ds)
@@ -327,18 +365,11 @@ module _ (fs : WasmFeatures) (names : Names) where
 
   -- ## Items
 
-  -- what has no cause is of a form that is built, and has none that such forms have
-  free-cond : (b : Bool) (cs : Checks) → IsFree (cond b cs unbuilt) → IsFree cs
-  free-cond true cs free = free
-  free-cond false cs free = absurd (false≢true (sym free.0))
-
   pub type_item-free : (p : Place) (s : Tree_stack) (t : Type_form) → IsFree (item_causes fs mk p s (type_item t)) → IsFree (declared_checks true fs mk p s t)
-  type_item-free p s t free =
-      let all : Checks = declared_checks true fs mk p s t in
-      free_left all (declared_left t) (free-cond (is_built_type t) (all ++ declared_left t) free)
+  type_item-free p s t free = free_left (declared_checks true fs mk p s t) (declared_left t) free
 
-  pub plain-free : (p : Place) (s : Tree_stack) (f : Form) → IsFree (cond (is_plain f) (form_checks fs (mk p) s f ++ left_checks s.top f) unbuilt) → IsFree (form_checks fs (mk p) s f)
-  plain-free p s f free = free_left (form_checks fs (mk p) s f) (left_checks s.top f) (free-cond (is_plain f) (form_checks fs (mk p) s f ++ left_checks s.top f) free)
+  pub plain-free : (p : Place) (s : Tree_stack) (f : Form) → IsFree (call_checks fs (mk p) s f ++ left_checks s.top f) → IsFree (call_checks fs (mk p) s f)
+  plain-free p s f free = free_left (call_checks fs (mk p) s f) (left_checks s.top f) free
 
   mutual
     pub item-differ : (p : Place) (s u : Tree_stack) (f : Form) → ValidItem fs names p s f → read_item fs mk p s f ≡ Some u → AllSidesDiffer s → AllSidesDiffer u

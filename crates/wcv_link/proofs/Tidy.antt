@@ -18,7 +18,7 @@ use Rattle.wcv_lower.proofs.Applied.{applied_has}
 use Rattle.wcv_lower.proofs.Bringing.{AllBring}
 use Rattle.wcv_lower.proofs.EvenTypes.{each_weaker}
 use Rattle.wcv_link.proofs.Alike.{IsAlike}
-use Rattle.wcv_link.proofs.Bare.{OwnsNothing, EntriesOwnNothing, IsBare, AreBare}
+use Rattle.wcv_link.proofs.Bare.{OwnsNothing, EntriesOwnNothing, ValuesOwnNothing, IsBare, AreBare}
 use Rattle.wcv_link.proofs.Known.{Any, entries-weaker}
 use Rattle.wcv_link.proofs.Placed.{PlacedAt, PlacedUnder, PlacedBefore, placed_here, later, by_this_item, in_list, not_yet, not_in_list}
 use Rattle.wcv_link.proofs.SideNames.{AllSidesDiffer}
@@ -44,6 +44,7 @@ pub record IsTidy (g : Known) (h : Head Name Name) (ps : Parts Name Name) : Type
   pub alike : IsAlike h ps
   -- instances that are entries own nothing
   pub bare : EntriesOwnNothing ps
+  pub values : ValuesOwnNothing h ps
   pub apart : HeadApart h
   pub plain : IsPlain h ps
   -- it is formed, but for the heights in a type entity
@@ -94,7 +95,7 @@ knows-both p g f e v w = record { more = λ i t q. w.more i t (v.more i t q); la
 
 -- a tidy node is tidy where it is known
 pub tidy-known : (g f : Known) (h : Head Name Name) (ps : Parts Name Name) → IsTidy g h ps → ((i : Name) → g i ≡ Some (node h ps) → f i ≡ Some (node h ps)) → IsTidy f h ps
-tidy-known g f h ps x m = record { alike = x.alike; bare = x.bare; apart = x.apart; plain = x.plain; formed = x.formed; named = x.named; one = λ i e. m i (x.one i e) }
+tidy-known g f h ps x m = record { alike = x.alike; bare = x.bare; values = x.values; apart = x.apart; plain = x.plain; formed = x.formed; named = x.named; one = λ i e. m i (x.one i e) }
 
 pub tidy-more : (g f : Known) → KnownMore g f → (t : Type_tree) → TidyType g t → TidyType f t
 tidy-more g f m t w = each_weaker (IsTidy g) (IsTidy f) (λ h ps x. tidy-known g f h ps x (λ i e. m i (node h ps) e)) t w

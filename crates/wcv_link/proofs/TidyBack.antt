@@ -7,7 +7,7 @@ use Rattle.wcv_core.specs.Names.{Name, member}
 use Rattle.wcv_types.specs.Identity.{rename_identity}
 use Rattle.wcv_types.specs.Rename.{rename_head, rename, rename_parts, rename_paths}
 use Rattle.wcv_types.specs.Resources.{Free}
-use Rattle.wcv_types.specs.Tree.{Text, Extern_name, Head, here, label, import, export, core_import, core_export, nothing, resource, instance, component, type_entity, core_module, core_item, node, Parts, none, part, owned_at, owned, firsts}
+use Rattle.wcv_types.specs.Tree.{Text, Extern_name, Head, here, label, import, export, core_import, core_export, nothing, resource, func, instance, component, type_entity, core_module, core_item, node, Parts, none, part, owned_at, owned, firsts}
 use Rattle.wcv_types.specs.Unfold.{Type_tree}
 use Rattle.wcv_types.proofs.All.{all-mapped_back}
 use Rattle.wcv_types.proofs.FreeRenamed.{free-renamed}
@@ -25,7 +25,7 @@ use Rattle.wcv_lower.specs.Trees.{Tree_context}
 use Rattle.wcv_lower.proofs.Renamed.{member-renamed}
 use Rattle.wcv_lower.proofs.TreeLaws.{sort-renamed}
 use Rattle.wcv_link.proofs.Alike.{SameKind, IsAlike}
-use Rattle.wcv_link.proofs.Bare.{OwnsNothing, EntriesOwnNothing}
+use Rattle.wcv_link.proofs.Bare.{OwnsNothing, EntriesOwnNothing, PartsOwnNothing, ValuesOwnNothing}
 use Rattle.wcv_link.proofs.Known.{Within, In, in-renamed_back}
 use Rattle.wcv_link.proofs.Tidy.{Known, HeadApart, IsPlain, IsTidy, TidyType, TidyEntry}
 
@@ -92,6 +92,14 @@ module _ (w : Renaming) where
   bare-renamed_back (part (label l) t ps) b = bare-renamed_back ps b
   bare-renamed_back (part (core_import m n) t ps) b = bare-renamed_back ps b
   bare-renamed_back (part (core_export n) t ps) b = bare-renamed_back ps b
+
+  parts-renamed_back : (ps : Parts Name Name) → PartsOwnNothing (rename_parts f g ps) → PartsOwnNothing ps
+  parts-renamed_back none b = tt
+  parts-renamed_back (part k t ps) b = (nothing-renamed_back t b.0, parts-renamed_back ps b.1)
+
+  values-renamed_back : (h : Head Name Name) (ps : Parts Name Name) → ValuesOwnNothing (rename_head f g h) (rename_parts f g ps) → ValuesOwnNothing h ps
+  values-renamed_back (func i b) ps v = parts-renamed_back ps v
+  values-renamed_back _ ps v = tt
 
   member_firsts : (rs : List (Name × List ℕ)) (r : Name) → member (f r) (firsts (rename_paths f rs)) ≡ member r (firsts rs)
   member_firsts [] r = refl
@@ -174,6 +182,7 @@ module _ (w : Renaming) where
     node-renamed_back h ps a = record {
       alike = alike-renamed_back h ps a.alike;
       bare = bare-renamed_back ps a.bare;
+      values = values-renamed_back h ps a.values;
       apart = apart-renamed_back h a.apart;
       plain = plain-renamed_back h ps a.plain;
       formed = formed-renamed_back h ps a.formed;

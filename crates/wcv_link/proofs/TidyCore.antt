@@ -88,7 +88,7 @@ module _ (p : Place) (s : Tree_stack) (g : Known) (y : AllEntries (TidyEntry g) 
       joins m =
           let t : Type_tree = module_tree (base p) m.1 in
           let f : Known = with_node p g t in
-          let w : TidyType f t = node-tidy p g unknown (core_module (base p) (capped m.1.size)) (core_imports m.1.imports (core_exports m.1.exports none)) refl tt (items-alone m.1.imports m.1.exports)
+          let w : TidyType f t = node-tidy p g unknown (core_module (base p) (capped m.1.size)) (core_imports m.1.imports (core_exports m.1.exports none)) refl tt (items-alone m.1.imports m.1.exports) tt
           (inner-named (core_imports m.1.imports (core_exports m.1.exports none)) (imports-inner m.1.imports m.1.exports)) (imports-tidy g m.1.imports m.1.exports) in
           record {
             known = f;
@@ -127,14 +127,14 @@ module _ (p : Place) (s : Tree_stack) (g : Known) (y : AllEntries (TidyEntry g) 
       let t = mapped-some core_instance_node (core_module_at s.top i) m.0 o in
       let w : TidyEntry g t.0 = all-get (TidyEntry g) (s.top.core core_modules) i t.0 (y.core core_modules) t.1 in
       subst (BringsTidy p g) m.2
-      (subst Joins t.2 (instance-joins (core_instance_node t.0) refl (node-tidy p g unknown (core_instance (base p) (capped (suc (size t.0)))) (part here t.0 none) refl tt tt (no-names, no-names) (one-more g here t.0 none w (tt, tt)))))
+      (subst Joins t.2 (instance-joins (core_instance_node t.0) refl (node-tidy p g unknown (core_instance (base p) (capped (suc (size t.0)))) (part here t.0 none) refl tt tt tt (no-names, no-names) (one-more g here t.0 none w (tt, tt)))))
   core_instance-tidy (core_bag es) x e =
       let m = mapped-some joins_as (core_instance_made s (core_bag es)) x e in
       let k : ℕ = listed_size s.groups (items_listed s.top es) in
       let n : New_node tree_reader = core_exports_node k (items_listed s.top es) in
       let o = if-some (list_all (λ (e : Export). not (is_none (item_listed s.top e))) es) (Some n) m.0 m.1 in
       subst (BringsTidy p g) m.2
-      (subst Joins (some-inj o) (instance-joins n refl (node-tidy p g unknown (core_instance (base p) (capped k)) (core_exports (items_listed s.top es) none) refl tt tt (inner-named (core_exports (items_listed s.top es) none) (exports-inner (items_listed s.top es))) (exports-tidy g (items_listed s.top es)))))
+      (subst Joins (some-inj o) (instance-joins n refl (node-tidy p g unknown (core_instance (base p) (capped k)) (core_exports (items_listed s.top es) none) refl tt tt tt (inner-named (core_exports (items_listed s.top es) none) (exports-inner (items_listed s.top es))) (exports-tidy g (items_listed s.top es)))))
 
   -- ## Aliases
 

@@ -19,13 +19,13 @@ use Rattle.wcv_lower.specs.NewTypes.{new_reference}
 use Rattle.wcv_lower.specs.Owned.{AllEntries}
 use Rattle.wcv_lower.specs.Step.{enters, Brought, bare}
 use Rattle.wcv_lower.specs.Trees.{Type_tree, type_entry, referenced, Tree_context, tree_reader, tree_maker}
-use Rattle.wcv_lower.specs.Values.{type_at, type_of_sort}
+use Rattle.wcv_lower.specs.Values.{type_at, type_of_sort, value_entry}
 use Rattle.wcv_link.proofs.Bare.{bare-instance}
 use Rattle.wcv_link.proofs.Known.{mapped-some, then-some, all-get, enters-bring}
 use Rattle.wcv_link.proofs.Looking.{sorted-here}
 use Rattle.wcv_link.proofs.Tidy.{Known, TidyEntry, NoneKnown, none-at, BringsTidy, entry-bare}
 use Rattle.wcv_link.proofs.TidyInstances.{instance_of-tidy}
-use Rattle.wcv_link.proofs.TidyTypes.{TidyThere, tidy-before, created-tidy, reference-tidy, referenced-tidy, type-tidy, sorted-tidy, plain-tidy, module-tidy, again-tidy}
+use Rattle.wcv_link.proofs.TidyTypes.{TidyThere, tidy-before, created-tidy, reference-tidy, referenced-tidy, type-tidy, sorted-tidy, plain-tidy, value-tidy, module-tidy, again-tidy}
 
 -- paths lead to what the instance types own that stand at an index
 abbrev pub LeadsIn : Tree_context → Type 0
@@ -55,7 +55,9 @@ module _ (p : Place) (c : Tree_context) (leads : LeadsIn c) (g : Known) (y : All
   written-tidy (ref.Module k) b e =
       let m = mapped-some (bare tree_reader) (module_type_at c k) b e in
       subst IsTidyBrought m.2 (tidy-before p g m.0 (module-tidy g c y k m.0 m.1))
-  written-tidy (ref.Value v) b e = cc
+  written-tidy (ref.Value v) b e =
+      let m = mapped-some (bare tree_reader) (value_entry c v) b e in
+      subst IsTidyBrought m.2 (tidy-before p g m.0 (value-tidy g c y v m.0 m.1))
 
   -- ## Exported items
 

@@ -1,12 +1,10 @@
 -- Declared types, and so items: the stack settles and stays tidy declaration by declaration, and the node of a type joins the types of the
 -- context around it.
-use Rattle.std.proofs.Common.{◌≡◌, ℕ, zero, suc, List, [], ◌++◌, map, Bool, true, false, cond, refl, sym, ◌∙◌, ap, subst, Some, None}
+use Rattle.std.proofs.Common.{◌≡◌, ℕ, zero, suc, List, map, Bool, true, false, cond, refl, sym, ◌∙◌, ap, subst, Some, None}
 use Rattle.std.specs.Option.{option_map}
 use Rattle.std.proofs.lemmas.Bool.{false≢true}
 use Rattle.wcv_core.specs.Names.{Name, Place, base, deeper, member}
 use Rattle.wcv_core.specs.declared.features.WasmFeatures.{WasmFeatures}
-use Rattle.wcv_core.proofs.Names.{and_left, and_right}
-use Rattle.wcv_syntax.specs.Built.{is_plain, is_built_type, is_built_decl, are_built, are_built_inside}
 use Rattle.wcv_syntax.specs.Model.{Form, component_item, Items, no_items, next_item, core_type_item, type_item, import_item, alias_item, Type_form, defined_type, func_type, component_type, instance_type, resource_type, Decl, core_type_decl, type_decl, alias_decl, export_decl, import_decl, Decls, no_decls, declare}
 use Rattle.wcv_types.specs.Led.{Led}
 use Rattle.wcv_types.specs.Tree.{import, export, instance, component, node, none, entries, firsts, is_instance}
@@ -15,8 +13,8 @@ use Rattle.wcv_types.proofs.Lists.{some-inj}
 use Rattle.wcv_lower.specs.Checks.{IsFree}
 use Rattle.wcv_lower.specs.Context.{Kind, concrete, in_components, declares_instance, declares_component, Side, importing, exporting, is_concrete}
 use Rattle.wcv_lower.specs.Declared.{inside, closed_as, ended, read_type, read_decl, read_decls, declared_checks, decl_checks, decls_checks}
-use Rattle.wcv_lower.specs.Ending.{any_free, kept, component_of, component_made, instance_made, declared_made}
-use Rattle.wcv_lower.specs.Growth.{grow, form_checks, left_checks}
+use Rattle.wcv_lower.specs.Ending.{any_free, kept, component_of, component_made, instance_made, declared_made, declared_end_checks}
+use Rattle.wcv_lower.specs.Growth.{grow, call_checks}
 use Rattle.wcv_lower.specs.Items.{read_item, read_items}
 use Rattle.wcv_lower.specs.Names.{names_by_place}
 use Rattle.wcv_lower.specs.Owned.{AllEntries, Everywhere}
@@ -25,13 +23,12 @@ use Rattle.wcv_lower.specs.Step.{appends, apply}
 use Rattle.wcv_lower.specs.Trees.{Entries, Tree_context, Tree_stack, tree_reader, tree_maker, node_tree}
 use Rattle.wcv_lower.proofs.Bringing.{brings_one}
 use Rattle.wcv_lower.proofs.Calm.{inside_has, around_has}
-use Rattle.wcv_lower.proofs.DeclaredDoes.{inside_built}
 use Rattle.wcv_lower.proofs.Given.{not_so}
 use Rattle.wcv_link.proofs.Bare.{OwnsNothing}
 use Rattle.wcv_link.proofs.Charged.{AllCharged, all_themselves, all_twice}
 use Rattle.wcv_link.proofs.Closed.{IsClosed, firsts-has, instance-closed, component-closed}
 use Rattle.wcv_link.proofs.Growing.{Ready, Grows}
-use Rattle.wcv_link.proofs.Inside.{built_here, closes-grow, decl_side, inside-imports}
+use Rattle.wcv_link.proofs.Inside.{closes-grow, decl_side, no-imports}
 use Rattle.wcv_link.proofs.Items.{side_of, MayStand, stands-in-component, grow-grows, declared-grows}
 use Rattle.wcv_link.proofs.Kept.{kept-old}
 use Rattle.wcv_link.proofs.Known.{mapped-some, then-some, Any}
@@ -40,7 +37,7 @@ use Rattle.wcv_link.proofs.Near.{Near}
 use Rattle.wcv_link.proofs.Outer.{ends}
 use Rattle.wcv_link.proofs.Settled.{Settles, inside-settles, settles-ready, settles-more}
 use Rattle.wcv_link.proofs.SideNames.{ItemNamed, SidesDiffer, AllSidesDiffer, inside-differ}
-use Rattle.wcv_link.proofs.SidesKept.{item-differ, item-named, type-free, decls-free, decl-differ, type_item-free, plain-free}
+use Rattle.wcv_link.proofs.SidesKept.{item-differ, item-named, type-free, decls-free, decls-end, decl-differ, type_item-free, plain-free}
 use Rattle.wcv_link.proofs.Sound.{IsSound}
 use Rattle.wcv_link.proofs.Tidy.{Known, TidyEntry, NoneKnown, NoneAt, knows-both, BringsTidy, TidyBehind, apply-tidy, Tidy, first-tidy, tidy-ready, tidy-here, tidy-knows, tidy-next}
 use Rattle.wcv_link.proofs.TidyEntering.{LeadsIn}
@@ -84,7 +81,7 @@ module _ (p : Place) (n : ℕ) (g : Known) (unknown : NoneKnown p g) (u : Tree_s
 
   instance-node : NodeTidy p y.known (instance_made c)
   instance-node =
-      node-tidy p y.known (tidy-here p n g u unknown y) (instance (base p) (map (λ d. d.0) c.defined)) (entries export outs none) refl tt (exports-alone outs) (exports-named outs (names exporting))
+      node-tidy p y.known (tidy-here p n g u unknown y) (instance (base p) (map (λ d. d.0) c.defined)) (entries export outs none) refl tt (exports-alone outs) tt (exports-named outs (names exporting))
       (entries-tidy y.known export outs none (here.side exporting) (tt, tt))
 
   component-node : Settles p n u → (m : New_node tree_reader) → component_made c ≡ Some m → NodeTidy p y.known m
@@ -95,7 +92,7 @@ module _ (p : Place) (n : ℕ) (g : Known) (unknown : NoneKnown p g) (u : Tree_s
 
       of_kept : (ks : List (Name × List ℕ)) → kept tree_reader c.defined outs ≡ Some ks → NodeTidy p y.known (component_of c ks)
       of_kept ks q =
-          node-tidy p y.known (tidy-here p n g u unknown y) (component (base p) c.imported ks) (entries import ins (entries export outs none)) refl (apart ks q) (sides-alone ins outs)
+          node-tidy p y.known (tidy-here p n g u unknown y) (component (base p) c.imported ks) (entries import ins (entries export outs none)) refl (apart ks q) (sides-alone ins outs) tt
           (sides-named ins outs (names importing) (names exporting)) (entries-tidy y.known import ins (entries export outs none) (here.side importing) (entries-tidy y.known export outs none (here.side exporting) (tt, tt)))
 
       go : (b : Bool) → cond b None (option_map (component_of c) (kept tree_reader c.defined outs)) ≡ Some m → NodeTidy p y.known m
@@ -137,7 +134,6 @@ pub record Read (p : Place) (g : Known) (ds : Decls) (s u : Tree_stack) : Type 0
   pub tidy : Tidy p count g u
   pub outer : AllCharged s.outer u.outer
   pub kind : u.top.kind ≡ s.top.kind
-  pub no_imports : are_built_inside ds ≡ true → s.top.imported ≡ [] → u.top.imported ≡ []
 
 -- what holds behind the items of a component
 pub record ItemsRead (w : Place) (g : Known) (s u : Tree_stack) : Type 0 where
@@ -159,58 +155,51 @@ module _ (fs : WasmFeatures) where
     closes-tidy p r.count g n u r.tidy fs declares_component v e (component-node p r.count g n u r.tidy r.settles) (λ m q z. absurd (false≢true z)),
   )
 
-  instance-behind : (p : Place) (g : Known) (s u v : Tree_stack) (ds : Decls) → are_built_inside ds ≡ true → NoneKnown p g → Ready p s → Read p g ds (inside declares_instance s) u → ended declares_instance (tree_maker names_by_place p) u ≡ Some v → Behind exporting p g s v
-  instance-behind p g s u v ds b n h r e = (
+  instance-behind : (p : Place) (g : Known) (s u v : Tree_stack) (ds : Decls) → IsFree (declared_end_checks declares_instance u.top) → NoneKnown p g → Ready p s → Read p g ds (inside declares_instance s) u → ended declares_instance (tree_maker names_by_place p) u ≡ Some v → Behind exporting p g s v
+  instance-behind p g s u v ds free n h r e = (
     closes-grow fs declares_instance p r.count s u v r.settles r.outer e h
-        (λ m q. subst (λ (x : New_node tree_reader). IsClosed u (node_tree (base p) x)) (some-inj q) (instance-closed p r.count (base p) u r.settles (ap is_concrete r.kind) (r.no_imports b refl))),
+        (λ m q. subst (λ (x : New_node tree_reader). IsClosed u (node_tree (base p) x)) (some-inj q) (instance-closed p r.count (base p) u r.settles (ap is_concrete r.kind) (no-imports u.top r.settles.leads free))),
     closes-tidy p r.count g n u r.tidy fs declares_instance v e (λ m q. subst (NodeTidy p r.tidy.known) (some-inj q) (instance-node p r.count g n u r.tidy)) (λ m q z. absurd (false≢true z)),
   )
 
   -- what is read in one step
-  form-behind : (p : Place) (g : Known) (s u : Tree_stack) (f : Form) → MayStand f s.top → is_plain f ≡ true → IsFree (form_checks fs (tree_maker names_by_place p) s f) → ItemNamed s.top f → grow fs (tree_maker names_by_place p) s f ≡ Some u → NoneKnown p g → Ready p s → Everywhere (TidyEntry g) s → Behind (side_of f) p g s u
-  form-behind p g s u f may b free d e n h y = (grow-grows p s h g y fs f u may b free e, grow-tidy p s (ready-leads p s h) g y n fs f u d e)
+  form-behind : (p : Place) (g : Known) (s u : Tree_stack) (f : Form) → MayStand f s.top → IsFree (call_checks fs (tree_maker names_by_place p) s f) → ItemNamed s.top f → grow fs (tree_maker names_by_place p) s f ≡ Some u → NoneKnown p g → Ready p s → Everywhere (TidyEntry g) s → Behind (side_of f) p g s u
+  form-behind p g s u f may free d e n h y = (grow-grows p s h g y fs f u may free e, grow-tidy p s (ready-leads p s h) g y n fs f u d e)
 
   mutual
-    type-behind : (p : Place) (g : Known) (s v : Tree_stack) (t : Type_form) → is_built_type t ≡ true → IsFree (declared_checks true fs (tree_maker names_by_place) p s t) → read_type fs (tree_maker names_by_place) p s t ≡ Some v → NoneKnown p g → Ready p s →
+    type-behind : (p : Place) (g : Known) (s v : Tree_stack) (t : Type_form) → IsFree (declared_checks true fs (tree_maker names_by_place) p s t) → read_type fs (tree_maker names_by_place) p s t ≡ Some v → NoneKnown p g → Ready p s →
         Everywhere (TidyEntry g) s → AllSidesDiffer s → Behind exporting p g s v
-    type-behind p g s v (component_type ds) b free e n h y d =
+    type-behind p g s v (component_type ds) free e n h y d =
         let m = then-some (ended declares_component (tree_maker names_by_place p)) (read_decls fs (tree_maker names_by_place) p 0 (inside declares_component s) ds) v e in
         component-behind p g s m.0 v ds n h
-        (decls-behind declares_component p 0 g (inside declares_component s) m.0 ds b (type-free fs names_by_place declares_component p s ds free) m.1 n (inside-settles p declares_component s (λ k. absurd (false≢true k)) h) (begins-tidy p declares_component g s y d)) m.2
-    type-behind p g s v (instance_type ds) b free e n h y d =
+        (decls-behind declares_component p 0 g (inside declares_component s) m.0 ds (type-free fs names_by_place declares_component p s ds free) m.1 n (inside-settles p declares_component s (λ k. absurd (false≢true k)) h) (begins-tidy p declares_component g s y d)) m.2
+    type-behind p g s v (instance_type ds) free e n h y d =
         let m = then-some (ended declares_instance (tree_maker names_by_place p)) (read_decls fs (tree_maker names_by_place) p 0 (inside declares_instance s) ds) v e in
-        instance-behind p g s m.0 v ds b n h
-        (decls-behind declares_instance p 0 g (inside declares_instance s) m.0 ds (inside_built ds b) (type-free fs names_by_place declares_instance p s ds free) m.1 n (inside-settles p declares_instance s (λ k. absurd (false≢true k)) h) (begins-tidy p declares_instance g s y d)) m.2
-    type-behind p g s v (defined_type t) b free e n h y d = form-behind p g s v (type_item (defined_type t)) tt b free tt e n h y
-    type-behind p g s v (func_type t) b free e n h y d = form-behind p g s v (type_item (func_type t)) tt b free tt e n h y
-    type-behind p g s v (resource_type rep dtor) b free e n h y d = form-behind p g s v (type_item (resource_type rep dtor)) tt b free tt e n h y
+        instance-behind p g s m.0 v ds (decls-end fs names_by_place declares_instance p 0 (inside declares_instance s) m.0 ds (type-free fs names_by_place declares_instance p s ds free) m.1) n h
+        (decls-behind declares_instance p 0 g (inside declares_instance s) m.0 ds (type-free fs names_by_place declares_instance p s ds free) m.1 n (inside-settles p declares_instance s (λ k. absurd (false≢true k)) h) (begins-tidy p declares_instance g s y d)) m.2
+    type-behind p g s v (defined_type t) free e n h y d = form-behind p g s v (type_item (defined_type t)) tt free tt e n h y
+    type-behind p g s v (func_type t) free e n h y d = form-behind p g s v (type_item (func_type t)) tt free tt e n h y
+    type-behind p g s v (resource_type rep dtor) free e n h y d = form-behind p g s v (type_item (resource_type rep dtor)) tt free tt e n h y
 
-    decl-behind : (p : Place) (g : Known) (s u : Tree_stack) (d : Decl) → is_built_decl d ≡ true → IsFree (decl_checks fs (tree_maker names_by_place) p s d) → read_decl fs (tree_maker names_by_place) p s d ≡ Some u → NoneKnown p g → Ready p s →
+    decl-behind : (p : Place) (g : Known) (s u : Tree_stack) (d : Decl) → IsFree (decl_checks fs (tree_maker names_by_place) p s d) → read_decl fs (tree_maker names_by_place) p s d ≡ Some u → NoneKnown p g → Ready p s →
         Everywhere (TidyEntry g) s → AllSidesDiffer s → Behind (decl_side d) p g s u
-    decl-behind p g s u (core_type_decl t) b free e n h y d = form-behind p g s u (core_type_item t) tt b free tt e n h y
-    decl-behind p g s u (type_decl t) b free e n h y d = type-behind p g s u t b free e n h y d
-    decl-behind p g s u (alias_decl a) b free e n h y d = form-behind p g s u (alias_item a) tt b free tt e n h y
-    decl-behind p g s u (export_decl x r) b free e n h y d = (declared-grows p s h x r u b e, declared-tidy p s (ready-leads p s h) g y n x r u e)
-    decl-behind p g s u (import_decl i) b free e n h y d = form-behind p g s u (import_item i) tt b free tt e n h y
+    decl-behind p g s u (core_type_decl t) free e n h y d = form-behind p g s u (core_type_item t) tt free tt e n h y
+    decl-behind p g s u (type_decl t) free e n h y d = type-behind p g s u t free e n h y d
+    decl-behind p g s u (alias_decl a) free e n h y d = form-behind p g s u (alias_item a) tt free tt e n h y
+    decl-behind p g s u (export_decl x r) free e n h y d = (declared-grows p s h x r u e, declared-tidy p s (ready-leads p s h) g y n x r u e)
+    decl-behind p g s u (import_decl i) free e n h y d = form-behind p g s u (import_item i) tt free tt e n h y
 
-    decls-behind : (k : Kind) (p : Place) (n : ℕ) (g : Known) (s u : Tree_stack) (ds : Decls) → are_built ds ≡ true → IsFree (decls_checks fs (tree_maker names_by_place) p n k s ds) → read_decls fs (tree_maker names_by_place) p n s ds ≡ Some u → NoneKnown p g →
+    decls-behind : (k : Kind) (p : Place) (n : ℕ) (g : Known) (s u : Tree_stack) (ds : Decls) → IsFree (decls_checks fs (tree_maker names_by_place) p n k s ds) → read_decls fs (tree_maker names_by_place) p n s ds ≡ Some u → NoneKnown p g →
         Settles p n s → Tidy p n g s → Read p g ds s u
-    decls-behind k p n g s u no_decls b free e unknown h y =
-        subst (Read p g no_decls s) (some-inj e) (record { count = n; settles = h; tidy = y; outer = all_themselves s.outer; kind = refl; no_imports = λ x z. z })
-    decls-behind k p n g s u (declare d ds) b free e unknown h y =
+    decls-behind k p n g s u no_decls free e unknown h y =
+        subst (Read p g no_decls s) (some-inj e) (record { count = n; settles = h; tidy = y; outer = all_themselves s.outer; kind = refl })
+    decls-behind k p n g s u (declare d ds) free e unknown h y =
         let m = then-some (λ (t : Tree_stack). read_decls fs (tree_maker names_by_place) p (suc n) t ds) (read_decl fs (tree_maker names_by_place) (deeper p n) s d) u e in
         let f = decls-free fs names_by_place k p n s m.0 d ds m.1 free in
-        let x : Behind (decl_side d) (deeper p n) y.known s m.0 = decl-behind (deeper p n) y.known s m.0 d (and_left _ _ b) f.0 m.1 (tidy-ready p n g s unknown y) (settles-ready p n s h) y.tidy y.differ in
+        let x : Behind (decl_side d) (deeper p n) y.known s m.0 = decl-behind (deeper p n) y.known s m.0 d f.0 m.1 (tidy-ready p n g s unknown y) (settles-ready p n s h) y.tidy y.differ in
         let z : AllSidesDiffer m.0 = decl-differ fs names_by_place (deeper p n) s m.0 d f.0 m.1 y.differ in
-        let w : Read p g ds m.0 u = decls-behind k p (suc n) g m.0 u ds (and_right _ _ b) f.1 m.2 unknown (settles-more p n s m.0 h (decl_side d) x.0) (tidy-next p n g s m.0 y x.1 z) in
-        record {
-          count = w.count;
-          settles = w.settles;
-          tidy = w.tidy;
-          outer = all_twice s.outer m.0.outer u.outer x.0.outer w.outer;
-          kind = w.kind ∙ x.0.kind;
-          no_imports = λ a c. w.no_imports (and_right _ _ a) (inside-imports d (deeper p n) s m.0 (and_left _ _ a) x.0 ∙ c);
-        }
+        let w : Read p g ds m.0 u = decls-behind k p (suc n) g m.0 u ds f.1 m.2 unknown (settles-more p n s m.0 h (decl_side d) x.0) (tidy-next p n g s m.0 y x.1 z) in
+        record { count = w.count; settles = w.settles; tidy = w.tidy; outer = all_twice s.outer m.0.outer u.outer x.0.outer w.outer; kind = w.kind ∙ x.0.kind }
 
   -- ## Items of a component
 
@@ -223,7 +212,7 @@ module _ (fs : WasmFeatures) where
   mutual
     pub item-behind : (p : Place) (g : Known) (s u : Tree_stack) (f : Form) → is_concrete s.top.kind ≡ true → ValidItem fs names_by_place p s f → read_item fs (tree_maker names_by_place) p s f ≡ Some u → NoneKnown p g → Ready p s →
         Everywhere (TidyEntry g) s → AllSidesDiffer s → Behind (side_of f) p g s u
-    item-behind p g s u (type_item t) c v e n h y d = type-behind p g s u t (built_here (is_built_type t) _ v.0) (type_item-free fs names_by_place p s t v.0) e n h y d
+    item-behind p g s u (type_item t) c v e n h y d = type-behind p g s u t (type_item-free fs names_by_place p s t v.0) e n h y d
     item-behind p g s u (component_item is end) c v e n h y d =
         let m = then-some (ended concrete (tree_maker names_by_place p)) (read_items fs (tree_maker names_by_place) p 0 (inside concrete s) is) u e in
         let same : v.1.0 ≡ m.0 = some-inj (sym (valid_reads fs names_by_place p 0 (inside concrete s) is v.1.0 v.1.1) ∙ m.1) in
@@ -231,8 +220,8 @@ module _ (fs : WasmFeatures) where
         items-behind p 0 g (inside concrete s) v.1.0 is refl v.1.1 n (inside-settles p concrete s (λ k. c) h) (begins-tidy p concrete g s y d) in
         component-ends p g s m.0 u n h (subst (ItemsRead p g (inside concrete s)) same r) m.2
     item-behind p g s u f c v e n h y d =
-        let free : IsFree (form_checks fs (tree_maker names_by_place p) s f) = plain-free fs names_by_place p s f v.0 in
-        form-behind p g s u f (stands-in-component f s.top c) (built_here (is_plain f) (form_checks fs (tree_maker names_by_place p) s f ++ left_checks s.top f) v.0) free (item-named s fs names_by_place p f free) e n h y
+        let free : IsFree (call_checks fs (tree_maker names_by_place p) s f) = plain-free fs names_by_place p s f v.0 in
+        form-behind p g s u f (stands-in-component f s.top c) free (item-named s fs names_by_place p f free) e n h y
 
     pub items-behind : (w : Place) (k : ℕ) (g : Known) (s u : Tree_stack) (is : Items) → is_concrete s.top.kind ≡ true → ValidFrom fs names_by_place w k s is u → NoneKnown w g → Settles w k s → Tidy w k g s → ItemsRead w g s u
     items-behind w k g s u no_items c v n h y = subst (ItemsRead w g s) v (record { count = k; settles = h; tidy = y; outer = all_themselves s.outer; kind = refl })

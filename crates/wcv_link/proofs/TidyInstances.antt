@@ -1,5 +1,5 @@
 -- Instances are tidy: one of an instance type, one that lists items, and one of a component.
-use Rattle.std.proofs.Common.{◌≡◌, ◌<◌, ℕ, zero, suc, List, [], ◌∷◌, ◌||◌, ◌&&◌, Bool, true, false, cond, bytes_eq, refl, sym, ◌∙◌, ap, subst, Option, Some, None, arith}
+use Rattle.std.proofs.Common.{◌≡◌, ◌<◌, ℕ, zero, suc, List, [], ◌∷◌, ◌++◌, ◌||◌, ◌&&◌, Bool, true, false, cond, bytes_eq, refl, sym, ◌∙◌, ap, subst, Option, Some, None, arith}
 use Rattle.std.specs.Prelude.{All, not, slice_get}
 use Rattle.std.specs.List.{IsDistinct, list_all}
 use Rattle.std.specs.Map.{keys_of}
@@ -28,13 +28,14 @@ use Rattle.wcv_matching.specs.OnePass.{opens_pass}
 use Rattle.wcv_matching.specs.Orderly.{EachNode, height, heights}
 use Rattle.wcv_lower.specs.Checks.{is_none, same_sort}
 use Rattle.wcv_lower.specs.Context.{in_instances, in_components, exporting}
-use Rattle.wcv_lower.specs.Instances.{component_at, argument_at, arguments, if_opened, opened, listed_at, listed, bag_made, instance_of_component, instance_of_items, instance_made, instance_joins, instance_step}
+use Rattle.wcv_lower.specs.Instances.{component_at, argument_at, arguments, if_opened, opened, listed_at, listed, bag_made, instance_of_component, instance_of_items, instance_made, instance_joins, instance_values, instance_step}
 use Rattle.wcv_lower.specs.Instantiated.{opening, instantiated}
 use Rattle.wcv_lower.specs.Mapped.{map_entries}
 use Rattle.wcv_lower.specs.Names.{names_by_place}
 use Rattle.wcv_lower.specs.NewTypes.{owned_anew, instance_tree}
 use Rattle.wcv_lower.specs.Owned.{AllEntries}
 use Rattle.wcv_lower.specs.Readers.{New_node, instance_node}
+use Rattle.wcv_lower.specs.Marks.{uses_each}
 use Rattle.wcv_lower.specs.Step.{introduces, appends, Step, Brought}
 use Rattle.wcv_lower.specs.Trees.{Entries, Tree_stack, tree_reader, tree_maker}
 use Rattle.wcv_lower.proofs.Bringing.{brings_one, brings_more}
@@ -46,6 +47,7 @@ use Rattle.wcv_link.proofs.BareGiven.{entries-own, given_for-each, looked-up, op
 use Rattle.wcv_link.proofs.CoreGrowing.{if-some}
 use Rattle.wcv_link.proofs.InstanceGrowing.{opened-pair}
 use Rattle.wcv_link.proofs.Known.{mapped-some, then-some, all-get, Any}
+use Rattle.wcv_link.proofs.Marked.{uses-tidy}
 use Rattle.wcv_link.proofs.SideNames.{no-names, ItemNamed}
 use Rattle.wcv_link.proofs.Tidy.{Known, IsTidy, TidyType, TidyIn, TidyEntry, KnownMore, KnowsMore, NoneKnown, tidy-known, entry-more, known_at, known-base, known-again, knows-here, BringsTidy}
 use Rattle.wcv_link.proofs.TidyReplaced.{exports-again, named-again, stands_for, tidy-of, replaced-entry, replaced_in-tidy}
@@ -66,7 +68,7 @@ all-more g f m es a = All-weaker (Tidies g) (Tidies f) (λ e w. entry-more g f m
 listing-tidy : (g : Known) (i : Name) (es : Entries) → g i ≡ Some (instance_type i [] es) → NamesDiffer (named es) → AllTidy g es → TidyEntry g (instance_type i [] es)
 listing-tidy g i es e d a =
     let w = entries-tidy g export es none a (tt, tt) in
-    (refl, (record { alike = tt; bare = w.1; apart = tt; plain = tt; formed = λ l. exports-alone es; named = exports-named es d; one = λ j d. one j d }, w.0))
+    (refl, (record { alike = tt; bare = w.1; values = tt; apart = tt; plain = tt; formed = λ l. exports-alone es; named = exports-named es d; one = λ j d. one j d }, w.0))
   where
     one : (j : Name) → Some (of_node i) ≡ Some (of_node j) → g j ≡ Some (instance_type i [] es)
     one j d = let k : i ≡ j = cc in subst (λ (x : Name). g x ≡ Some (instance_type i [] es)) k e
@@ -122,7 +124,7 @@ module _ (p : Place) (s : Tree_stack) (g : Known) (h : AllEntries (TidyEntry g) 
       joined-tidy made remade (instance_of_items (tree_maker names_by_place p) (instance_node [] es))
       (listing-tidy (known_at p (Some made) remade g) i es (known-base p (Some made) remade g) d (all-more g (known_at p (Some made) remade g) (knows-here p (Some made) remade g fresh).more es a))
 
-  bag-tidy : (es : List ComponentExport) (x : Step tree_reader) → NamesDiffer (named (listed s.top es)) → instance_step (tree_maker names_by_place p) s (bag es) ≡ Some x → BringsTidy p g x
+  bag-tidy : (es : List ComponentExport) (x : Step tree_reader) → NamesDiffer (named (listed s.top es)) → option_map instance_joins (instance_made (tree_maker names_by_place p) s (bag es)) ≡ Some x → BringsTidy p g x
   bag-tidy es x d e =
       let m = mapped-some instance_joins (instance_made (tree_maker names_by_place p) s (bag es)) x e in
       let o = mapped-some (instance_of_items (tree_maker names_by_place p)) (bag_made s.top es) m.0 m.1 in
@@ -164,13 +166,13 @@ module _ (p : Place) (s : Tree_stack) (g : Known) (h : AllEntries (TidyEntry g) 
       gives : (i : Identity) (u : Type_tree) → m.nodes i ≡ Some u → TidyType g u
       gives i u e =
           looked-up (λ (x : Identity × Type_tree). TidyType g x.1) i (given_for args (named_imports t)) u
-          (given_for-each (IsTidy g) (record { alike = tt; bare = tt; apart = tt; plain = tt; formed = λ l. tt; named = (no-names, no-names); one = left-out }) args (named_imports t)
+          (given_for-each (IsTidy g) (record { alike = tt; bare = tt; values = tt; apart = tt; plain = tt; formed = λ l. tt; named = (no-names, no-names); one = left-out }) args (named_imports t)
           (All-weaker (λ (e : Text × Type_tree). TidyEntry g e.1) (λ (e : Text × Type_tree). TidyType g e.1) (λ e v. v.1) args a)) e
 
       again : (i : Name) (u : Type_tree) → g i ≡ Some u → f (at p i) ≡ Some (replaced m u)
       again i u e = known-again p (Some made) remade g i ∙ ap (option_map (replaced m)) e
 
-  instantiate-tidy : (i : ℕ) (given : List ComponentInstantiationArg) (x : Step tree_reader) → instance_step (tree_maker names_by_place p) s (instantiate i given) ≡ Some x → BringsTidy p g x
+  instantiate-tidy : (i : ℕ) (given : List ComponentInstantiationArg) (x : Step tree_reader) → option_map instance_joins (instance_made (tree_maker names_by_place p) s (instantiate i given)) ≡ Some x → BringsTidy p g x
   instantiate-tidy i given x e =
       let args : List (Text × Type_tree) = arguments s.top given in
       let m = mapped-some instance_joins (instance_made (tree_maker names_by_place p) s (instantiate i given)) x e in
@@ -184,9 +186,15 @@ module _ (p : Place) (s : Tree_stack) (g : Known) (h : AllEntries (TidyEntry g) 
       (subst (λ (y : List (Text × Type_tree) × Type_tree). BringsTidy p g (instance_joins (instance_of_component (tree_maker names_by_place p) y))) q.1
       (opened-brings args t.0 (arguments_have (TidyEntry g) s.top h given) w.1 q.0)))
 
+joins-tidy : (p : Place) (s : Tree_stack) (g : Known) → AllEntries (TidyEntry g) s.top → NoneKnown p g → (i : Instance_form) (x : Step tree_reader) → ItemNamed s.top (instance_item i) →
+    option_map instance_joins (instance_made (tree_maker names_by_place p) s i) ≡ Some x → BringsTidy p g x
+joins-tidy p s g h n (bag es) x d e = bag-tidy p s g h n es x d e
+joins-tidy p s g h n (instantiate i args) x d e = instantiate-tidy p s g h n i args x e
+
 pub instance-tidy : (p : Place) (s : Tree_stack) (g : Known) → AllEntries (TidyEntry g) s.top → NoneKnown p g → (i : Instance_form) (x : Step tree_reader) → ItemNamed s.top (instance_item i) → instance_step (tree_maker names_by_place p) s i ≡ Some x → BringsTidy p g x
-instance-tidy p s g h n (bag es) x d e = bag-tidy p s g h n es x d e
-instance-tidy p s g h n (instantiate i args) x d e = instantiate-tidy p s g h n i args x e
+instance-tidy p s g h n i x d e =
+    let m = mapped-some (λ (y : Step tree_reader). uses_each (instance_values i) ++ y) (option_map instance_joins (instance_made (tree_maker names_by_place p) s i)) x e in
+    subst (BringsTidy p g) m.2 (uses-tidy p g (instance_values i) m.0 (joins-tidy p s g h n i m.0 d m.1))
 
 -- ## One of an instance type
 
@@ -360,7 +368,7 @@ module _ (p : Place) (g : Known) (fresh : NoneKnown p g) (i : Name) where
           (λ j u e. nothing-comes (λ u. SameKind u (stands (stands_for (without i g)) j)) j u e) (λ j u e n c. again j u e) ps less
 
       made-tidy : TidyEntry f made
-      made-tidy = (refl, (record { alike = tt; bare = entries-bare; apart = tt; plain = tt; formed = λ l. exports-again m ps (w.0.formed tt); named = named-again m ps w.0.named; one = one }, inside))
+      made-tidy = (refl, (record { alike = tt; bare = entries-bare; values = tt; apart = tt; plain = tt; formed = λ l. exports-again m ps (w.0.formed tt); named = named-again m ps w.0.named; one = one }, inside))
 
 pub instance_of-tidy : (p : Place) (g : Known) (t : Type_tree) → same_sort is_instance (sort t) ≡ true → Led t → TidyType g t → NoneKnown p g → (f : Known) × KnowsMore p g f × TidyEntry f (instance_tree names_by_place p t)
 instance_of-tidy p g (node (instance i []) ps) e s w n = owning-nothing p g n i ps w

@@ -1,5 +1,6 @@
 -- What an item, but for a declared type, a declared export and an alias bring to the context that they stand in is tidy.
-use Rattle.std.proofs.Common.{◌≡◌, zero, ◌∷◌, Bool, true, false, cond, refl, ◌∙◌, ap, subst, Some, None}
+use Rattle.std.proofs.Common.{◌≡◌, zero, ◌∷◌, ◌++◌, Bool, true, false, cond, refl, ◌∙◌, ap, subst, Some, None}
+use Rattle.std.specs.Option.{option_map}
 use Rattle.wcv_core.specs.Names.{Place, base}
 use Rattle.wcv_core.specs.declared.features.WasmFeatures.{WasmFeatures}
 use Rattle.wcv_syntax.specs.Model.{Form, core_type_item, core_module_item, core_instance_item, type_item, import_item, export_item, component_item, instance_item, alias_item, start_item, canon_item, Type_form, defined_type, func_type, component_type, instance_type, resource_type}
@@ -12,8 +13,9 @@ use Rattle.wcv_types.proofs.Lists.{some-inj}
 use Rattle.wcv_lower.specs.Aliases.{joining, alias_step}
 use Rattle.wcv_lower.specs.Context.{in_types, in_instances, is_concrete, importing, exporting}
 use Rattle.wcv_lower.specs.Declared.{applied, declared_export_step}
-use Rattle.wcv_lower.specs.Entries.{extern_name, written, exported}
+use Rattle.wcv_lower.specs.Entries.{extern_name, written, exported, exported_values}
 use Rattle.wcv_lower.specs.Growth.{step, grow}
+use Rattle.wcv_lower.specs.Marks.{uses_each}
 use Rattle.wcv_lower.specs.Names.{names_by_place}
 use Rattle.wcv_lower.specs.NewTypes.{new_reference}
 use Rattle.wcv_lower.specs.Owned.{AllEntries, Everywhere}
@@ -24,7 +26,9 @@ use Rattle.wcv_lower.specs.Types.{type_made, added, type_step}
 use Rattle.wcv_lower.proofs.Bringing.{brings_one, brings_more}
 use Rattle.wcv_link.proofs.AliasGrowing.{first-has, export-found, outer-has, outer_step, outer-found, outer-brings}
 use Rattle.wcv_link.proofs.Known.{mapped-some, all-get, Any, joins-bring}
+use Rattle.wcv_link.proofs.Marked.{uses-tidy}
 use Rattle.wcv_link.proofs.SideNames.{ItemNamed}
+use Rattle.wcv_link.proofs.StartGrowing.{start-tidy}
 use Rattle.wcv_link.proofs.Tidy.{Known, TidyEntry, NoneKnown, NoneAt, none-at, BringsTidy, brings-known, TidyBehind, apply-tidy}
 use Rattle.wcv_link.proofs.TidyCore.{core_type-tidy, core_module-tidy, core_instance-tidy, core_alias-tidy, canon-tidy}
 use Rattle.wcv_link.proofs.TidyEntering.{LeadsIn, enters-tidy, written-tidy, exported-tidy}
@@ -71,7 +75,7 @@ module _ (p : Place) (s : Tree_stack) (leads : LeadsIn s.top) (g : Known) (all :
       let m = export-found s w i n x e in
       let t : TidyEntry g m.instance = all-get (TidyEntry g) (s.top.space in_instances) i m.instance (y.space in_instances) m.there in
       let z : TidyEntry g m.export = first-has (TidyEntry g) n (exports m.instance) m.export m.first (exports-tidy g m.instance t.1) in
-      subst (BringsTidy p g) m.joins (brings-known p g (joining m.export) (joins-bring (TidyEntry g) (created-tidy g) (sort m.export) m.export z))
+      subst (BringsTidy p g) m.joins (brings-known p g (joining m.export) (joins-bring (TidyEntry g) (created-tidy g) false (sort m.export) m.export z))
   alias-tidy (alias.CoreInstanceExport k i n) x e = core_alias-tidy p s g y (none-at p g unknown) k i n x e
   alias-tidy (alias.Outer w n i) x e =
       let m = outer-found s w n i x e in
@@ -85,15 +89,17 @@ module _ (p : Place) (s : Tree_stack) (leads : LeadsIn s.top) (g : Known) (all :
       let m = mapped-some (enters importing (extern_name i.name)) (written (tree_maker names_by_place p) s.top i.ty) x e in
       subst (BringsTidy p g) m.2 (enters-tidy p s.top leads g y unknown importing (extern_name i.name) m.0 (written-tidy p s.top leads g y unknown i.ty m.0 m.1))
   step-tidy fs (export_item i) x d e =
-      let m = mapped-some (enters exporting (extern_name i.name)) (exported (tree_maker names_by_place p) s.top i) x e in
-      subst (BringsTidy p g) m.2 (enters-tidy p s.top leads g y unknown exporting (extern_name i.name) m.0 (exported-tidy p s.top leads g y unknown i i.ty m.0 m.1))
+      let u = mapped-some (λ (z : Step tree_reader). uses_each (exported_values i) ++ z) (option_map (enters exporting (extern_name i.name)) (exported (tree_maker names_by_place p) s.top i)) x e in
+      let m = mapped-some (enters exporting (extern_name i.name)) (exported (tree_maker names_by_place p) s.top i) u.0 u.1 in
+      subst (BringsTidy p g) u.2
+      (uses-tidy p g (exported_values i) u.0 (subst (BringsTidy p g) m.2 (enters-tidy p s.top leads g y unknown exporting (extern_name i.name) m.0 (exported-tidy p s.top leads g y unknown i i.ty m.0 m.1))))
   step-tidy fs (core_type_item t) x d e = core_type-tidy p s g y (none-at p g unknown) fs t x e
   step-tidy fs (core_module_item ds) x d e = core_module-tidy p s g y (none-at p g unknown) fs ds x e
   step-tidy fs (core_instance_item i) x d e = core_instance-tidy p s g y (none-at p g unknown) i x e
   step-tidy fs (component_item is end) x d e = cc
   step-tidy fs (instance_item i) x d e = instance-tidy p s g y unknown i x d e
   step-tidy fs (alias_item a) x d e = alias-tidy a x e
-  step-tidy fs (start_item k args results) x d e = cc
+  step-tidy fs (start_item f args n) x d e = start-tidy s f args x e p g y
   step-tidy fs (canon_item f) x d e = canon-tidy p s g y (none-at p g unknown) f x e
 
   pub grow-tidy : (fs : WasmFeatures) (f : Form) (u : Tree_stack) → ItemNamed s.top f → grow fs (tree_maker names_by_place p) s f ≡ Some u → TidyBehind p g u

@@ -17,7 +17,7 @@ use Rattle.wcv_matching.specs.Orderly.{EachNode, AreNamedApart}
 use Rattle.wcv_lower.specs.Even.{IsLevel}
 use Rattle.wcv_lower.proofs.EvenTypes.{each_weaker}
 use Rattle.wcv_link.proofs.Alike.{SameKind, IsOf, stands}
-use Rattle.wcv_link.proofs.BareGiven.{same-one, replaced-alike, replaced-owns, entries-own}
+use Rattle.wcv_link.proofs.BareGiven.{same-one, replaced-alike, replaced-owns, entries-own, values-own}
 use Rattle.wcv_link.proofs.Tidy.{Known, HeadApart, IsPlain, IsTidy, TidyType, TidyIn, TidyEntry, KnownMore, tidy-more}
 
 -- the node that an identity stands for, or nothing
@@ -185,6 +185,7 @@ module _ (g f : Known) (m : Replacement) (more : KnownMore g f) (gives : (i : Id
       record {
         alike = replaced-alike (stands_for g) m kinds b h ps of.1 w.0.alike;
         bare = entries-own (stands_for g) m kinds ps of.1 w.0.bare;
+        values = values-own (stands_for g) m kinds b h ps of.1 w.0.values;
         apart = apart-again b h w.0.apart;
         plain = plain-again b h ps w.0.plain;
         formed = formed-again m b h ps w.0.formed;

@@ -31,7 +31,7 @@ use Rattle.wcv_lower.specs.Trees.{Type_tree, Entries, type_entry, created, refer
 use Rattle.wcv_lower.specs.Types.{func_parts, type_made}
 use Rattle.wcv_lower.specs.Values.{type_at, type_of_sort, resource_at, value_entry, Written_parts, option_entry, behind, parts_entries}
 use Rattle.wcv_link.proofs.Alike.{SameKind, IsAlike}
-use Rattle.wcv_link.proofs.Bare.{OwnsNothing, EntriesOwnNothing}
+use Rattle.wcv_link.proofs.Bare.{OwnsNothing, EntriesOwnNothing, PartsOwnNothing, ValuesOwnNothing}
 use Rattle.wcv_link.proofs.Known.{mapped-some, then-some, all-get}
 use Rattle.wcv_link.proofs.Looking.{sorted-here}
 use Rattle.wcv_link.proofs.SideNames.{no-names}
@@ -49,6 +49,10 @@ owns-none s (node h ps) e n = refl
 leaf-plain : (h : Head Name Name) → IsPlain h none
 leaf-plain (resource r s) = refl
 leaf-plain h = tt
+
+leaf-values : (h : Head Name Name) → ValuesOwnNothing h none
+leaf-values (func i b) = tt
+leaf-values h = tt
 
 -- ## Names of parts
 
@@ -149,7 +153,7 @@ module _ (g : Known) where
   -- ## Parts
 
   pub leaf-tidy : (h : Head Name Name) → IsAlike h none → HeadApart h → IsFormed h none → ((i : Name) → identity_at h ≡ Some (of_node i) → ⊥) → TidyType g (node h none)
-  leaf-tidy h a b f n = (record { alike = a; bare = tt; apart = b; plain = leaf-plain h; formed = λ l. f; named = (no-names, no-names); one = λ i e. absurd (n i e) }, tt)
+  leaf-tidy h a b f n = (record { alike = a; bare = tt; values = leaf-values h; apart = b; plain = leaf-plain h; formed = λ l. f; named = (no-names, no-names); one = λ i e. absurd (n i e) }, tt)
 
   nothing-tidy : TidyEntry g (node nothing none)
   nothing-tidy = (refl, leaf-tidy nothing tt tt tt (λ i e. cc))
@@ -168,7 +172,7 @@ module _ (g : Known) where
   -- ## Type entities
 
   both-tidy : (t u : Type_tree) → SameKind t u → TidyType g t → TidyType g u → TidyEntry g (type_of t u)
-  both-tidy t u k v w = (refl, (record { alike = k; bare = tt; apart = tt; plain = tt; formed = λ l. l; named = (no-names, no-names); one = λ i e. cc }, (v, (w, tt))))
+  both-tidy t u k v w = (refl, (record { alike = k; bare = tt; values = tt; apart = tt; plain = tt; formed = λ l. l; named = (no-names, no-names); one = λ i e. cc }, (v, (w, tt))))
 
   pub entry-tidy : (t : Type_tree) → TidyType g t → TidyEntry g (type_entry t)
   entry-tidy t w = both-tidy t t (refl, λ r. refl) w w
@@ -210,7 +214,7 @@ module _ (g : Known) (c : Tree_context) (h : AllEntries (TidyEntry g) c) where
   pub module-tidy : (k : ℕ) (t : Type_tree) → module_type_at c k ≡ Some t → TidyEntry g t
   module-tidy k t e = all-get (TidyEntry g) (c.core core_types) k t (h.core core_types) (sorted-here is_module (slice_get (c.core core_types) k) t e).0
 
-  value-tidy : (v : ComponentValType) (t : Type_tree) → value_entry c v ≡ Some t → TidyEntry g t
+  pub value-tidy : (v : ComponentValType) (t : Type_tree) → value_entry c v ≡ Some t → TidyEntry g t
   value-tidy (val.Primitive p) t e = subst (TidyEntry g) (some-inj e) (refl, leaf-tidy g (primitive p) tt tt tt (λ i e. cc))
   value-tidy (val.Ty k) t e = plain-tidy is_value k t refl e
 
@@ -219,21 +223,23 @@ module _ (g : Known) (c : Tree_context) (h : AllEntries (TidyEntry g) c) where
   option-tidy (Some v) t e = value-tidy v t e
 
   abbrev MadeTidy : Made_parts tree_reader → Type 0
-  MadeTidy qs = AreTidy g (tree_parts qs) × AreInner (tree_parts qs)
+  MadeTidy qs = AreTidy g (tree_parts qs) × AreInner (tree_parts qs) × PartsOwnNothing (tree_parts qs)
 
   parts-tidy : (ps : Written_parts) (qs : Made_parts tree_reader) → AreInside ps → parts_entries c ps ≡ Some qs → MadeTidy qs
-  parts-tidy [] qs i e = subst MadeTidy (some-inj e) ((tt, tt), tt)
+  parts-tidy [] qs i e = subst MadeTidy (some-inj e) ((tt, tt), tt, tt)
   parts-tidy (p ∷ ps) qs i e =
       let m = then-some (behind tree_reader p.0 (parts_entries c ps)) (option_entry c p.1) qs e in
       let n = mapped-some (λ (rest : Made_parts tree_reader). (p.0, m.0) ∷ rest) (parts_entries c ps) qs m.2 in
       let w : MadeTidy n.0 = parts-tidy ps n.0 i.1 n.1 in
-      subst MadeTidy n.2 (one-more g p.0 m.0 (tree_parts n.0) (option-tidy p.1 m.0 m.1) w.0, (i.0, w.1))
+      let o : TidyEntry g m.0 = option-tidy p.1 m.0 m.1 in
+      subst MadeTidy n.2 (one-more g p.0 m.0 (tree_parts n.0) o w.0, (i.0, w.1), (o.0, w.2))
 
   made_of-tidy : (o : Option ℕ) (ps : Written_parts) (qs : Made_parts tree_reader) → AreInside ps → made_of c o ps ≡ Some qs → MadeTidy qs
   made_of-tidy None ps qs i e = parts-tidy ps qs i e
   made_of-tidy (Some k) ps qs i e =
       let m = mapped-some (λ (t : Type_tree). (here, t) ∷ []) (resource_at c k) qs e in
-      subst MadeTidy m.2 (one-more g here m.0 none (plain-tidy is_resource k m.0 refl m.1) (tt, tt), (tt, tt))
+      let o : TidyEntry g m.0 = plain-tidy is_resource k m.0 refl m.1 in
+      subst MadeTidy m.2 (one-more g here m.0 none o (tt, tt), (tt, tt), (o.0, tt))
 
 -- ## What is made at a place
 
@@ -261,8 +267,8 @@ module _ (p : Place) (g : Known) where
     parts-more t none w = tt
     parts-more t (part k u ps) w = (tidy-more g (with_node t) (knows-node t).more u w.0, parts-more t ps w.1)
 
-    pub node-tidy : (h : Head Name Name) (ps : Parts Name Name) → identity_at h ≡ Some (of_node (base p)) → HeadApart h → IsFormed h ps → AreNamedApart ps → AreTidy g ps → TidyType (with_node (node h ps)) (node h ps)
-    node-tidy h ps e b f n w = (record { alike = plain.0; bare = w.1; apart = b; plain = plain.1; formed = λ l. f; named = n; one = one }, parts-more (node h ps) ps w.0)
+    pub node-tidy : (h : Head Name Name) (ps : Parts Name Name) → identity_at h ≡ Some (of_node (base p)) → HeadApart h → IsFormed h ps → ValuesOwnNothing h ps → AreNamedApart ps → AreTidy g ps → TidyType (with_node (node h ps)) (node h ps)
+    node-tidy h ps e b f v n w = (record { alike = plain.0; bare = w.1; values = v; apart = b; plain = plain.1; formed = λ l. f; named = n; one = one }, parts-more (node h ps) ps w.0)
       where
         plain : IsAlike h ps × IsPlain h ps
         plain = node-plain (base p) h ps e
@@ -278,11 +284,11 @@ module _ (p : Place) (g : Known) where
     made-tidy c h (defined_type d) n e =
         let m = mapped-some (λ (ps : Made_parts tree_reader). defined_node (former d) ps) (made_of c (handle_index d) (written_parts d)) n e in
         let w = made_of-tidy g c h (handle_index d) (written_parts d) m.0 (written-inside d) m.1 in
-        subst NodeTidy m.2 (node-tidy (defined (base p) (former d)) (tree_parts m.0) refl tt tt (inner-named (tree_parts m.0) w.1) w.0)
+        subst NodeTidy m.2 (node-tidy (defined (base p) (former d)) (tree_parts m.0) refl tt tt tt (inner-named (tree_parts m.0) w.1) w.0)
     made-tidy c h (func_type f) n e =
         let m = mapped-some (λ (ps : Made_parts tree_reader). func_node f.async ps) (parts_entries c (func_parts f)) n e in
         let w = parts-tidy g c h (func_parts f) m.0 (params-inside f.params f.result) m.1 in
-        subst NodeTidy m.2 (node-tidy (func (base p) f.async) (tree_parts m.0) refl tt tt (inner-named (tree_parts m.0) w.1) w.0)
+        subst NodeTidy m.2 (node-tidy (func (base p) f.async) (tree_parts m.0) refl tt tt w.2 (inner-named (tree_parts m.0) w.1) w.0)
     made-tidy c h (component_type ds) n e = cc
     made-tidy c h (instance_type ds) n e = cc
     made-tidy c h (resource_type rep dtor) n e = cc
@@ -294,14 +300,14 @@ module _ (p : Place) (g : Known) where
     renewed-kind (node h ps) = (refl, λ r. refl)
 
     renewed-tidy : (t : Type_tree) → TidyType g t → TidyType (with_node (renewed names_by_place p t)) (renewed names_by_place p t)
-    renewed-tidy (node (defined i k) ps) w = node-tidy (defined (base p) k) ps refl tt tt w.0.named (w.1, w.0.bare)
-    renewed-tidy (node (func i b) ps) w = node-tidy (func (base p) b) ps refl tt tt w.0.named (w.1, w.0.bare)
-    renewed-tidy (node (instance i own) ps) w = node-tidy (instance (base p) own) ps refl tt (w.0.formed tt) w.0.named (w.1, w.0.bare)
-    renewed-tidy (node (component i ins outs) ps) w = node-tidy (component (base p) ins outs) ps refl w.0.apart (w.0.formed tt) w.0.named (w.1, w.0.bare)
-    renewed-tidy (node (core_module i n) ps) w = node-tidy (core_module (base p) n) ps refl tt (w.0.formed tt) w.0.named (w.1, w.0.bare)
-    renewed-tidy (node (core_instance i n) ps) w = node-tidy (core_instance (base p) n) ps refl tt tt w.0.named (w.1, w.0.bare)
+    renewed-tidy (node (defined i k) ps) w = node-tidy (defined (base p) k) ps refl tt tt tt w.0.named (w.1, w.0.bare)
+    renewed-tidy (node (func i b) ps) w = node-tidy (func (base p) b) ps refl tt tt w.0.values w.0.named (w.1, w.0.bare)
+    renewed-tidy (node (instance i own) ps) w = node-tidy (instance (base p) own) ps refl tt (w.0.formed tt) tt w.0.named (w.1, w.0.bare)
+    renewed-tidy (node (component i ins outs) ps) w = node-tidy (component (base p) ins outs) ps refl w.0.apart (w.0.formed tt) tt w.0.named (w.1, w.0.bare)
+    renewed-tidy (node (core_module i n) ps) w = node-tidy (core_module (base p) n) ps refl tt (w.0.formed tt) tt w.0.named (w.1, w.0.bare)
+    renewed-tidy (node (core_instance i n) ps) w = node-tidy (core_instance (base p) n) ps refl tt tt tt w.0.named (w.1, w.0.bare)
     renewed-tidy (node (resource r s) ps) w =
-        (record { alike = tt; bare = w.0.bare; apart = tt; plain = w.0.plain; formed = λ l. tt; named = w.0.named; one = λ i e. cc }, parts-more (renewed names_by_place p (node (resource r s) ps)) ps w.1)
+        (record { alike = tt; bare = w.0.bare; values = tt; apart = tt; plain = w.0.plain; formed = λ l. tt; named = w.0.named; one = λ i e. cc }, parts-more (renewed names_by_place p (node (resource r s) ps)) ps w.1)
     renewed-tidy (node h ps) w = tidy-more g (with_node (node h ps)) (knows-node (node h ps)).more (node h ps) w
 
     pub again-tidy : (t : Type_tree) → TidyType g t → TidyThere p g (type_of (renewed names_by_place p t) t)

@@ -10,13 +10,15 @@ use Rattle.wcv_lower.specs.Checks.{Checks, Cause, IsFree}
 use Rattle.wcv_lower.specs.Context.{concrete}
 use Rattle.wcv_lower.specs.Declared.{inside}
 use Rattle.wcv_lower.specs.DeclaredCalls.{FromDecl}
+use Rattle.wcv_lower.specs.Ending.{component_end_checks}
 use Rattle.wcv_lower.specs.Items.{read_item, read_items, item_causes, EndsFree}
-use Rattle.wcv_lower.specs.Mapped.{map_stack}
+use Rattle.wcv_lower.specs.Mapped.{map_context, map_stack}
 use Rattle.wcv_lower.specs.Names.{Names, Under, AreRenamed, SameNames, place_of}
 use Rattle.wcv_lower.specs.Renamed.{Renaming, renaming}
-use Rattle.wcv_lower.specs.Trees.{Tree_stack, tree_maker}
-use Rattle.wcv_lower.proofs.Growing.{end_checks-renamed}
+use Rattle.wcv_lower.specs.Trees.{Tree_context, Tree_stack, tree_maker}
+use Rattle.wcv_lower.proofs.EndingLaws.{component_end_checks-mapped}
 use Rattle.wcv_lower.proofs.ItemLaws.{item_there, read_item-agrees, item_causes-agree, read_item-renamed, item_causes-renamed}
+use Rattle.wcv_lower.proofs.Renamed.{renaming_commutes}
 use Rattle.wcv_link.specs.Valid.{ValidFrom, ValidInside, ValidItem, RefusedFrom, RefusedInside}
 
 -- ## Reading
@@ -92,6 +94,10 @@ module _ (fs : WasmFeatures) (names other : Names) where
 
 -- ## Renamed names
 
+-- an end has the causes that it had
+pub end-renamed : (w : Renaming) (c : Tree_context) → component_end_checks (map_context (renaming w) c) ≡ component_end_checks c
+end-renamed w c = component_end_checks-mapped (renaming w) (renaming_commutes w) c
+
 module _ (v : Renaming) (fs : WasmFeatures) (names other : Names) (renamed : (p : Place) → AreRenamed (Under p) v.resources.to v.identities.to names other) where
   abbrev to : Tree_stack → Tree_stack
   to s = map_stack (renaming v) s
@@ -108,7 +114,7 @@ module _ (v : Renaming) (fs : WasmFeatures) (names other : Names) (renamed : (p 
 
   mutual
     valid_inside-renamed : (p : Place) (s : Tree_stack) (f : Form) → ValidInside fs names p s f → ValidInside fs other p (to s) f
-    valid_inside-renamed p s (component_item is end) x = (to x.0, valid_from-renamed p 0 (inside concrete s) is x.0 x.1, subst IsFree (sym (end_checks-renamed v x.0.top)) x.2)
+    valid_inside-renamed p s (component_item is end) x = (to x.0, valid_from-renamed p 0 (inside concrete s) is x.0 x.1, subst IsFree (sym (end-renamed v x.0.top)) x.2)
     valid_inside-renamed p s f x = tt
 
     pub valid_from-renamed : (w : Place) (k : ℕ) (s : Tree_stack) (is : Items) (t : Tree_stack) → ValidFrom fs names w k s is t → ValidFrom fs other w k (to s) is (to t)
@@ -125,7 +131,7 @@ module _ (v : Renaming) (fs : WasmFeatures) (names other : Names) (renamed : (p 
     refused_inside-renamed p s f kind offset x = absurd x
 
     pub refused_from-renamed : (w : Place) (k : ℕ) (s : Tree_stack) (is : Items) (end : ℕ) (kind : ErrorKind) (offset : ℕ) → RefusedFrom fs names w k s is end kind offset → RefusedFrom fs other w k (to s) is end kind offset
-    refused_from-renamed w k s no_items end kind offset x = (subst (λ (cs : Checks). Cause cs kind) (sym (end_checks-renamed v s.top)) x.0, x.1)
+    refused_from-renamed w k s no_items end kind offset x = (subst (λ (cs : Checks). Cause cs kind) (sym (end-renamed v s.top)) x.0, x.1)
     refused_from-renamed w k s (next_item at f is) end kind offset (inl (inl x)) = inl (inl (cause_then (deeper w k) s f kind x.0, x.1))
     refused_from-renamed w k s (next_item at f is) end kind offset (inl (inr x)) = inl (inr (free_then (deeper w k) s f x.0, refused_inside-renamed (deeper w k) s f kind offset x.1))
     refused_from-renamed w k s (next_item at f is) end kind offset (inr x) =

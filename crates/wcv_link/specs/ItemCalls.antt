@@ -5,7 +5,7 @@ use Rattle.wcv_core.specs.declared.error.ErrorKind.{ErrorKind}
 use Rattle.wcv_core.specs.declared.features.WasmFeatures.{WasmFeatures}
 use Rattle.wcv_syntax.specs.Model.{Form, Items, no_items, next_item}
 use Rattle.wcv_lower.specs.Checks.{Cause}
-use Rattle.wcv_lower.specs.Ending.{end_checks}
+use Rattle.wcv_lower.specs.Ending.{component_end_checks}
 use Rattle.wcv_lower.specs.Given.{GivenNames, names_of, Numbers, AtMost, GivesAt}
 use Rattle.wcv_lower.specs.Items.{read_item}
 use Rattle.wcv_lower.specs.Names.{Under}
@@ -27,6 +27,6 @@ ItemRefused fs p s at f kind offset a b = (n : GivenNames) × GivesAt (Under p) 
 
 -- one of the items is refused, or the end behind them, and those before it were read
 abbrev pub ItemsRefused : WasmFeatures → Place → ℕ → Tree_stack → Items → ℕ → ErrorKind → ℕ → Numbers → Numbers → Type 0
-ItemsRefused fs w k s no_items end kind offset a b = Cause (end_checks s.top) kind × (offset ≡ end)
+ItemsRefused fs w k s no_items end kind offset a b = Cause (component_end_checks s.top) kind × (offset ≡ end)
 ItemsRefused fs w k s (next_item at f is) end kind offset a b =
     ItemRefused fs (deeper w k) s at f kind offset a b ⊎ ((t : Tree_stack) × (m : Numbers) × AtMost a m × AtMost m b × ItemRead fs (deeper w k) s f t a m × ItemsRefused fs w (suc k) t is end kind offset m b)

@@ -1,24 +1,26 @@
-// Reading core types, core modules, instances, core instances, canonical functions and aliases.
+// Reading core types, core modules, instances, core instances, start functions, canonical functions and aliases.
 ghost use Rattle.std.specs.Prelude.{map, OnOk, IfErr};
-ghost use Rattle.wcv_syntax.specs.Model.{core_type_item, core_module_item, core_instance_item, instance_item, canon_item, alias_item};
+ghost use Rattle.wcv_core.specs.Limits.{max_list};
+ghost use Rattle.wcv_syntax.specs.Model.{core_type_item, core_module_item, core_instance_item, instance_item, start_item, canon_item, alias_item};
 ghost use Rattle.wcv_syntax.specs.View.{core_type_view, code_decl_view, core_instance_view, instance_view, canon_view};
-ghost use Rattle.wcv_state.specs.Promises.{Keeps};
+ghost use Rattle.wcv_lower.specs.Checks.{IsFree, too_many};
+ghost use Rattle.wcv_state.specs.Promises.{Keeps, MemoryOrCausedBy};
 ghost use Rattle.wcv_decls.specs.Stack.{IsOpen};
 ghost use Rattle.wcv_link.specs.Instances.{AllMayInstantiate};
 ghost use Rattle.wcv_link.specs.Progress.{IsReady, TakesItem, LeavesItem, AcceptsItem, RefusesItem};
 
 use crate::instantiate::Instantiate;
 use wcv_canon::Canon;
-use wcv_core::Error;
+use wcv_core::limits::MAX_LIST;
+use wcv_core::{Error, ErrorKind, Refusal, Why};
 use wcv_decls::{
     Declare, add_core_module_to, check_alias_limits, check_canon_limits,
     check_component_instance_limits, check_core_limits, check_core_module_limits,
     check_instance_limits,
 };
-use wcv_state::{ComponentState, check_form};
+use wcv_state::ComponentState;
 use wcv_syntax::{
-    AliasForm, CanonicalFunction, ComponentAlias, ComponentInstance, CoreType, Instance,
-    InstanceForm, ModuleDecl, is_built_alias, is_built_instance,
+    CanonicalFunction, ComponentAlias, ComponentInstance, CoreType, Instance, ModuleDecl,
 };
 use wcv_types::TypeAlloc;
 
@@ -82,13 +84,39 @@ pub fn read_instance(
     ensures err { IfErr result (LeavesItem types.old types.new state.old (instance_item (instance_view instance)) offset) }
     ensures keeps { Keeps types.old types.new state.old state.new }
 {
-    check_form(
-        is_built_instance(&instance),
-        InstanceForm(&instance),
-        offset,
-    )?;
     check_component_instance_limits(&instance, offset)?;
     state.add_instance(instance, types, offset)
+}
+
+/// Whether a start function takes no more arguments than there may be.
+fn check_start_limit(count: usize, offset: u64) -> Result<(), Refusal<'static>>
+    ensures ok { OnOk result (IsFree (too_many max_list count)) }
+    ensures err { IfErr result (MemoryOrCausedBy (too_many max_list count) offset) }
+{
+    if count > MAX_LIST {
+        let why = Why::new("start function has %1 arguments, at most %2 are allowed");
+        let why = why.numbers([count as u64, MAX_LIST as u64, 0]);
+        return Err(Error::new(ErrorKind::Limit, offset, why));
+    }
+    Ok(())
+}
+
+/// Reads a start function.
+pub fn read_start(
+    func_index: u32,
+    args: Vec<u32>,
+    results: u32,
+    state: &mut ComponentState,
+    types: &TypeAlloc,
+    offset: u64,
+) -> Result<(), Error>
+    requires { IsOpen types.now state.old }
+    ensures ok { OnOk result (TakesItem types.now types.now state.old state.new (start_item func_index args.items results)) }
+    ensures err { IfErr result (LeavesItem types.now types.now state.old (start_item func_index args.items results) offset) }
+    ensures keeps { Keeps types.now types.now state.old state.new }
+{
+    check_start_limit(args.len(), offset)?;
+    state.add_start(func_index, args.as_slice(), results, types, offset)
 }
 
 /// Reads a canonical function.
@@ -118,7 +146,6 @@ pub fn read_alias(
     ensures ok { OnOk result (AcceptsItem types.old types.new components.old.items components.new.items (alias_item alias)) }
     ensures err { IfErr result (RefusesItem types.old types.new components.old.items (alias_item alias) offset) }
 {
-    check_form(is_built_alias(&alias), AliasForm(&alias), offset)?;
     check_alias_limits(&alias, offset)?;
     ComponentState::add_alias(components.as_mut_slice(), alias, types, offset)
 }

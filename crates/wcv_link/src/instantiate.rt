@@ -39,13 +39,15 @@ pub trait Instantiate: Sized {
         ensures err { IfErr result (λ e. (outer : List Tree_context) (p : Place) → Refuses types.old types.new outer p (contents self.old) (contents self.new) (core_instance_item (core_instance_view instance)) offset e) }
         ensures keeps { Keeps types.old types.new (contents self.old) (contents self.new) };
 
-    /// One more instance: of a component, whose imports the arguments open, or one that lists items. Refuses what mentions a
-    /// value as `Unbuilt`, an index that is not below the length of its space as `OutOfBounds`, arguments that do not open
-    /// the imports as `Mismatch`, a name of arguments that stands twice as `Conflict`, a type that is written beside a listed
-    /// item as `Shape`, the names of listed items as `add_export` does where no resource has a name, and more instances,
-    /// or a larger or deeper one, than there may be as `Limit`. Arguments that the component does not ask for are looked up,
-    /// and passed over. What the component defines is new in the instance, and is defined here, without a representation.
-    /// The lengths of lists and of texts are left to the caller. After an error the state is spent.
+    /// One more instance: of a component, whose imports the arguments open, or one that lists items. The values among
+    /// the arguments, or among the listed items, are used from here on. Refuses an index that is not below the length of its
+    /// space as `OutOfBounds`, a value without its feature as `Feature`, one that is used already or named twice as `Value`,
+    /// one with a borrowed handle that is listed as `Borrow`, arguments that do not open the imports as `Mismatch`, a name
+    /// of arguments that stands twice as `Conflict`, a type that is written beside a listed item as `Shape`, the names of
+    /// listed items as `add_export` does where no resource has a name, and more instances, or a larger or deeper one, than
+    /// there may be as `Limit`. Arguments that the component does not ask for are looked up, and passed over; values among
+    /// them count as used. What the component defines is new in the instance, and is defined here, without a
+    /// representation. The lengths of lists and of texts are left to the caller. After an error the state is spent.
     fn add_instance(
         &mut self,
         instance: ComponentInstance,

@@ -17,6 +17,7 @@ use Rattle.wcv_core.specs.Limits.{max_size}
 use Rattle.wcv_core.specs.declared.features.WasmFeatures.{WasmFeatures}
 use Rattle.wcv_lower.specs.Checks.{Checks, IsFree, if_found, is_none, missing, is_other, no_room, same_sort}
 use Rattle.wcv_lower.specs.Context.{Context, Stack, in_types, in_instances, in_components, core_types, core_modules, is_concrete, at_distance, counts}
+use Rattle.wcv_lower.specs.Values.{kind_checks}
 use Rattle.wcv_lower.specs.Mapped.{Map, Commutes, IsKnown, map_entries, map_context, map_stack, map_change, map_step}
 use Rattle.wcv_lower.specs.Readers.{Reader, sort_of, if_sort, first_named}
 use Rattle.wcv_lower.specs.Step.{Step, charges}
@@ -58,7 +59,7 @@ module _ {X Y : Reader} (m : Map X Y) {Known : X.Entry → Type 0} (law : Commut
 
   joined-mapped : (o : Option X.Entry) → ((x : X.Entry) → o ≡ Some x → Known x) → option_map joining (option_map m.entry o) ≡ option_map (map_step m) (option_map joining o)
   joined-mapped None h = refl
-  joined-mapped (Some x) h = ap Some (joining-mapped m law x (h x refl))
+  joined-mapped (Some x) h = ap Some (joining-mapped m law false x (h x refl))
 
   export_alias_step-mapped : (c : Context X) → IsKnown Known c → (w : ComponentExternalKind) (i : ℕ) (n : Text) → export_alias_step (map_context m c) w i n ≡ option_map (map_step m) (export_alias_step c w i n)
   export_alias_step-mapped c h w i n =
@@ -154,7 +155,7 @@ module _ {X Y : Reader} (m : Map X Y) {Known : X.Entry → Type 0} (law : Commut
   alias_step-mapped s h (alias.Outer w n i) = outer_step-mapped s w n i
 
   pub alias_checks-mapped : (fs : WasmFeatures) (s : Stack X) → IsKnown Known s.top → (a : ComponentAlias) → alias_checks fs (map_stack m s) a ≡ alias_checks fs s a
-  alias_checks-mapped fs s h (alias.InstanceExport w i n) = export_alias_checks-mapped s.top h w i n
+  alias_checks-mapped fs s h (alias.InstanceExport w i n) = ap (λ (cs : Checks). kind_checks fs w ++ cs) (export_alias_checks-mapped s.top h w i n)
   alias_checks-mapped fs s h (alias.CoreInstanceExport w i n) = core_alias_checks-mapped m law fs s.top w i n
   alias_checks-mapped fs s h (alias.Outer w n i) = outer_checks-mapped s w n i
 
@@ -175,7 +176,8 @@ module _ (X : Reader) where
       let o : Option X.Entry = instance_at s.top i in
       let found : Checks = if_found (λ x. named_checks X (sort_named w) (export_of X n x)) o in
       let room : Checks = no_room (counts s.top) (sort_named w) in
+      let g = free_right (kind_checks fs w) (export_alias_checks s.top w i n) h in
       mapped joining (option_and_then (if_sort X (sort_named w)) (option_and_then (export_of X n) o))
-      (export_there (sort_named w) n o (free_left (missing o) (found ++ room) h.1) (free_left found room (free_right (missing o) (found ++ room) h.1)))
+      (export_there (sort_named w) n o (free_left (missing o) (found ++ room) g.1) (free_left found room (free_right (missing o) (found ++ room) g.1)))
   alias_does fs s (alias.CoreInstanceExport w i n) h = core_alias_does X fs s.top w i n h
   alias_does fs s (alias.Outer w n i) h = mapped (λ x. charged s w n x ++ outer_joins w x) (outer_at s w n i) (some_there (outer_at s w n i) h.1.0)

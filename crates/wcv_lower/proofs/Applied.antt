@@ -6,9 +6,9 @@ use Rattle.wcv_core.specs.Names.{Name}
 use Rattle.wcv_types.specs.Tree.{Extern_name}
 use Rattle.wcv_types.specs.Unfold.{Type_tree}
 use Rattle.wcv_types.proofs.Lists.{some-inj}
-use Rattle.wcv_lower.specs.Context.{Side, importing, exporting, Space, Core_space, same_space, same_core_space, same_side, joined, at_distance, push, push_core, enlist, introduce, define, name_types, charge, type_slots}
+use Rattle.wcv_lower.specs.Context.{Side, importing, exporting, Space, Core_space, same_space, same_core_space, same_side, joined, at_distance, push, push_core, enlist, introduce, define, name_types, charge, type_slots, mark, name_start}
 use Rattle.wcv_lower.specs.Owned.{AllEntries, Everywhere, IsOwn}
-use Rattle.wcv_lower.specs.Step.{Change, appends, lists, introduces, defines, creates, core_appends, interns, charges, types_slots, Step, on_top, change_at, on_outer, change, apply}
+use Rattle.wcv_lower.specs.Step.{Change, appends, lists, introduces, defines, creates, core_appends, interns, charges, types_slots, marks_value, uses_value, names_start, Step, on_top, change_at, use_value, on_outer, change, apply}
 use Rattle.wcv_lower.specs.Trees.{tree_reader, Tree_context, Tree_stack}
 use Rattle.wcv_lower.proofs.Bringing.{Brings, AllBring}
 use Rattle.wcv_lower.proofs.Members.{introduced_own, defines_own}
@@ -76,6 +76,15 @@ module _ (P : Type_tree → Type 0) (New : Name → Type 0) where
   change_has (types_slots v) s h w =
       let a = h zero s.top refl in
       top_has (type_slots v) s h (record { core = a.core; space = a.space; side = a.side })
+  change_has (marks_value b) s h w =
+      let a = h zero s.top refl in
+      top_has (mark b) s h (record { core = a.core; space = a.space; side = a.side })
+  change_has (uses_value k) s h w =
+      let a = h zero s.top refl in
+      top_has (use_value k) s h (record { core = a.core; space = a.space; side = a.side })
+  change_has names_start s h w =
+      let a = h zero s.top refl in
+      top_has name_start s h (record { core = a.core; space = a.space; side = a.side })
 
   pub applied_has : (p : Step tree_reader) (s : Tree_stack) → Everywhere P s → AllBring P New p → Everywhere P (apply p s)
   applied_has [] s h a = h
@@ -116,6 +125,9 @@ module _ (P : Type_tree → Type 0) (New : Name → Type 0) where
   change_own (interns gs) s w j d e = (d, e, λ r o. inl o)
   change_own (charges k n) s w j d e = outer_own k n s j d e
   change_own (types_slots v) s w j d e = top_own (type_slots v) s (λ r o. inl o) j d e
+  change_own (marks_value b) s w j d e = top_own (mark b) s (λ r o. inl o) j d e
+  change_own (uses_value k) s w j d e = top_own (use_value k) s (λ r o. inl o) j d e
+  change_own names_start s w j d e = top_own name_start s (λ r o. inl o) j d e
 
   pub applied_own : (p : Step tree_reader) (s : Tree_stack) → AllBring P New p → (j : ℕ) (d : Tree_context) → at_distance j (apply p s) ≡ Some d → StoodAt s j d
   applied_own [] s a j d e = (d, e, λ r o. inl o)

@@ -1,5 +1,5 @@
 -- What steps bring: entries that have what those of the context have, and resources by the names of their place.
-use Rattle.std.proofs.Common.{◌≡◌, ℕ, List, [], ◌∷◌, map, refl, subst, Bool, true, false, cond, Some, None}
+use Rattle.std.proofs.Common.{◌≡◌, ℕ, List, [], ◌∷◌, ◌++◌, map, refl, subst, Bool, true, false, cond, Some, None}
 use Rattle.std.specs.Prelude.{Option, All, not, slice_get}
 use Rattle.std.specs.List.{list_all}
 use Rattle.std.specs.Option.{option_map, option_and_then}
@@ -29,16 +29,17 @@ use Rattle.wcv_types.specs.Tree.{Text, Extern_name, Role, Sort, is_nothing, is_v
 use Rattle.wcv_types.specs.FirstPath.{first_path}
 use Rattle.wcv_types.specs.Unfold.{Type_tree}
 use Rattle.wcv_lower.specs.Checks.{is_none, same_sort}
-use Rattle.wcv_lower.specs.Context.{Side, importing, exporting, in_types, in_funcs, in_values, in_instances, in_components, Core_space, core_types, core_modules, core_instances, is_concrete, type_at}
+use Rattle.wcv_lower.specs.Context.{Side, importing, exporting, in_types, in_funcs, in_values, in_instances, in_components, Core_space, core_types, core_modules, core_instances, is_concrete, type_at, same_side}
 use Rattle.wcv_lower.specs.CoreInstances.{space_of, core_module_at, core_instance_at, item_listed, items_listed, listed_size, core_instance_made, instance_joins, core_instance_step, core_export_of, if_of, item_joins, core_alias_step}
 use Rattle.wcv_lower.specs.CoreItems.{core_entries, is_closable, types_join, closed_step, module_joins, core_type_made, core_type_step, core_module_made, core_module_step}
 use Rattle.wcv_lower.specs.Defined.{former, written_parts, handle_index, made_of, defined_made}
-use Rattle.wcv_lower.specs.Entries.{extern_name, module_type_at, again_brought, written, items_of, exported_at, exported_as, exported_by, exported, import_step, export_step}
+use Rattle.wcv_lower.specs.Entries.{extern_name, module_type_at, again_brought, written, items_of, exported_at, exported_as, exported_by, exported, import_step, export_step, exported_values}
+use Rattle.wcv_lower.specs.Marks.{uses_each, using}
 use Rattle.wcv_lower.specs.Names.{Names, Origin, introduced, again}
 use Rattle.wcv_lower.specs.NewTypes.{path_or_none}
 use Rattle.wcv_lower.specs.Owned.{AllEntries}
 use Rattle.wcv_lower.specs.Readers.{New_node, func_node, defined_node, module_node, core_instance_node, core_exports_node, if_sort, Maker}
-use Rattle.wcv_lower.specs.Step.{Change, appends, lists, introduces, defines, creates, core_appends, interns, charges, types_slots, Step, Brought, bare, joins, enters, joins_types}
+use Rattle.wcv_lower.specs.Step.{Change, appends, lists, introduces, defines, creates, core_appends, interns, charges, types_slots, marks_value, uses_value, names_start, Step, Brought, bare, joins, enters, joins_types}
 use Rattle.wcv_lower.specs.Trees.{tree_reader, Tree_context, Tree_stack, node_tree, tree_maker, referenced, created}
 use Rattle.wcv_lower.specs.Types.{func_parts, func_made, added, type_step}
 use Rattle.wcv_lower.specs.Values.{type_of_sort, resource_at, value_entry, option_entry, Written_parts, behind, parts_entries}
@@ -104,6 +105,9 @@ Brings P New (creates d is) = Unit {0}
 Brings P New (interns gs) = Unit {0}
 Brings P New (charges k n) = Unit {0}
 Brings P New (types_slots v) = Unit {0}
+Brings P New (marks_value b) = Unit {0}
+Brings P New (uses_value k) = Unit {0}
+Brings P New names_start = Unit {0}
 
 abbrev pub AllBring : (Type_tree → Type 0) → (Name → Type 0) → Step tree_reader → Type 0
 AllBring P New p = All (Brings P New) p
@@ -118,19 +122,27 @@ module _ (P : Type_tree → Type 0) (New : Name → Type 0) where
   pub brings_more : (x : Change tree_reader) (p : Step tree_reader) → Brings P New x → AllBring P New p → AllBring P New (x ∷ p)
   brings_more x p w v = All-cons B x p w v
 
+  pub uses_bring : (ks : List ℕ) (p : Step tree_reader) → AllBring P New p → AllBring P New (uses_each ks ++ p)
+  uses_bring [] p w = w
+  uses_bring (k ∷ ks) p w = brings_more (uses_value k) (uses_each ks ++ p) tt (uses_bring ks p w)
+
+  -- values may be used before
+  pub using_brings : (ks : List ℕ) (o : Option (Step tree_reader)) → OfAny (AllBring P New) o → OfAny (AllBring P New) (using ks o)
+  using_brings ks o w = any_mapped (AllBring P New) (AllBring P New) (λ p. uses_each ks ++ p) (uses_bring ks) o w
+
 module _ {P : Type_tree → Type 0} {In : Parts Name Name → Type 0} (law : Inherited P In) (New : Name → Type 0) where
-  pub joins_bring : (s : Sort) (x : Type_tree) → P x → AllBring P New (joins tree_reader s x)
-  joins_bring is_func x w = brings_one P New (appends in_funcs x) w
-  joins_bring is_value x w = brings_one P New (appends in_values x) w
-  joins_bring is_instance x w = brings_one P New (appends in_instances x) w
-  joins_bring is_component x w = brings_one P New (appends in_components x) w
-  joins_bring is_type x w = brings_one P New (appends in_types (created x)) (created_has law x w)
-  joins_bring is_module x w = brings_one P New (core_appends core_modules x) w
-  joins_bring is_resource x w = All-nil (Brings P New)
-  joins_bring is_nothing x w = All-nil (Brings P New)
-  joins_bring is_core_instance x w = All-nil (Brings P New)
-  joins_bring is_core_type x w = All-nil (Brings P New)
-  joins_bring is_core_item x w = All-nil (Brings P New)
+  pub joins_bring : (used : Bool) (s : Sort) (x : Type_tree) → P x → AllBring P New (joins tree_reader used s x)
+  joins_bring used is_func x w = brings_one P New (appends in_funcs x) w
+  joins_bring used is_value x w = brings_more P New (appends in_values x) (marks_value used ∷ []) w (brings_one P New (marks_value used) tt)
+  joins_bring used is_instance x w = brings_one P New (appends in_instances x) w
+  joins_bring used is_component x w = brings_one P New (appends in_components x) w
+  joins_bring used is_type x w = brings_one P New (appends in_types (created x)) (created_has law x w)
+  joins_bring used is_module x w = brings_one P New (core_appends core_modules x) w
+  joins_bring used is_resource x w = All-nil (Brings P New)
+  joins_bring used is_nothing x w = All-nil (Brings P New)
+  joins_bring used is_core_instance x w = All-nil (Brings P New)
+  joins_bring used is_core_type x w = All-nil (Brings P New)
+  joins_bring used is_core_item x w = All-nil (Brings P New)
 
   -- an entity that has it, with resources that have theirs
   abbrev pub BroughtOf : Brought tree_reader → Type 0
@@ -138,9 +150,9 @@ module _ {P : Type_tree → Type 0} {In : Parts Name Name → Type 0} (law : Inh
 
   pub enters_bring : (d : Side) (n : Extern_name) (b : Brought tree_reader) → BroughtOf b → AllBring P New (enters d n b)
   enters_bring d n b w =
-      let last : Step tree_reader = joins tree_reader (sort b.entity) b.entity in
+      let last : Step tree_reader = joins tree_reader (same_side d exporting) (sort b.entity) b.entity in
       let named : Step tree_reader = creates d (tree_reader.creates b.entity) ∷ last in
-      brings_more P New (introduces d b.resources) (lists d n b.entity ∷ named) w.1 (brings_more P New (lists d n b.entity) named w.0 (brings_more P New (creates d (tree_reader.creates b.entity)) last tt (joins_bring (sort b.entity) b.entity w.0)))
+      brings_more P New (introduces d b.resources) (lists d n b.entity ∷ named) w.1 (brings_more P New (lists d n b.entity) named w.0 (brings_more P New (creates d (tree_reader.creates b.entity)) last tt (joins_bring (same_side d exporting) (sort b.entity) b.entity w.0)))
 
   -- one that introduces none
   bare_of : (x : Type_tree) → P x → BroughtOf (bare tree_reader x)
@@ -211,7 +223,7 @@ module _ {P : Type_tree → Type 0} {In : Parts Name Name → Type 0} (law : Inh
       written_has (ref.Component k) = any_mapped P BroughtOf (bare tree_reader) bare_of (type_of_sort is_component c k) (of_sort_has is_component k)
       written_has (ref.Ty (bounds.Eq k)) = any_mapped P BroughtOf (again_brought mk) again_of (type_at c k) (type_has k)
       written_has (ref.Ty bounds.SubResource) = (reference_has law names p, All-cons (λ (r : Name × List ℕ). New r.0) (mk.resource, []) [] (fresh (introduced p)) (All-nil (λ (r : Name × List ℕ). New r.0)))
-      written_has (ref.Value v) = tt
+      written_has (ref.Value v) = any_mapped P BroughtOf (bare tree_reader) bare_of (value_entry c v) (value_has v)
 
       exported_as_has : (k : ComponentExternalKind) (x : Type_tree) → P x → BroughtOf (exported_as mk k x)
       exported_as_has kind.Ty x w = again_of (referenced x) (referenced_has law x w)
@@ -246,7 +258,9 @@ module _ {P : Type_tree → Type 0} {In : Parts Name Name → Type 0} (law : Inh
       imports_bring i = any_mapped BroughtOf (AllBring P New) (enters importing (extern_name i.name)) (enters_bring importing (extern_name i.name)) (written mk c i.ty) (written_has i.ty)
 
       pub exports_bring : (e : ComponentExport) → OfAny (AllBring P New) (export_step mk c e)
-      exports_bring e = any_mapped BroughtOf (AllBring P New) (enters exporting (extern_name e.name)) (enters_bring exporting (extern_name e.name)) (exported mk c e) (exported_has e)
+      exports_bring e =
+          using_brings P New (exported_values e) (option_map (enters exporting (extern_name e.name)) (exported mk c e))
+          (any_mapped BroughtOf (AllBring P New) (enters exporting (extern_name e.name)) (enters_bring exporting (extern_name e.name)) (exported mk c e) (exported_has e))
 
       core_types_join : (is : List ℕ) → AllBring P New (types_join tree_reader is)
       core_types_join [] = All-nil (Brings P New)

@@ -44,7 +44,7 @@ module _ {P : Type_tree → Type 0} {In : Parts Name Name → Type 0} (law : Inh
     export_brings w i n =
         let found : OfAny P (option_and_then (export_of tree_reader n) (instance_at s.top i)) =
         any_then P P (export_of tree_reader n) (export_has n) (instance_at s.top i) (any_at P (s.top.space in_instances) i ((all zero s.top refl).space in_instances)) in
-        any_mapped P (AllBring P New) joining (λ x v. joins_bring law New (sort x) x v) (option_and_then (if_sort tree_reader (sort_named w)) (option_and_then (export_of tree_reader n) (instance_at s.top i)))
+        any_mapped P (AllBring P New) joining (λ x v. joins_bring law New false (sort x) x v) (option_and_then (if_sort tree_reader (sort_named w)) (option_and_then (export_of tree_reader n) (instance_at s.top i)))
         (any_then P P (if_sort tree_reader (sort_named w)) (λ x v. any_cond P (same_sort (sort_named w) (sort x)) x v) (option_and_then (export_of tree_reader n) (instance_at s.top i)) found)
 
     -- ## What stands further out

@@ -21,16 +21,18 @@ use Rattle.wcv_matching.specs.ModuleItems.{before}
 use Rattle.wcv_lower.specs.Checks.{Checks, IsFree, if_found, is_none, missing, has_repeat, no_room, same_sort, too_many}
 use Rattle.wcv_lower.specs.Context.{Context, Stack, in_types, in_funcs, in_values, in_instances, in_components, core_modules, counts}
 use Rattle.wcv_lower.specs.Entries.{extern_name}
-use Rattle.wcv_lower.specs.Instances.{component_at, item_at, argument_at, arguments, if_opened, opened, listed_at, listed, bag_made, instance_of_component, instance_of_items, instance_made, instance_joins, instance_step, size_checks, opening_checks, argument_names, shape_checks, borrow_checks, listed_checks, names_checks, instance_checks}
+use Rattle.wcv_lower.specs.Instances.{component_at, item_at, argument_at, arguments, if_opened, opened, listed_at, listed, bag_made, instance_of_component, instance_of_items, instance_made, instance_joins, instance_step, size_checks, opening_checks, argument_names, shape_checks, borrow_checks, listed_checks, argument_checks, names_checks, argument_values, listed_values, instance_values, made_checks, instance_checks}
 use Rattle.wcv_lower.specs.Mapped.{Map, Commutes, MakesSame, IsKnown, map_entries, map_named, map_context, map_stack, map_node, map_step, map_brought}
+use Rattle.wcv_lower.specs.Marks.{uses_each, use_checks}
 use Rattle.wcv_lower.specs.Readers.{Reader, Maker, Named, New_node, instance_node}
 use Rattle.wcv_lower.specs.Step.{Step, Brought, bare}
 use Rattle.wcv_lower.specs.Uses.{instance_uses}
+use Rattle.wcv_lower.specs.Values.{kind_checks}
 use Rattle.wcv_lower.proofs.Causes.{free_left, free_right}
 use Rattle.wcv_lower.proofs.CoreInstanceLaws.{all_true, some_there}
 use Rattle.wcv_lower.proofs.EndingLaws.{none-mapped}
 use Rattle.wcv_lower.proofs.EntryLaws.{items-mapped, written_checks-mapped}
-use Rattle.wcv_lower.proofs.Mapping.{mapped-square, missing-mapped, get-mapped, counts-mapped}
+use Rattle.wcv_lower.proofs.Mapping.{mapped-square, missing-mapped, using-mapped, get-mapped, lends-mapped, counts-mapped}
 use Rattle.wcv_lower.proofs.ValueLaws.{mapped, not-false}
 
 before-mapped : {K A B : Type 0} (f : A → B) (k : K) (o : Option A) (es : List (K × A)) → before k (option_map f o) (map (λ e. (e.0, f e.1)) es) ≡ map (λ e. (e.0, f e.1)) (before k o es)
@@ -119,7 +121,9 @@ module _ {X Y : Reader} (m : Map X Y) {Known : X.Entry → Type 0} (law : Commut
     instance_made-mapped s (bag es) u = ap (option_map (instance_of_items l)) (bag_made-mapped s.top es) ∙ items_made-mapped (bag_made s.top es) u.build
 
     pub instance_step-mapped : (s : Stack X) (i : Instance_form) → MakesSame m Known k l (instance_uses s i) → instance_step l (map_stack m s) i ≡ option_map (map_step m) (instance_step k s i)
-    instance_step-mapped s i u = ap (option_map instance_joins) (instance_made-mapped s i u) ∙ mapped-square (map_brought m) instance_joins instance_joins (map_step m) (λ b. refl) (instance_made k s i)
+    instance_step-mapped s i u =
+        using-mapped m law (instance_values i) (option_map instance_joins (instance_made k s i)) _
+        (ap (option_map instance_joins) (instance_made-mapped s i u) ∙ mapped-square (map_brought m) instance_joins instance_joins (map_step m) (λ b. refl) (instance_made k s i))
 
     -- ## Causes
 
@@ -133,16 +137,17 @@ module _ {X Y : Reader} (m : Map X Y) {Known : X.Entry → Type 0} (law : Commut
 
     borrow-mapped : (o : Option X.Entry) → ((x : X.Entry) → o ≡ Some x → Known x) → if_found (borrow_checks Y) (option_map m.entry o) ≡ if_found (borrow_checks X) o
     borrow-mapped None h = refl
-    borrow-mapped (Some x) h = λ j. (error.Borrow, same_sort is_value (law.sort x (h x refl) j) && law.contains borrow x j) ∷ []
+    borrow-mapped (Some x) h = λ j. (error.Borrow, lends-mapped m law x (h x refl) j) ∷ []
 
-    shape-mapped : (c : Context X) → IsKnown Known c → (o : Option ComponentTypeRef) → shape_checks (map_context m c) o ≡ shape_checks c o
-    shape-mapped c w None = refl
-    shape-mapped c w (Some r) = λ j. (error.Shape, true) ∷ written_checks-mapped m law c w r j
+    shape-mapped : (fs : WasmFeatures) (c : Context X) → IsKnown Known c → (o : Option ComponentTypeRef) → shape_checks fs (map_context m c) o ≡ shape_checks fs c o
+    shape-mapped fs c w None = refl
+    shape-mapped fs c w (Some r) = λ j. (error.Shape, true) ∷ written_checks-mapped m law fs c w r j
 
-    listed_checks-mapped : (c : Context X) → IsKnown Known c → (e : ComponentExport) → listed_checks (map_context m c) e ≡ listed_checks c e
-    listed_checks-mapped c w e = λ j.
-        item_missing-mapped c e.kind e.index j
-        ++ (shape-mapped c w e.ty j ++ (ap (if_found (borrow_checks Y)) (item_at-mapped c e.kind e.index) ∙ borrow-mapped (listed_at c e) (λ x q. item_known c w e.kind e.index x q)) j)
+    listed_checks-mapped : (fs : WasmFeatures) (c : Context X) → IsKnown Known c → (e : ComponentExport) → listed_checks fs (map_context m c) e ≡ listed_checks fs c e
+    listed_checks-mapped fs c w e = λ j.
+        kind_checks fs e.kind
+        ++ (item_missing-mapped c e.kind e.index j
+        ++ (shape-mapped fs c w e.ty j ++ (ap (if_found (borrow_checks Y)) (item_at-mapped c e.kind e.index) ∙ borrow-mapped (listed_at c e) (λ x q. item_known c w e.kind e.index x q)) j))
 
     names-mapped : (fs : WasmFeatures) (es xs : Named X) → names_checks Y fs (map_entries m.entry es) (map_entries m.entry xs) ≡ names_checks X fs es xs
     names-mapped fs es [] = refl
@@ -150,31 +155,34 @@ module _ {X Y : Reader} (m : Map X Y) {Known : X.Entry → Type 0} (law : Commut
         law.bare_name_checks fs es x.0 x.1 j
         ++ (ap (λ (ys : Named Y). names_checks Y fs ys (map_entries m.entry xs)) (sym (map-append (λ (e : Extern_name × X.Entry). (e.0, m.entry e.1)) es (x ∷ []))) ∙ names-mapped fs (es ++ x ∷ []) xs) j
 
-    pub instance_checks-mapped : (fs : WasmFeatures) (s : Stack X) → IsKnown Known s.top → (i : Instance_form) → MakesSame m Known k l (instance_uses s i) → instance_checks fs l (map_stack m s) i ≡ instance_checks fs k s i
-    instance_checks-mapped fs s w (instantiate i args) u =
+    made_checks-mapped : (fs : WasmFeatures) (s : Stack X) → IsKnown Known s.top → (i : Instance_form) → MakesSame m Known k l (instance_uses s i) → made_checks fs l (map_stack m s) i ≡ made_checks fs k s i
+    made_checks-mapped fs s w (instantiate i args) u =
         let found : if_found (opening_checks Y s.groups (arguments (map_context m s.top) args)) (component_at (map_context m s.top) i) ≡ if_found (opening_checks X s.groups (arguments s.top args)) (component_at s.top i) =
         (λ j. if_found (opening_checks Y s.groups (arguments-mapped s.top args j)) (component_at-mapped s.top i j)) ∙ opening-mapped s.groups (arguments s.top args) (component_at s.top i) in
         let size : if_found size_checks (instance_made l (map_stack m s) (instantiate i args)) ≡ if_found size_checks (instance_made k s (instantiate i args)) =
         ap (if_found size_checks) (instance_made-mapped s (instantiate i args) u) ∙ sizes-mapped (instance_made k s (instantiate i args)) in
         λ j. (ap missing (component_at-mapped s.top i) ∙ missing-mapped m.entry (component_at s.top i)) j
-        ++ (all_checks (λ (a : ComponentInstantiationArg). item_missing-mapped s.top a.kind a.index j) args
+        ++ (all_checks (λ (a : ComponentInstantiationArg). kind_checks fs a.kind ++ item_missing-mapped s.top a.kind a.index j) args
         ++ (found j ++ ((error.Conflict, has_repeat (argument_names args)) ∷ (size j ++ no_room (counts-mapped m law s.top j) is_instance))))
-    instance_checks-mapped fs s w (bag es) u =
+    made_checks-mapped fs s w (bag es) u =
         let named : names_checks Y fs [] (listed (map_context m s.top) es) ≡ names_checks X fs [] (listed s.top es) = ap (names_checks Y fs []) (listed-mapped s.top es) ∙ names-mapped fs [] (listed s.top es) in
         let size : if_found size_checks (instance_made l (map_stack m s) (bag es)) ≡ if_found size_checks (instance_made k s (bag es)) = ap (if_found size_checks) (instance_made-mapped s (bag es) u) ∙ sizes-mapped (instance_made k s (bag es)) in
-        λ j. all_checks (λ (e : ComponentExport). listed_checks-mapped s.top w e j) es ++ (named j ++ (size j ++ no_room (counts-mapped m law s.top j) is_instance))
+        λ j. all_checks (λ (e : ComponentExport). listed_checks-mapped fs s.top w e j) es ++ (named j ++ (size j ++ no_room (counts-mapped m law s.top j) is_instance))
+
+    pub instance_checks-mapped : (fs : WasmFeatures) (s : Stack X) → IsKnown Known s.top → (i : Instance_form) → MakesSame m Known k l (instance_uses s i) → instance_checks fs l (map_stack m s) i ≡ instance_checks fs k s i
+    instance_checks-mapped fs s w i u = ap (λ (cs : Checks). use_checks s.top (instance_values i) ++ cs) (made_checks-mapped fs s w i u)
 
 -- ## Without a cause
 
 module _ (X : Reader) where
-  pub opening_there : (s : Stack X) (i : ℕ) (args : List ComponentInstantiationArg) → IsFree (missing (component_at s.top i)) → IsFree (all_checks (λ (a : ComponentInstantiationArg). missing (argument_at s.top a)) args) →
+  pub opening_there : (fs : WasmFeatures) (s : Stack X) (i : ℕ) (args : List ComponentInstantiationArg) → IsFree (missing (component_at s.top i)) → IsFree (all_checks (argument_checks fs s.top) args) →
       IsFree (if_found (opening_checks X s.groups (arguments s.top args)) (component_at s.top i)) → (x : X.Entry) × (component_at s.top i ≡ Some x) × (opened s i args ≡ Some (arguments s.top args, x)) × (X.opens s.groups (arguments s.top args) x ≡ true)
-  opening_there s i args h g w =
+  opening_there fs s i args h g w =
       let x = some_there (component_at s.top i) h.0 in
       let found : IsFree (opening_checks X s.groups (arguments s.top args) x.0) = subst (λ (o : Option X.Entry). IsFree (if_found (opening_checks X s.groups (arguments s.top args)) o)) x.1 w in
       let open_it : X.opens s.groups (arguments s.top args) x.0 ≡ true = not-false (X.opens s.groups (arguments s.top args) x.0) found.0 in
       let there : list_all (λ (a : ComponentInstantiationArg). not (is_none (argument_at s.top a))) args ≡ true = all_true
-      (λ (a : ComponentInstantiationArg). missing (argument_at s.top a)) (λ (a : ComponentInstantiationArg). not (is_none (argument_at s.top a))) (λ a f. ap not f.0) args g in (
+      (argument_checks fs s.top) (λ (a : ComponentInstantiationArg). not (is_none (argument_at s.top a))) (λ a f. ap not (free_right (kind_checks fs a.kind) (missing (argument_at s.top a)) f).0) args g in (
         x.0,
         x.1,
         (λ j. cond (there j) (option_and_then (if_opened X s.groups (arguments s.top args)) (x.1 j)) None) ∙ ap (λ (b : Bool). cond b (Some (arguments s.top args, x.0)) None) open_it,
@@ -186,16 +194,17 @@ module _ (X : Reader) where
       (x : X.Entry) × (component_at s.top i ≡ Some x) × (opened s i args ≡ Some (arguments s.top args, x)) × (X.opens s.groups (arguments s.top args) x ≡ true)
   opening_looked fs mk s i args h =
       let o : Option X.Entry = component_at s.top i in
-      let each : Checks = all_checks (λ (a : ComponentInstantiationArg). missing (argument_at s.top a)) args in
+      let each : Checks = all_checks (argument_checks fs s.top) args in
       let found : Checks = if_found (opening_checks X s.groups (arguments s.top args)) o in
       let rest : Checks = (error.Conflict, has_repeat (argument_names args)) ∷ (if_found size_checks (instance_made mk s (instantiate i args)) ++ no_room (counts s.top) is_instance) in
-      opening_there s i args (free_left (missing o) (each ++ (found ++ rest)) h) (free_left each (found ++ rest) (free_right (missing o) (each ++ (found ++ rest)) h))
-      (free_left found rest (free_right each (found ++ rest) (free_right (missing o) (each ++ (found ++ rest)) h)))
+      let g : IsFree (made_checks fs mk s (instantiate i args)) = free_right (use_checks s.top (argument_values args)) (made_checks fs mk s (instantiate i args)) h in
+      opening_there fs s i args (free_left (missing o) (each ++ (found ++ rest)) g) (free_left each (found ++ rest) (free_right (missing o) (each ++ (found ++ rest)) g))
+      (free_left found rest (free_right each (found ++ rest) (free_right (missing o) (each ++ (found ++ rest)) g)))
 
-  bag_there : (c : Context X) (es : List ComponentExport) → IsFree (all_checks (listed_checks c) es) → (n : New_node X) × (bag_made c es ≡ Some n)
-  bag_there c es h =
+  bag_there : (fs : WasmFeatures) (c : Context X) (es : List ComponentExport) → IsFree (all_checks (listed_checks fs c) es) → (n : New_node X) × (bag_made c es ≡ Some n)
+  bag_there fs c es h =
       let there : list_all (λ (e : ComponentExport). not (is_none (listed_at c e))) es ≡ true = all_true
-      (listed_checks c) (λ (e : ComponentExport). not (is_none (listed_at c e))) (λ e f. ap not f.0) es h in
+      (listed_checks fs c) (λ (e : ComponentExport). not (is_none (listed_at c e))) (λ e f. ap not (free_right (kind_checks fs e.kind) (missing (listed_at c e) ++ (shape_checks fs c e.ty ++ if_found (borrow_checks X) (listed_at c e))) f).0) es h in
       (of_items X (listed c es), ap (λ (b : Bool). cond b (Some (of_items X (listed c es))) None) there)
 
   made_there : (fs : WasmFeatures) (mk : Maker X) (s : Stack X) (i : Instance_form) → IsFree (instance_checks fs mk s i) → (b : Brought X) × (instance_made mk s i ≡ Some b)
@@ -204,7 +213,8 @@ module _ (X : Reader) where
       (mk.instantiate (arguments s.top args) w.0, ap (option_map (instance_of_component mk)) w.2)
   made_there fs mk s (bag es) h =
       let rest : Checks = names_checks X fs [] (listed s.top es) ++ (if_found size_checks (instance_made mk s (bag es)) ++ no_room (counts s.top) is_instance) in
-      mapped (instance_of_items mk) (bag_made s.top es) (bag_there s.top es (free_left (all_checks (listed_checks s.top) es) rest h))
+      mapped (instance_of_items mk) (bag_made s.top es)
+      (bag_there fs s.top es (free_left (all_checks (listed_checks fs s.top) es) rest (free_right (use_checks s.top (listed_values es)) (made_checks fs mk s (bag es)) h)))
 
   pub instance_does : (fs : WasmFeatures) (mk : Maker X) (s : Stack X) (i : Instance_form) → IsFree (instance_checks fs mk s i) → (p : Step X) × (instance_step mk s i ≡ Some p)
-  instance_does fs mk s i h = mapped instance_joins (instance_made mk s i) (made_there fs mk s i h)
+  instance_does fs mk s i h = mapped (λ (p : Step X). uses_each (instance_values i) ++ p) (option_map instance_joins (instance_made mk s i)) (mapped instance_joins (instance_made mk s i) (made_there fs mk s i h))

@@ -6,7 +6,6 @@ use Rattle.std.proofs.Math.Nat.{suc_inj}
 use Rattle.wcv_core.specs.Names.{Place, deeper}
 use Rattle.wcv_core.specs.declared.features.WasmFeatures.{WasmFeatures}
 use Rattle.wcv_core.proofs.Names.{and_left, and_right}
-use Rattle.wcv_syntax.specs.Built.{is_built_type, is_built_decl, are_built, is_built_inside, are_built_inside}
 use Rattle.wcv_syntax.specs.Model.{core_type_item, type_item, import_item, Type_form, defined_type, func_type, component_type, instance_type, resource_type, Decl, core_type_decl, type_decl, alias_decl, export_decl, import_decl, Decls, no_decls, declare}
 use Rattle.wcv_lower.specs.Aliases.{alias_step}
 use Rattle.wcv_lower.specs.Checks.{Checks, IsFree, no_type_room}
@@ -17,7 +16,7 @@ use Rattle.wcv_lower.specs.Ending.{declared_made, declared_end_checks}
 use Rattle.wcv_lower.specs.Entries.{extern_name, written, written_checks, import_step}
 use Rattle.wcv_lower.specs.Growth.{step}
 use Rattle.wcv_lower.specs.Readers.{Reader}
-use Rattle.wcv_lower.specs.Step.{Change, appends, lists, introduces, defines, creates, core_appends, interns, charges, types_slots, Step, change_at, change, apply, enters}
+use Rattle.wcv_lower.specs.Step.{Change, appends, lists, introduces, defines, creates, core_appends, interns, charges, types_slots, marks_value, uses_value, names_start, Step, change_at, change, apply, enters}
 use Rattle.wcv_lower.specs.Types.{type_step}
 use Rattle.std.proofs.lemmas.Bool.{false≢true}
 use Rattle.wcv_lower.proofs.AliasLaws.{alias_does}
@@ -49,6 +48,9 @@ module _ {X : Reader} where
   change-outer (charges zero n) s = refl
   change-outer (charges (suc k) n) s = change_at-length k (charge n) s.outer
   change-outer (types_slots v) s = refl
+  change-outer (marks_value b) s = refl
+  change-outer (uses_value k) s = refl
+  change-outer names_start s = refl
 
   apply-outer : (p : Step X) (s : Stack X) → length (apply p s).outer ≡ length s.outer
   apply-outer [] s = refl
@@ -71,20 +73,6 @@ module _ {X : Reader} where
       go : (cs : List (Context X)) → length cs ≡ suc n → (u : Stack X) × (around (record s { outer = cs }) ≡ Some u)
       go [] e = cc
       go (c ∷ cs) e = (record { top = c; outer = cs; groups = s.groups }, refl)
-
--- ## What is built
-
--- a declaration of an instance type that is built
-decl_built : (d : Decl) → is_built_inside d ≡ true → is_built_decl d ≡ true
-decl_built (core_type_decl t) b = b
-decl_built (type_decl t) b = b
-decl_built (alias_decl a) b = b
-decl_built (export_decl n r) b = b
-decl_built (import_decl i) b = absurd (false≢true b)
-
-pub inside_built : (ds : Decls) → are_built_inside ds ≡ true → are_built ds ≡ true
-inside_built no_decls b = refl
-inside_built (declare d ds) b = (λ j. decl_built d (and_left _ _ b) j && inside_built ds (and_right _ _ b) j)
 
 module _ (X : Reader) (fs : WasmFeatures) (mk : Makers X) where
   pub ended-outer : (c : Kind) (p : Place) (s u : Stack X) → ended c (mk p) s ≡ Some u → length s.outer ≡ suc (length u.outer)
@@ -141,29 +129,29 @@ module _ (X : Reader) (fs : WasmFeatures) (mk : Makers X) where
 
   mutual
     -- where there is no cause, what is read is there
-    pub type_there : (limited : Bool) (p : Place) (s : Stack X) (t : Type_form) → is_built_type t ≡ true → IsFree (declared_checks limited fs mk p s t) → (u : Stack X) × (read_type fs mk p s t ≡ Some u)
-    type_there limited p s (component_type ds) b h =
-        declared_there declares_component p s ds (decls_there p 0 declares_component (inside declares_component s) ds b (free_left _ (no_type_room limited (counts s.top)) (free_right (full_stack s) _ h)))
-    type_there limited p s (instance_type ds) b h =
-        declared_there declares_instance p s ds (decls_there p 0 declares_instance (inside declares_instance s) ds (inside_built ds b) (free_left _ (no_type_room limited (counts s.top)) (free_right (full_stack s) _ h)))
-    type_there limited p s (defined_type d) b h = applied_there s (type_step (mk p) s.top (defined_type d)) (type_does X fs (mk p) s limited (defined_type d) b h)
-    type_there limited p s (func_type f) b h = applied_there s (type_step (mk p) s.top (func_type f)) (type_does X fs (mk p) s limited (func_type f) b h)
-    type_there limited p s (resource_type rep dtor) b h = applied_there s (type_step (mk p) s.top (resource_type rep dtor)) (type_does X fs (mk p) s limited (resource_type rep dtor) b h)
+    pub type_there : (limited : Bool) (p : Place) (s : Stack X) (t : Type_form) → IsFree (declared_checks limited fs mk p s t) → (u : Stack X) × (read_type fs mk p s t ≡ Some u)
+    type_there limited p s (component_type ds) h =
+        declared_there declares_component p s ds (decls_there p 0 declares_component (inside declares_component s) ds (free_left _ (no_type_room limited (counts s.top)) (free_right (full_stack s) _ h)))
+    type_there limited p s (instance_type ds) h =
+        declared_there declares_instance p s ds (decls_there p 0 declares_instance (inside declares_instance s) ds (free_left _ (no_type_room limited (counts s.top)) (free_right (full_stack s) _ h)))
+    type_there limited p s (defined_type d) h = applied_there s (type_step (mk p) s.top (defined_type d)) (type_does X fs (mk p) s limited (defined_type d) refl h)
+    type_there limited p s (func_type f) h = applied_there s (type_step (mk p) s.top (func_type f)) (type_does X fs (mk p) s limited (func_type f) refl h)
+    type_there limited p s (resource_type rep dtor) h = applied_there s (type_step (mk p) s.top (resource_type rep dtor)) (type_does X fs (mk p) s limited (resource_type rep dtor) refl h)
 
-    decl_there : (p : Place) (s : Stack X) (d : Decl) → is_built_decl d ≡ true → IsFree (decl_checks fs mk p s d) → (u : Stack X) × (read_decl fs mk p s d ≡ Some u)
-    decl_there p s (core_type_decl t) b h = applied_there s (core_type_step fs (mk p) s t) (core_type_does X fs (mk p) s t h)
-    decl_there p s (type_decl t) b h = type_there true p s t b h
-    decl_there p s (alias_decl a) b h = applied_there s (alias_step s a) (alias_does X fs s a h)
-    decl_there p s (export_decl n r) b h =
+    decl_there : (p : Place) (s : Stack X) (d : Decl) → IsFree (decl_checks fs mk p s d) → (u : Stack X) × (read_decl fs mk p s d ≡ Some u)
+    decl_there p s (core_type_decl t) h = applied_there s (core_type_step fs (mk p) s t) (core_type_does X fs (mk p) s t h)
+    decl_there p s (type_decl t) h = type_there true p s t h
+    decl_there p s (alias_decl a) h = applied_there s (alias_step s a) (alias_does X fs s a h)
+    decl_there p s (export_decl n r) h =
         applied_there s (declared_export_step (mk p) s.top n r)
-        (mapped (enters exporting (extern_name n)) (written (mk p) s.top r) (written_there X (mk p) s.top r b (free_looked X fs exporting (extern_name n) s.top (written_checks s.top r) (written (mk p) s.top r) h)))
-    decl_there p s (import_decl i) b h = applied_there s (import_step (mk p) s.top i) (import_does X fs (mk p) s.top i b h)
+        (mapped (enters exporting (extern_name n)) (written (mk p) s.top r) (written_there X fs (mk p) s.top r (free_looked X fs exporting (extern_name n) s.top (written_checks fs s.top r) (written (mk p) s.top r) h)))
+    decl_there p s (import_decl i) h = applied_there s (import_step (mk p) s.top i) (import_does X fs (mk p) s.top i h)
 
-    decls_there : (p : Place) (n : ℕ) (c : Kind) (s : Stack X) (ds : Decls) → are_built ds ≡ true → IsFree (decls_checks fs mk p n c s ds) → (u : Stack X) × (read_decls fs mk p n s ds ≡ Some u) × IsFree (declared_end_checks c u.top)
-    decls_there p n c s no_decls b h = (s, refl, h)
-    decls_there p n c s (declare d ds) b h =
+    decls_there : (p : Place) (n : ℕ) (c : Kind) (s : Stack X) (ds : Decls) → IsFree (decls_checks fs mk p n c s ds) → (u : Stack X) × (read_decls fs mk p n s ds ≡ Some u) × IsFree (declared_end_checks c u.top)
+    decls_there p n c s no_decls h = (s, refl, h)
+    decls_there p n c s (declare d ds) h =
         let own : Checks = decl_checks fs mk (deeper p n) s d in
         let rest : Checks = on_read (λ t. decls_checks fs mk p (suc n) c t ds) (read_decl fs mk (deeper p n) s d) in
-        let t = decl_there (deeper p n) s d (and_left _ _ b) (free_left own rest h) in
-        let u = decls_there p (suc n) c t.0 ds (and_right _ _ b) (subst (λ (o : Option (Stack X)). IsFree (on_read (λ t. decls_checks fs mk p (suc n) c t ds) o)) t.1 (free_right own rest h)) in
+        let t = decl_there (deeper p n) s d (free_left own rest h) in
+        let u = decls_there p (suc n) c t.0 ds (subst (λ (o : Option (Stack X)). IsFree (on_read (λ t. decls_checks fs mk p (suc n) c t ds) o)) t.1 (free_right own rest h)) in
         (u.0, ap (option_and_then (λ t. read_decls fs mk p (suc n) t ds)) t.1 ∙ u.1, u.2)

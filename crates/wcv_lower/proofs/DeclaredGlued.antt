@@ -165,10 +165,10 @@ module _ (fs : WasmFeatures) (p : Place) where
         free_both (full_stack s) (own ++ room) x (free_both own room (subst IsFree (sym (all_checks k s ds)) y) z)
 
   -- calls that read the declarations, and then give the type a name, read the type
-  pub instance_read : (limited : Bool) (s u v : Tree_stack) (ds : Decls) (a m b : Numbers) (own : GivenNames) → IsFree (full_stack s) → DeclsRead fs p 0 (inside declares_instance s) ds u a m →
+  pub instance_read : (limited : Bool) (s u v : Tree_stack) (ds : Decls) (a m b : Numbers) (own : GivenNames) → IsFree (full_stack s) → DeclsRead fs p 0 (inside declares_instance s) ds u a m → IsFree (declared_end_checks declares_instance u.top) →
       IsFree (no_type_room limited (counts s.top)) → AtMost m b → GivesAt (λ q. q ≡ p) m b own → ended declares_instance (tree_maker (names_of own) p) u ≡ Some v → TypeRead limited fs p s (instance_type ds) v a b
-  instance_read limited s u v ds a m b own x r z l h e =
-      let each = decls_read 0 declares_instance (inside declares_instance s) u ds a m r tt in
+  instance_read limited s u v ds a m b own x r f z l h e =
+      let each = decls_read 0 declares_instance (inside declares_instance s) u ds a m r f in
       let l₀ : AtMost a m = most_read fs p 0 (inside declares_instance s) u ds a m r in (
         both_given each.0 own,
         all_given_at a m b l₀ l each.0 own each.1 h,

@@ -85,7 +85,7 @@ module _ {X Y : Reader} (m : Map X Y) {Known : X.Entry → Type 0} (law : Commut
   export_step-mapped p c w n r u = entering m law exporting (extern_name n) (written (k p) c r) _ (written-mapped m law (k p) (l p) c w r u) (written_known m law (k p) (l p) c w r u)
 
   export_checks-mapped : (p : Place) (c : Context X) → IsKnown Known c → (n : ComponentExternName) (r : ComponentTypeRef) → MakesSame m Known (k p) (l p) (ref_uses c r) → declared_export_checks fs (l p) (map_context m c) n r ≡ declared_export_checks fs (k p) c n r
-  export_checks-mapped p c w n r u = entry_checks-mapped m law fs exporting (extern_name n) c _ (written_checks c r) (written (k p) c r) _ (written_checks-mapped m law c w r) (written-mapped m law (k p) (l p) c w r u) (written_known m law (k p) (l p) c w r u)
+  export_checks-mapped p c w n r u = entry_checks-mapped m law fs exporting (extern_name n) c _ (written_checks fs c r) (written (k p) c r) _ (written_checks-mapped m law fs c w r) (written-mapped m law (k p) (l p) c w r u) (written_known m law (k p) (l p) c w r u)
 
   -- at the end of declarations the makers make the same of the node
   end_alike : (p : Place) (n : ℕ) (c : Kind) (s : Stack X) (ds : Decls) → DeclsAlike m Known fs k l p n c s ds → (t : Stack X) → read_decls fs k p n s ds ≡ Some t → MakesSame m Known (k p) (l p) (uses_node (declared_made c t.top))

@@ -1,15 +1,18 @@
 -- The type at an end and its causes under a map of entries; where no cause stands there, there is one.
-use Rattle.std.proofs.Common.{◌≡◌, ℕ, List, [], ◌∷◌, map, refl, sym, ◌∙◌, ap, Bool, true, false, cond, ◌||◌, Some, None}
-use Rattle.std.specs.Prelude.{Option}
+use Rattle.std.proofs.Common.{◌≡◌, ℕ, List, [], ◌∷◌, ◌++◌, map, refl, sym, ◌∙◌, ap, Bool, true, false, cond, ◌||◌, Some, None}
+use Rattle.std.specs.Prelude.{Option, not}
 use Rattle.std.specs.Option.{option_map, option_and_then}
 use Rattle.std.proofs.lemmas.Bool.{false≢true}
 use Rattle.wcv_core.specs.declared.core_types.ValType.{ValType}
 use Rattle.wcv_core.specs.declared.error.ErrorKind.TheVariants as kind
 use Rattle.wcv_lower.specs.Checks.{IsFree, is_none}
 use Rattle.wcv_lower.specs.Context.{Kind, concrete, declares_instance, declares_component, Context, importing, exporting}
-use Rattle.wcv_lower.specs.Ending.{is_free_among, any_free, keep, kept, component_of, component_made, type_at_end, end_checks, instance_made, declared_made, declared_end_checks}
+use Rattle.wcv_lower.specs.Defined.{is_empty}
+use Rattle.wcv_lower.specs.Ending.{is_free_among, any_free, keep, kept, component_of, component_made, type_at_end, end_checks, component_end_checks, instance_made, declared_made, declared_end_checks}
 use Rattle.wcv_lower.specs.Mapped.{Map, Commutes, map_entries, map_paths, map_defined, map_context, map_node}
 use Rattle.wcv_lower.specs.Readers.{Reader, Named, New_node, instance_node}
+use Rattle.wcv_lower.specs.Marks.{unused_checks}
+use Rattle.wcv_lower.proofs.Causes.{free_right}
 use Rattle.wcv_lower.proofs.Mapping.{mapped-square}
 
 pub none-mapped : {A B : Type 0} (f : A → B) (o : Option A) → is_none (option_map f o) ≡ is_none o
@@ -62,6 +65,9 @@ module _ {X Y : Reader} (m : Map X Y) {Known : X.Entry → Type 0} (law : Commut
       (kind.ResourceScope, any_free-mapped c.defined (c.side importing) j)
       ∷ (kind.ResourceScope, (ap is_none (kept-mapped c.defined (c.side exporting)) ∙ none-mapped (map_paths m.resource) (kept X c.defined (c.side exporting))) j) ∷ []
 
+  pub component_end_checks-mapped : (c : Context X) → component_end_checks (map_context m c) ≡ component_end_checks c
+  component_end_checks-mapped c = λ j. unused_checks c ++ end_checks-mapped c j
+
   -- ## Declared types
 
   own-mapped : (ds : List (X.Resource × Option ValType)) → map (λ d. d.0) (map_defined m ds) ≡ map m.resource (map (λ d. d.0) ds)
@@ -73,10 +79,14 @@ module _ {X Y : Reader} (m : Map X Y) {Known : X.Entry → Type 0} (law : Commut
   declared_made-mapped declares_component c = component_made-mapped c
   declared_made-mapped concrete c = component_made-mapped c
 
+  empty-mapped : (es : Named X) → is_empty (map_entries m.entry es) ≡ is_empty es
+  empty-mapped [] = refl
+  empty-mapped (e ∷ es) = refl
+
   pub declared_end_checks-mapped : (k : Kind) (c : Context X) → declared_end_checks k (map_context m c) ≡ declared_end_checks k c
-  declared_end_checks-mapped declares_instance c = refl
+  declared_end_checks-mapped declares_instance c = λ j. (kind.Shape, not (empty-mapped (c.side importing) j)) ∷ []
   declared_end_checks-mapped declares_component c = end_checks-mapped c
-  declared_end_checks-mapped concrete c = end_checks-mapped c
+  declared_end_checks-mapped concrete c = component_end_checks-mapped c
 
 -- ## Without a cause
 
@@ -96,4 +106,4 @@ has_type build c h =
 pub has_node : {X : Reader} (k : Kind) (c : Context X) → IsFree (declared_end_checks k c) → (n : New_node X) × (declared_made k c ≡ Some n)
 has_node declares_instance c h = (instance_made c, refl)
 has_node declares_component c h = component_there c h
-has_node concrete c h = component_there c h
+has_node concrete c h = component_there c (free_right (unused_checks c) (end_checks c) h)

@@ -28,7 +28,8 @@ use Rattle.wcv_matching.proofs.PassSame.{and_left, and_right, sorts-decide}
 use Rattle.wcv_matching.proofs.SameHeights.{Fine, entity_tall, same_height}
 use Rattle.wcv_lower.specs.Checks.{is_none}
 use Rattle.wcv_lower.specs.Even.{Heights, GoesBy, IsEven}
-use Rattle.wcv_lower.specs.Instances.{component_at, argument_at, arguments, if_opened, opened, instance_of_component, instance_made, instance_joins, instance_step}
+use Rattle.wcv_lower.specs.Instances.{component_at, argument_at, arguments, if_opened, opened, instance_of_component, instance_made, instance_joins, argument_values, instance_step}
+use Rattle.wcv_lower.specs.Marks.{uses_each}
 use Rattle.wcv_matching.specs.GivenTypes.{given_by, given_in, given_for}
 use Rattle.wcv_lower.specs.Instantiated.{opening}
 use Rattle.wcv_lower.specs.Names.{Names}
@@ -268,7 +269,8 @@ module _ (w : Heights) (names : Names) (p : Place) (s t : Tree_stack) (i : ℕ) 
   arguments_open : tree_reader.opens s.groups (arguments s.top args) c ≡ true
   arguments_open =
       let x = map-some (λ y. apply y s) (instance_step (tree_maker names p) s (instantiate i args)) t e in
-      let y = map-some instance_joins (instance_made (tree_maker names p) s (instantiate i args)) x.0 x.1 in
+      let u = map-some (λ q. uses_each (argument_values args) ++ q) (option_map instance_joins (instance_made (tree_maker names p) s (instantiate i args))) x.0 x.1 in
+      let y = map-some instance_joins (instance_made (tree_maker names p) s (instantiate i args)) u.0 u.1 in
       let z = map-some (instance_of_component (tree_maker names p)) (opened s i args) y.0 y.1 in
       opened_opens s i args z.0 z.1 c q
 

@@ -8,7 +8,6 @@ use Rattle.wcv_core.specs.Limits.{max_list}
 use Rattle.wcv_core.specs.Names.{Place, deeper}
 use Rattle.wcv_core.specs.declared.features.WasmFeatures.{WasmFeatures}
 use Rattle.wcv_core.proofs.Places.{under-refl}
-use Rattle.wcv_syntax.specs.Built.{is_built_type}
 use Rattle.wcv_syntax.specs.Model.{Form, Type_form, type_item, component_item, Items, no_items, next_item}
 use Rattle.wcv_types.specs.Tree.{is_component}
 use Rattle.wcv_types.proofs.Lists.{some-inj}
@@ -16,7 +15,7 @@ use Rattle.wcv_lower.specs.Checks.{IsFree, too_many, no_room}
 use Rattle.wcv_lower.specs.Context.{concrete, Stack}
 use Rattle.wcv_lower.specs.Declared.{Makers, inside, ended, declared_checks, declared_left}
 use Rattle.wcv_lower.specs.DeclaredCalls.{FromDecl}
-use Rattle.wcv_lower.specs.Growth.{step, grow, checks, unbuilt}
+use Rattle.wcv_lower.specs.Growth.{is_plain, step, grow, checks}
 use Rattle.wcv_lower.specs.Items.{read_item, read_items, item_count, item_causes, EndsFree}
 use Rattle.wcv_lower.specs.Mapped.{map_stack}
 use Rattle.wcv_lower.specs.Names.{Names, Under, AreRenamed, SameNames}
@@ -55,7 +54,7 @@ module _ (n m : Names) (p : Place) (h : SameNames (Under p) n m) (fs : WasmFeatu
   read_item-agrees f = made_same fs (tree_maker n) (tree_maker m) p s f makers
 
   pub item_causes-agree : (f : Form) → item_causes fs (tree_maker m) p s f ≡ item_causes fs (tree_maker n) p s f
-  item_causes-agree (type_item t) = λ j. cond (is_built_type t) (declared_checks-agree fs (tree_maker n) (tree_maker m) true p s t makers j ++ declared_left t) unbuilt
+  item_causes-agree (type_item t) = λ j. declared_checks-agree fs (tree_maker n) (tree_maker m) true p s t makers j ++ declared_left t
   item_causes-agree (component_item is end) = refl
   item_causes-agree f = λ j. checks fs (makers p (under-refl p) j) s f
 
@@ -82,7 +81,7 @@ module _ (w : Renaming) (n m : Names) (p : Place) (r : AreRenamed (Under p) w.re
   read_item-renamed f = renamed w n m fs p r s f
 
   pub item_causes-renamed : (f : Form) → item_causes fs (tree_maker m) p (map_stack (renaming w) s) f ≡ item_causes fs (tree_maker n) p s f
-  item_causes-renamed (type_item t) = λ j. cond (is_built_type t) (declared_checks-renamed w n m fs p r true s t j ++ declared_left t) unbuilt
+  item_causes-renamed (type_item t) = λ j. declared_checks-renamed w n m fs p r true s t j ++ declared_left t
   item_causes-renamed (component_item is end) =
       λ j. full-mapped (renaming w) (renaming_commutes w) fs (tree_maker n) (tree_maker m) s j ++ (no_room (counts-mapped (renaming w) (renaming_commutes w) s.top j) is_component ++ too_many max_list (item_count is))
   item_causes-renamed f = checks-renamed w n m p r fs s f
@@ -108,17 +107,10 @@ module _ (X : Reader) (fs : WasmFeatures) (mk : Makers X) where
 -- ## Without a cause
 
 module _ (n : Names) (p : Place) (fs : WasmFeatures) (s : Tree_stack) where
-  declared_there : (t : Type_form) → IsFree (item_causes fs (tree_maker n) p s (type_item t)) → (u : Tree_stack) × (read_item fs (tree_maker n) p s (type_item t) ≡ Some u)
-  declared_there t free = go (is_built_type t) refl free
-    where
-      go : (b : Bool) → is_built_type t ≡ b → IsFree (cond b (declared_checks true fs (tree_maker n) p s t ++ declared_left t) unbuilt) → (u : Tree_stack) × (read_item fs (tree_maker n) p s (type_item t) ≡ Some u)
-      go false e h = absurd (false≢true (sym h.0))
-      go true e h = type_there tree_reader fs (tree_maker n) true p s t e (free_left (declared_checks true fs (tree_maker n) p s t) (declared_left t) h)
-
   -- where there is no cause, and none at the end of a component, the item is read
   pub item_there : (f : Form) → IsFree (item_causes fs (tree_maker n) p s f) → EndsFree fs (tree_maker n) p s f → (u : Tree_stack) × (read_item fs (tree_maker n) p s f ≡ Some u)
-  item_there (type_item t) h w = declared_there t h
+  item_there (type_item t) h w = type_there tree_reader fs (tree_maker n) true p s t (free_left (declared_checks true fs (tree_maker n) p s t) (declared_left t) h)
   item_there (component_item is end) h w =
       let v = ended_there tree_reader fs (tree_maker n) concrete p s w.0 (read_items-outer tree_reader fs (tree_maker n) p 0 (inside concrete s) w.0 is w.1) w.2 in
       (v.0, ap (option_and_then (ended concrete (tree_maker n p))) w.1 ∙ v.1)
-  item_there f h w = grows fs (tree_maker n p) s f h
+  item_there f h w = grows fs (tree_maker n p) s f refl h

@@ -9,6 +9,7 @@ use Rattle.wcv_lower.specs.Growth.{step}
 use Rattle.wcv_lower.specs.Names.{Names, Origin}
 use Rattle.wcv_lower.specs.Owned.{AllEntries, Everywhere}
 use Rattle.wcv_lower.specs.Trees.{Tree_stack, tree_maker}
+use Rattle.wcv_lower.proofs.StartsBring.{starts_bring}
 use Rattle.wcv_lower.proofs.Bringing.{OfAny, AllBring, types_bring, imports_bring, exports_bring, core_types_bring, core_modules_bring, core_instances_bring}
 use Rattle.wcv_lower.proofs.BroughtByAliases.{aliases_bring}
 use Rattle.wcv_lower.proofs.CanonsBring.{canons_bring}
@@ -34,7 +35,7 @@ module _ {P : Type_tree → Type 0} {In : Parts Name Name → Type 0} (law : Inh
   items_bring fs (component_item is n) keep = tt
   items_bring fs (instance_item i) keep = instances_bring law New names p fresh s top i keep
   items_bring fs (alias_item a) keep = aliases_bring law New s all a
-  items_bring fs (start_item a b c) keep = tt
+  items_bring fs (start_item f args n) keep = starts_bring law New s.top top f args
   items_bring fs (canon_item c) keep = canons_bring law New s top c
 
   kept_item : KeptWhereGiven P → (f : Form) → ItemKeeps f

@@ -7,17 +7,20 @@ use Rattle.std.proofs.lemmas.Option.{slice_get-map}
 use Rattle.wcv_core.specs.declared.core_types.ValType.{ValType}
 use Rattle.wcv_core.specs.declared.error.ErrorKind.TheVariants as kind
 use Rattle.wcv_core.specs.declared.features.WasmFeatures.{WasmFeatures}
+use Rattle.wcv_types.specs.Abi.{borrow}
 use Rattle.wcv_types.specs.Tree.{Extern_name, Sort, is_nothing, is_value, is_resource, is_func, is_instance, is_component, is_type, is_module, is_core_instance, is_core_type, is_core_item}
 use Rattle.wcv_types.proofs.Each.{length-mapped}
 use Rattle.wcv_types.proofs.Lists.{some-inj}
 use Rattle.wcv_lower.proofs.Joined.{map-joined}
+use Rattle.wcv_lower.proofs.MarkLaws.{uses-mapped}
 use Rattle.wcv_lower.specs.Checks.{missing, missing_of, same_sort, bad_entity}
 use Rattle.wcv_lower.specs.Context.{Context, Stack, Space, in_types, Core_space, Side, importing, exporting, asks_names, same_space, same_core_space, same_side, joined, names_for, counts, push, push_core, enlist, placed, unknown, introduce, define, with_named, name_types, charge, type_at}
 use Rattle.wcv_types.specs.Positions.{is_there}
 use Rattle.wcv_lower.specs.Mapped.{Map, Commutes, IsKnown, map_entries, map_paths, map_defined, map_context, map_stack, map_change, map_step, map_brought}
-use Rattle.wcv_lower.specs.Entries.{entity_checks}
+use Rattle.wcv_lower.specs.Entries.{lends, lent, entity_checks}
+use Rattle.wcv_lower.specs.Marks.{using}
 use Rattle.wcv_lower.specs.Readers.{Reader, sort_of, if_sort, weight}
-use Rattle.wcv_lower.specs.Step.{Change, appends, lists, introduces, defines, creates, core_appends, interns, charges, types_slots, Step, on_top, change_at, on_outer, change, apply, Brought, joins, enters}
+use Rattle.wcv_lower.specs.Step.{Change, appends, lists, introduces, defines, creates, core_appends, interns, charges, types_slots, marks_value, uses_value, names_start, Step, on_top, change_at, on_outer, change, apply, Brought, joins, enters}
 
 -- two ways around a square, over what there is
 pub mapped-square : {A B C D : Type 0} (p : A → B) (v : B → D) (u : A → C) (q : C → D) → ((x : A) → v (p x) ≡ q (u x)) → (o : Option A) → option_map v (option_map p o) ≡ option_map q (option_map u o)
@@ -105,29 +108,39 @@ module _ {X Y : Reader} (m : Map X Y) {Known : X.Entry → Type 0} (law : Commut
   change-mapped (interns gs) s = refl
   change-mapped (charges k n) s = outer-mapped k n s
   change-mapped (types_slots v) s = refl
+  change-mapped (marks_value b) s = refl
+  change-mapped (uses_value k) s = refl
+  change-mapped names_start s = refl
 
   pub apply-mapped : (p : Step X) (s : Stack X) → apply (map_step m p) (map_stack m s) ≡ map_stack m (apply p s)
   apply-mapped [] s = refl
   apply-mapped (x ∷ p) s = ap (apply (map_step m p)) (change-mapped x s) ∙ apply-mapped p (change x s)
 
-  pub joins-mapped : (o : Sort) (x : X.Entry) → joins Y o (m.entry x) ≡ map_step m (joins X o x)
-  joins-mapped is_func x = refl
-  joins-mapped is_value x = refl
-  joins-mapped is_instance x = refl
-  joins-mapped is_component x = refl
-  joins-mapped is_type x = ap (λ (y : Y.Entry). appends in_types y ∷ []) (law.created x)
-  joins-mapped is_resource x = refl
-  joins-mapped is_nothing x = refl
-  joins-mapped is_module x = refl
-  joins-mapped is_core_instance x = refl
-  joins-mapped is_core_type x = refl
-  joins-mapped is_core_item x = refl
+  pub using-mapped : (ks : List ℕ) (o : Option (Step X)) (q : Option (Step Y)) → q ≡ option_map (map_step m) o → using ks q ≡ option_map (map_step m) (using ks o)
+  using-mapped ks o q e = ap (using ks) e ∙ go o
+    where
+      go : (o : Option (Step X)) → using ks (option_map (map_step m) o) ≡ option_map (map_step m) (using ks o)
+      go None = refl
+      go (Some p) = ap Some (uses-mapped m ks p)
 
-  pub joining-mapped : (x : X.Entry) → Known x → joins Y (sort_of Y (m.entry x)) (m.entry x) ≡ map_step m (joins X (sort_of X x) x)
-  joining-mapped x h = ap (λ (o : Sort). joins Y o (m.entry x)) (law.sort x h) ∙ joins-mapped (sort_of X x) x
+  pub joins-mapped : (used : Bool) (o : Sort) (x : X.Entry) → joins Y used o (m.entry x) ≡ map_step m (joins X used o x)
+  joins-mapped used is_func x = refl
+  joins-mapped used is_value x = refl
+  joins-mapped used is_instance x = refl
+  joins-mapped used is_component x = refl
+  joins-mapped used is_type x = ap (λ (y : Y.Entry). appends in_types y ∷ []) (law.created x)
+  joins-mapped used is_resource x = refl
+  joins-mapped used is_nothing x = refl
+  joins-mapped used is_module x = refl
+  joins-mapped used is_core_instance x = refl
+  joins-mapped used is_core_type x = refl
+  joins-mapped used is_core_item x = refl
+
+  pub joining-mapped : (used : Bool) (x : X.Entry) → Known x → joins Y used (sort_of Y (m.entry x)) (m.entry x) ≡ map_step m (joins X used (sort_of X x) x)
+  joining-mapped used x h = ap (λ (o : Sort). joins Y used o (m.entry x)) (law.sort x h) ∙ joins-mapped used (sort_of X x) x
 
   pub enters-mapped : (s : Side) (n : Extern_name) (b : Brought X) → Known b.entity → enters s n (map_brought m b) ≡ map_step m (enters s n b)
-  enters-mapped s n b h = λ j. introduces s (map_paths m.resource b.resources) ∷ lists s n (m.entry b.entity) ∷ creates s (law.creates b.entity j) ∷ joining-mapped b.entity h j
+  enters-mapped s n b h = λ j. introduces s (map_paths m.resource b.resources) ∷ lists s n (m.entry b.entity) ∷ creates s (law.creates b.entity j) ∷ joining-mapped (same_side s exporting) b.entity h j
 
   -- ## What is looked up
 
@@ -180,6 +193,12 @@ module _ {X Y : Reader} (m : Map X Y) {Known : X.Entry → Type 0} (law : Commut
   weight-mapped : (x : X.Entry) → Known x → weight Y (m.entry x) ≡ weight X x
   weight-mapped x h = λ j. record { sort = law.sort x h j; size = law.size x j; depth = law.depth x j }
 
+  pub lends-mapped : (x : X.Entry) → Known x → lends Y (m.entry x) ≡ lends X x
+  lends-mapped x h = λ j. same_sort is_value (law.sort x h j) && law.contains borrow x j
+
+  lent-mapped : (s : Side) (x : X.Entry) → Known x → lent Y s (m.entry x) ≡ lent X s x
+  lent-mapped s x h = λ j. (kind.Borrow, same_side s exporting && lends-mapped x h j) ∷ []
+
   pub entity_checks-mapped : (fs : WasmFeatures) (s : Side) (n : Extern_name) (c : Context X) (x : X.Entry) → Known x → entity_checks fs s n (map_context m c) (m.entry x) ≡ entity_checks fs s n c x
   entity_checks-mapped fs s n c x h = λ j.
-      law.name_checks fs (c.side s) n x j ++ (bad_entity (counts-mapped c j) (weight-mapped x h j) ++ ((kind.Unnamed, asks_names c.kind && not (law.is_named c.named s x j)) ∷ []))
+      law.name_checks fs (c.side s) n x j ++ (bad_entity (counts-mapped c j) (weight-mapped x h j) ++ (((kind.Unnamed, asks_names c.kind && not (law.is_named c.named s x j)) ∷ []) ++ lent-mapped s x h j))

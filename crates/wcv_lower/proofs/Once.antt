@@ -7,7 +7,7 @@ use Rattle.wcv_core.specs.Names.{Name, same, member}
 use Rattle.wcv_core.proofs.Names.{same-true, same-refl}
 use Rattle.wcv_lower.specs.Context.{importing, exporting}
 use Rattle.wcv_lower.specs.Owned.{own_resources, IsOwn, IsOnce}
-use Rattle.wcv_lower.specs.Step.{Change, appends, lists, introduces, defines, creates, core_appends, interns, charges, types_slots, Step, change, apply}
+use Rattle.wcv_lower.specs.Step.{Change, appends, lists, introduces, defines, creates, core_appends, interns, charges, types_slots, marks_value, uses_value, names_start, Step, change, apply}
 use Rattle.wcv_lower.specs.Trees.{tree_reader, Tree_context, Tree_stack}
 use Rattle.wcv_lower.proofs.Given.{or_left, or_right, not_so}
 use Rattle.wcv_lower.proofs.Members.{member_cases, member_left, member_right, placed_firsts, unknown_firsts, defined_firsts, names_in, imported_own, defined_own, introduced_own, defines_own}
@@ -50,6 +50,9 @@ change_names (core_appends k x) = []
 change_names (interns gs) = []
 change_names (charges k n) = []
 change_names (types_slots v) = []
+change_names (marks_value b) = []
+change_names (uses_value k) = []
+change_names names_start = []
 
 abbrev pub new_names : Step tree_reader → List Name
 new_names [] = []
@@ -73,6 +76,9 @@ change_cases (interns gs) s r o = inl o
 change_cases (charges zero n) s r o = inl o
 change_cases (charges (suc k) n) s r o = inl o
 change_cases (types_slots v) s r o = inl o
+change_cases (marks_value b) s r o = inl o
+change_cases (uses_value k) s r o = inl o
+change_cases names_start s r o = inl o
 
 -- and none twice
 module _ (c : Tree_context) (a : IsOnce (own_resources c)) (ns : List Name) (b : IsOnce ns) (d : (r : Name) → IsOwn c r → member r ns ≡ true → ⊥) where
@@ -108,6 +114,9 @@ change_once (interns gs) s a b d = a
 change_once (charges zero n) s a b d = a
 change_once (charges (suc k) n) s a b d = a
 change_once (types_slots v) s a b d = a
+change_once (marks_value v) s a b d = a
+change_once (uses_value k) s a b d = a
+change_once names_start s a b d = a
 
 pub applied_cases : (p : Step tree_reader) (s : Tree_stack) (r : Name) → IsOwn (apply p s).top r → IsOwn s.top r ⊎ (member r (new_names p) ≡ true)
 applied_cases [] s r o = inl o

@@ -22,7 +22,7 @@ use Rattle.wcv_types.specs.FirstPath.{first_path}
 use Rattle.wcv_types.specs.Tree.{Extern_name, Sort, is_nothing, is_value, is_resource, is_func, is_instance, is_component, is_type, is_module, is_core_instance, is_core_type, is_core_item, sort, owned, exports, node}
 use Rattle.wcv_types.specs.Unfold.{Type_tree}
 use Rattle.wcv_lower.specs.Aliases.{sort_named, instance_at, export_of, joining, outer_at, outer_joins, is_charged, concrete_at, charged, alias_step}
-use Rattle.wcv_lower.specs.Context.{Side, is_concrete, core_types, type_at}
+use Rattle.wcv_lower.specs.Context.{Side, is_concrete, core_types, type_at, exporting, same_side}
 use Rattle.wcv_lower.specs.CoreInstances.{core_instance_at, core_export_of, if_of, item_joins}
 use Rattle.wcv_lower.specs.CoreItems.{core_entries, is_closable, types_join, closed_step, module_joins, core_type_made, core_type_step}
 use Rattle.wcv_lower.specs.Defined.{defined_made}
@@ -34,7 +34,7 @@ use Rattle.wcv_lower.specs.Readers.{if_sort, Maker}
 use Rattle.wcv_lower.specs.Step.{Step, charges, defines, joins_types, Brought, bare, joins, enters}
 use Rattle.wcv_lower.specs.Trees.{tree_reader, Tree_context, Tree_stack, tree_maker}
 use Rattle.wcv_lower.specs.Types.{func_made, added, type_step}
-use Rattle.wcv_lower.specs.Values.{type_of_sort}
+use Rattle.wcv_lower.specs.Values.{type_of_sort, value_entry}
 use Rattle.wcv_lower.proofs.Bringing.{OfAny, any_mapped, any_cond, of_sort_has}
 use Rattle.wcv_lower.proofs.Given.{not_so, or_left, or_right}
 use Rattle.wcv_lower.proofs.Members.{names_in}
@@ -107,21 +107,21 @@ module _ (q : Place) where
 
   -- ## Steps
 
-  joins_quiet : (s : Sort) (x : Type_tree) → new_names (joins tree_reader s x) ≡ []
-  joins_quiet is_func x = refl
-  joins_quiet is_value x = refl
-  joins_quiet is_instance x = refl
-  joins_quiet is_component x = refl
-  joins_quiet is_type x = refl
-  joins_quiet is_module x = refl
-  joins_quiet is_resource x = refl
-  joins_quiet is_nothing x = refl
-  joins_quiet is_core_instance x = refl
-  joins_quiet is_core_type x = refl
-  joins_quiet is_core_item x = refl
+  joins_quiet : (used : Bool) (s : Sort) (x : Type_tree) → new_names (joins tree_reader used s x) ≡ []
+  joins_quiet used is_func x = refl
+  joins_quiet used is_value x = refl
+  joins_quiet used is_instance x = refl
+  joins_quiet used is_component x = refl
+  joins_quiet used is_type x = refl
+  joins_quiet used is_module x = refl
+  joins_quiet used is_resource x = refl
+  joins_quiet used is_nothing x = refl
+  joins_quiet used is_core_instance x = refl
+  joins_quiet used is_core_type x = refl
+  joins_quiet used is_core_item x = refl
 
   pub enters_once : (d : Side) (n : Extern_name) (b : Brought tree_reader) → BroughtOnce b → StepOnce (enters d n b)
-  enters_once d n b w = subst (AreMade q) (sym (ap (λ (xs : List Name). names_in b.resources ++ xs) (joins_quiet (sort b.entity) b.entity) ∙ append-nil (names_in b.resources))) w
+  enters_once d n b w = subst (AreMade q) (sym (ap (λ (xs : List Name). names_in b.resources ++ xs) (joins_quiet (same_side d exporting) (sort b.entity) b.entity) ∙ append-nil (names_in b.resources))) w
 
   bare_once : (x : Type_tree) → Unit {0} → BroughtOnce (bare tree_reader x)
   bare_once x w = none_made q
@@ -136,7 +136,7 @@ module _ (q : Place) where
     written_once (ref.Component k) = any_mapped (λ x. Unit {0}) BroughtOnce (bare tree_reader) bare_once (type_of_sort is_component c k) (any_is (type_of_sort is_component c k))
     written_once (ref.Ty (bounds.Eq k)) = any_mapped (λ x. Unit {0}) BroughtOnce (again_brought mk) (λ x w. none_made q) (type_at c k) (any_is (type_at c k))
     written_once (ref.Ty bounds.SubResource) = base_made
-    written_once (ref.Value v) = tt
+    written_once (ref.Value v) = any_mapped (λ x. Unit {0}) BroughtOnce (bare tree_reader) bare_once (value_entry c v) (any_is (value_entry c v))
 
     pub types_once : (t : Type_form) → OfAny StepOnce (type_step mk c t)
     types_once (defined_type d) = any_mapped (λ x. Unit {0}) StepOnce (added mk) (λ x w. none_made q) (defined_made c d) (any_is (defined_made c d))
@@ -172,7 +172,7 @@ module _ (q : Place) where
   pub aliases_once : (s : Tree_stack) (x : ComponentAlias) → OfAny StepOnce (alias_step s x)
   aliases_once s (alias.InstanceExport w i n) =
       let o : Option Type_tree = option_and_then (if_sort tree_reader (sort_named w)) (option_and_then (export_of tree_reader n) (instance_at s.top i)) in
-      any_mapped (λ x. Unit {0}) StepOnce joining (λ x v. quiet (joining x) (joins_quiet (sort x) x)) o (any_is o)
+      any_mapped (λ x. Unit {0}) StepOnce joining (λ x v. quiet (joining x) (joins_quiet false (sort x) x)) o (any_is o)
   aliases_once s (alias.CoreInstanceExport w i n) =
       let o : Option EntityType = option_and_then (if_of w) (option_and_then (core_export_of tree_reader n) (core_instance_at s.top i)) in
       any_mapped (λ (e : EntityType). Unit {0}) StepOnce (item_joins tree_reader w) (λ e v. none_made q) o (any_is o)

@@ -19,7 +19,7 @@ use Rattle.wcv_lower.specs.Growth.{step, grow}
 use Rattle.wcv_lower.specs.Names.{Names, names_by_place}
 use Rattle.wcv_lower.specs.Owned.{AllEntries, Everywhere, own_resources, IsOwn, IsOnce, OwnsOnce, IsMadeAt}
 use Rattle.wcv_lower.specs.Readers.{Maker}
-use Rattle.wcv_lower.specs.Step.{Change, appends, lists, introduces, defines, creates, core_appends, interns, charges, types_slots, Step, change, apply, enters}
+use Rattle.wcv_lower.specs.Step.{Change, appends, lists, introduces, defines, creates, core_appends, interns, charges, types_slots, marks_value, uses_value, names_start, Step, change, apply, enters}
 use Rattle.wcv_lower.specs.Trees.{tree_reader, Tree_context, Tree_stack, tree_maker, node_tree, type_entry}
 use Rattle.wcv_lower.specs.Types.{added}
 use Rattle.wcv_lower.proofs.Applied.{change_at_cases, applied_has}
@@ -50,6 +50,9 @@ change_outer (core_appends k x) s j d e = (d, e, refl, refl)
 change_outer (interns gs) s j d e = (d, e, refl, refl)
 change_outer (charges zero n) s j d e = (d, e, refl, refl)
 change_outer (types_slots v) s j d e = (d, e, refl, refl)
+change_outer (marks_value b) s j d e = (d, e, refl, refl)
+change_outer (uses_value k) s j d e = (d, e, refl, refl)
+change_outer names_start s j d e = (d, e, refl, refl)
 change_outer (charges (suc k) n) s j d e =
     let w = change_at_cases k (charge {X = tree_reader} n) s.outer j d e in
     go w.0 w.1 w.2

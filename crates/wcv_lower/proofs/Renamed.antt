@@ -22,10 +22,11 @@ use Rattle.wcv_types.proofs.AbiRenamed.{abi_size-rename, contains-rename}
 use Rattle.wcv_types.proofs.FirstPath.{path_from-renamed}
 use Rattle.wcv_types.proofs.IsFree.{is_free-renamed}
 use Rattle.wcv_matching.proofs.PassRenamed.{matches-renamed, opens-renamed}
+use Rattle.wcv_lower.specs.Checks.{same_sort}
 use Rattle.wcv_lower.specs.Context.{Side, importing, exporting, joined, names_for, with_named}
 use Rattle.wcv_lower.specs.Mapped.{Commutes, map_entries, map_paths}
 use Rattle.wcv_lower.specs.Renamed.{Renaming, renaming}
-use Rattle.wcv_lower.specs.Trees.{Entries, created, referenced, introduced_by, own_resources, creates, all_created, named_after, is_known, is_export_alone, entry_passes, exports_pass, refers_outside, has_free, any_free, core_entry, head_entry, primitive_of, type_entry}
+use Rattle.wcv_lower.specs.Trees.{Entries, created, referenced, introduced_by, own_resources, creates, all_created, named_after, is_known, is_export_alone, entry_passes, exports_pass, labelled, params, if_given, unlabelled, result, refers_outside, has_free, any_free, core_entry, head_entry, primitive_of, type_entry}
 use Rattle.wcv_lower.proofs.CoreItemsRenamed.{item-renamed, core_imports-renamed, core_exports-renamed}
 use Rattle.wcv_lower.proofs.EntryNameLaws.{name_checks-renamed, bare_name_checks-renamed}
 use Rattle.wcv_lower.proofs.Joined.{map-joined}
@@ -180,6 +181,41 @@ module _ (w : Renaming) where
         ap (λ (n : Side → List Identity). exports_pass n s (rename_parts f g ps)) (after-renamed named s t) ∙ exports_pass-renamed (named_after named s t) s ps in
         λ j. a j && b j
 
+  -- ## Functions
+
+  labelled-renamed : (ps : Parts Name Name) → labelled (rename_parts f g ps) ≡ map to (labelled ps)
+  labelled-renamed none = refl
+  labelled-renamed (part (label l) t ps) = ap (λ (ts : List Type_tree). to t ∷ ts) (labelled-renamed ps)
+  labelled-renamed (part here t ps) = labelled-renamed ps
+  labelled-renamed (part (import n) t ps) = labelled-renamed ps
+  labelled-renamed (part (export n) t ps) = labelled-renamed ps
+  labelled-renamed (part (core_import m n) t ps) = labelled-renamed ps
+  labelled-renamed (part (core_export n) t ps) = labelled-renamed ps
+
+  params-renamed : (t : Type_tree) → params (to t) ≡ map to (params t)
+  params-renamed (node (func i b) ps) = labelled-renamed ps
+  params-renamed _ = refl
+
+  given-renamed : (t : Type_tree) → if_given (to t) ≡ option_map to (if_given t)
+  given-renamed t = ap (λ (s : Sort). cond (same_sort is_nothing s) None (Some (to t))) (sort-renamed f g t) ∙ go (same_sort is_nothing (sort t))
+    where
+      go : (b : Bool) → cond b None (Some (to t)) ≡ option_map to (cond b None (Some t))
+      go true = refl
+      go _ = refl
+
+  unlabelled-renamed : (ps : Parts Name Name) → unlabelled (rename_parts f g ps) ≡ option_map to (unlabelled ps)
+  unlabelled-renamed none = refl
+  unlabelled-renamed (part here t ps) = given-renamed t
+  unlabelled-renamed (part (label l) t ps) = unlabelled-renamed ps
+  unlabelled-renamed (part (import n) t ps) = unlabelled-renamed ps
+  unlabelled-renamed (part (export n) t ps) = unlabelled-renamed ps
+  unlabelled-renamed (part (core_import m n) t ps) = unlabelled-renamed ps
+  unlabelled-renamed (part (core_export n) t ps) = unlabelled-renamed ps
+
+  result-renamed : (t : Type_tree) → result (to t) ≡ option_map to (result t)
+  result-renamed (node (func i b) ps) = unlabelled-renamed ps
+  result-renamed _ = refl
+
   -- ## Free resources
 
   pub member-renamed : (r : Name) (rs : List Name) → member (f r) (map f rs) ≡ member r rs
@@ -246,6 +282,8 @@ module _ (w : Renaming) where
     referenced_known = λ t h. tt;
     export_known = λ t h n u e. tt;
     exports = λ t h. tree_exports-renamed t;
+    params = λ t h. params-renamed t;
+    result = λ t h. result-renamed t;
     introduced = own-renamed;
     creates = creates-renamed;
     same = same-renamed;
@@ -263,6 +301,7 @@ module _ (w : Renaming) where
     core_exports = core_exports-renamed f g;
     item = item-renamed f g;
     core_item = λ e. refl;
+    primitive_known = λ p. tt;
     primitive = λ p. refl;
     left_out = refl;
     primitive_of = primitive_of-renamed;

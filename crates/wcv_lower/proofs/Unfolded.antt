@@ -1,6 +1,7 @@
 -- The trees of the slots of an arena: a map that commutes with all that is read. So the rules over ids are those over trees.
-use Rattle.std.proofs.Common.{◌≡◌, ℕ, suc, ◌≤◌, ◌<◌, List, [], ◌∷◌, refl, sym, ◌∙◌, ap, subst, arith, length, get_or, inl, inr, Bool, true, false, cond, Some, None}
+use Rattle.std.proofs.Common.{◌≡◌, ℕ, suc, ◌≤◌, ◌<◌, List, [], ◌∷◌, map, refl, sym, ◌∙◌, ap, subst, arith, length, get_or, inl, inr, Bool, true, false, cond, Some, None}
 use Rattle.std.specs.Prelude.{All, Option, bytes_eq, slice_get, ◌⊎◌}
+use Rattle.std.specs.Option.{option_map}
 use Rattle.std.proofs.lemmas.List.{get_or_past}
 use Rattle.std.proofs.lemmas.List.Elements.{All-weaker}
 use Rattle.std.proofs.lemmas.Option.{slice_get_cases}
@@ -9,7 +10,7 @@ use Rattle.wcv_types.specs.Arena.{Arena}
 use Rattle.wcv_types.specs.Entities.{SlotStands}
 use Rattle.wcv_types.specs.Standing.{Stands, StandsBefore, AllFit}
 use Rattle.wcv_types.specs.Tree as tree
-use Rattle.wcv_types.specs.Tree.{Text, Extern_name, Head, Role, here, label, import, export, core_import, core_export, node, Parts, head, exports_in}
+use Rattle.wcv_types.specs.Tree.{Text, Extern_name, Head, Role, here, label, import, export, core_import, core_export, node, Parts, Sort, is_nothing, head, exports_in}
 use Rattle.wcv_types.specs.Unfold.{Type_tree, Slot, leaf, at, both, core, Slots, left_out, head_of, slots_if, slot_refs, parts_in, parts_of, slot_tree, slot_parts, part_tree, tree_in, trees}
 use Rattle.wcv_types.specs.Unfold as nodes
 use Rattle.wcv_types.specs.declared.arena.Node.{Node}
@@ -20,11 +21,12 @@ use Rattle.wcv_types.proofs.Grown.{length-trees}
 use Rattle.wcv_types.proofs.Knowing.{refs_stand}
 use Rattle.wcv_types.proofs.Lists.{map-id, some-inj}
 use Rattle.wcv_types.proofs.Unfolding.{head_in, tree_in-unfolds, sort_stands, parts_before, all_left, all_right}
+use Rattle.wcv_lower.specs.Checks.{same_sort}
 use Rattle.wcv_lower.specs.Mapped.{Commutes, map_entries}
 use Rattle.wcv_lower.specs.Readers.{first_named}
 use Rattle.wcv_lower.specs.Slots as slot
 use Rattle.wcv_lower.specs.Slots.{part_sort, slot_sort, to_trees, export_slots}
-use Rattle.wcv_lower.specs.Trees.{created, referenced, tree_reader}
+use Rattle.wcv_lower.specs.Trees.{created, referenced, labelled, params, if_given, unlabelled, result, tree_reader}
 
 -- ## No node is a type entity
 
@@ -103,6 +105,10 @@ module _ (a : Arena) where
   referenced_stands (both c r) h = h.1
   referenced_stands (core e) h = h
 
+  -- what a node is made of stands with it
+  made_stand : AllFit a → (k : ℕ) (x : Node) → slice_get a.nodes k ≡ Some x → All (Stands a) (parts_of x)
+  made_stand f k x h = All-weaker (StandsBefore a (suc k)) (Stands a) (λ q w. w.stands) (parts_of x) (parts_before a k x f h)
+
   -- ## Exports
 
   -- what a node exports stands with it
@@ -124,8 +130,7 @@ module _ (a : Arena) where
 
   node_stands : AllFit a → (k : ℕ) (x : Node) → slice_get a.nodes k ≡ Some x → (n : Text) (y : Slot) → first_named n (export_slots (slots_if (slice_get a.nodes k))) ≡ Some y → SlotStands a y
   node_stands f k x h n y e =
-      export_stands (nodes.slots_of x) (All-weaker (StandsBefore a (suc k)) (Stands a) (λ q w. w.stands) (parts_of x) (parts_before a k x f h)) n y
-      (ap (λ (o : Option Node). first_named n (export_slots (slots_if o))) (sym h) ∙ e)
+      export_stands (nodes.slots_of x) (made_stand f k x h) n y (ap (λ (o : Option Node). first_named n (export_slots (slots_if o))) (sym h) ∙ e)
 
   export_known : AllFit a → (x : Slot) → SlotStands a x → (t : Text) (y : Slot) → first_named t (slot.exports a x) ≡ Some y → SlotStands a y
   export_known f (leaf o) h t y e = cc
@@ -168,6 +173,68 @@ module _ (a : Arena) where
   exports_same f (at (p.Module i)) h = node_exports f i.index (n.Module h.0) h.1
   exports_same f (at (p.CoreInstance i)) h = node_exports f i.index (n.CoreInstance h.0) h.1
 
+  -- ## Functions
+
+  labelled_in_slots : (ss : Slots) → labelled (slot_parts (trees a.nodes) ss) ≡ map (slot_tree (trees a.nodes)) (slot.labelled ss)
+  labelled_in_slots [] = refl
+  labelled_in_slots ((label l, x) ∷ ss) = ap (λ (ts : List Type_tree). slot_tree (trees a.nodes) x ∷ ts) (labelled_in_slots ss)
+  labelled_in_slots ((here, x) ∷ ss) = labelled_in_slots ss
+  labelled_in_slots ((import n, x) ∷ ss) = labelled_in_slots ss
+  labelled_in_slots ((export n, x) ∷ ss) = labelled_in_slots ss
+  labelled_in_slots ((core_import m n, x) ∷ ss) = labelled_in_slots ss
+  labelled_in_slots ((core_export n, x) ∷ ss) = labelled_in_slots ss
+
+  params_same : AllFit a → (x : Slot) → SlotStands a x → params (slot_tree (trees a.nodes) x) ≡ map (slot_tree (trees a.nodes)) (slot.params a x)
+  params_same f (leaf None) h = refl
+  params_same f (leaf (Some q)) h = refl
+  params_same f (both c r) h = refl
+  params_same f (core e) h = refl
+  params_same f (at (p.Resource r)) h = refl
+  params_same f (at (p.Core i)) h = refl
+  params_same f (at (p.Defined i)) h = ap params (tree_in-unfolds a i.index (n.Defined h.0) f h.1)
+  params_same f (at (p.Func i)) h =
+      ap params (tree_in-unfolds a i.index (n.Func h.0) f h.1) ∙ labelled_in_slots (nodes.slots_of (n.Func h.0)) ∙ ap (λ (o : Option Node). map (slot_tree (trees a.nodes)) (slot.labelled (slots_if o))) (sym h.1)
+  params_same f (at (p.Instance i)) h = ap params (tree_in-unfolds a i.index (n.Instance h.0) f h.1)
+  params_same f (at (p.Component i)) h = ap params (tree_in-unfolds a i.index (n.Component h.0) f h.1)
+  params_same f (at (p.Module i)) h = ap params (tree_in-unfolds a i.index (n.Module h.0) f h.1)
+  params_same f (at (p.CoreInstance i)) h = ap params (tree_in-unfolds a i.index (n.CoreInstance h.0) f h.1)
+
+  given_same : (x : Slot) → SlotStands a x → if_given (slot_tree (trees a.nodes) x) ≡ option_map (slot_tree (trees a.nodes)) (slot.if_given x)
+  given_same (leaf None) h = refl
+  given_same (leaf (Some q)) h = refl
+  given_same (both c r) h = refl
+  given_same (core e) h = refl
+  given_same (at q) h = ap (λ (s : Sort). cond (same_sort is_nothing s) None (Some (part_tree (trees a.nodes) q))) (part_sorted q h) ∙ ap (λ (b : Bool). cond b None (Some (part_tree (trees a.nodes) q))) (go q)
+    where
+      go : (q : Part) → same_sort is_nothing (part_sort q) ≡ false
+      go (p.Resource r) = refl
+      go _ = refl
+
+  unlabelled_in_slots : (ss : Slots) → All (Stands a) (parts_in ss) → unlabelled (slot_parts (trees a.nodes) ss) ≡ option_map (slot_tree (trees a.nodes)) (slot.unlabelled ss)
+  unlabelled_in_slots [] h = refl
+  unlabelled_in_slots ((here, x) ∷ ss) h = given_same x (refs_stand a x (all_left (Stands a) (slot_refs x) (parts_in ss) h))
+  unlabelled_in_slots ((label l, x) ∷ ss) h = unlabelled_in_slots ss (all_right (Stands a) (slot_refs x) (parts_in ss) h)
+  unlabelled_in_slots ((import n, x) ∷ ss) h = unlabelled_in_slots ss (all_right (Stands a) (slot_refs x) (parts_in ss) h)
+  unlabelled_in_slots ((export n, x) ∷ ss) h = unlabelled_in_slots ss (all_right (Stands a) (slot_refs x) (parts_in ss) h)
+  unlabelled_in_slots ((core_import m n, x) ∷ ss) h = unlabelled_in_slots ss (all_right (Stands a) (slot_refs x) (parts_in ss) h)
+  unlabelled_in_slots ((core_export n, x) ∷ ss) h = unlabelled_in_slots ss (all_right (Stands a) (slot_refs x) (parts_in ss) h)
+
+  result_same : AllFit a → (x : Slot) → SlotStands a x → result (slot_tree (trees a.nodes) x) ≡ option_map (slot_tree (trees a.nodes)) (slot.result a x)
+  result_same f (leaf None) h = refl
+  result_same f (leaf (Some q)) h = refl
+  result_same f (both c r) h = refl
+  result_same f (core e) h = refl
+  result_same f (at (p.Resource r)) h = refl
+  result_same f (at (p.Core i)) h = refl
+  result_same f (at (p.Defined i)) h = ap result (tree_in-unfolds a i.index (n.Defined h.0) f h.1)
+  result_same f (at (p.Func i)) h =
+      ap result (tree_in-unfolds a i.index (n.Func h.0) f h.1) ∙ unlabelled_in_slots (nodes.slots_of (n.Func h.0)) (made_stand f i.index (n.Func h.0) h.1) ∙
+      ap (λ (o : Option Node). option_map (slot_tree (trees a.nodes)) (slot.unlabelled (slots_if o))) (sym h.1)
+  result_same f (at (p.Instance i)) h = ap result (tree_in-unfolds a i.index (n.Instance h.0) f h.1)
+  result_same f (at (p.Component i)) h = ap result (tree_in-unfolds a i.index (n.Component h.0) f h.1)
+  result_same f (at (p.Module i)) h = ap result (tree_in-unfolds a i.index (n.Module h.0) f h.1)
+  result_same f (at (p.CoreInstance i)) h = ap result (tree_in-unfolds a i.index (n.CoreInstance h.0) f h.1)
+
   -- ## The map
 
   pub unfold_commutes : AllFit a → Commutes (to_trees a) (SlotStands a)
@@ -180,6 +247,8 @@ module _ (a : Arena) where
     referenced_known = referenced_stands;
     export_known = export_known f;
     exports = exports_same f;
+    params = params_same f;
+    result = result_same f;
     introduced = λ x. sym (map-id (tree_reader.introduced (slot_tree (trees a.nodes) x)));
     creates = λ x. sym (map-id (tree_reader.creates (slot_tree (trees a.nodes) x)));
     same = λ i j. refl;
@@ -197,6 +266,7 @@ module _ (a : Arena) where
     core_exports = λ x. refl;
     item = λ x. refl;
     core_item = λ e. refl;
+    primitive_known = λ q. tt;
     primitive = λ q. refl;
     left_out = refl;
     primitive_of = λ x. refl;

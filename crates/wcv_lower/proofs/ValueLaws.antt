@@ -1,5 +1,5 @@
 -- Value types under a map of entries; where there is no cause, they are found.
-use Rattle.std.proofs.Common.{◌≡◌, ℕ, [], ◌∷◌, ◌++◌, refl, sym, ◌∙◌, ap, Bool, true, false, cond, Some, None}
+use Rattle.std.proofs.Common.{◌≡◌, ℕ, [], ◌∷◌, ◌++◌, refl, sym, ◌∙◌, ap, subst, Bool, true, false, cond, Some, None}
 use Rattle.std.specs.Prelude.{Option, not}
 use Rattle.std.specs.Option.{option_map, option_and_then}
 use Rattle.std.proofs.lemmas.Bool.{false≢true}
@@ -7,6 +7,7 @@ use Rattle.wcv_core.specs.declared.features.WasmFeatures.{WasmFeatures}
 use Rattle.wcv_syntax.specs.declared.component_type.ComponentValType.{ComponentValType}
 use Rattle.wcv_syntax.specs.declared.component_type.ComponentValType.TheVariants.{Primitive, Ty}
 use Rattle.wcv_types.specs.Tree.{Sort, is_value, Role}
+use Rattle.wcv_types.proofs.Lists.{some-inj}
 use Rattle.wcv_lower.specs.Checks.{Checks, IsFree, if_found, missing, missing_of, same_sort}
 use Rattle.wcv_lower.specs.Context.{Context, type_at}
 use Rattle.wcv_lower.specs.Mapped.{Map, Commutes, IsKnown, map_context, map_parts}
@@ -29,6 +30,10 @@ module _ {X Y : Reader} (m : Map X Y) {Known : X.Entry → Type 0} (law : Commut
   value-mapped c w (Primitive p) = ap Some (law.primitive p)
   value-mapped c w (Ty k) = of_sort-mapped is_value c w k
 
+  pub value_known : (c : Context X) → IsKnown Known c → (v : ComponentValType) (x : X.Entry) → value_entry c v ≡ Some x → Known x
+  value_known c w (Primitive p) x e = subst Known (some-inj e) (law.primitive_known p)
+  value_known c w (Ty k) x e = of_sort_known is_value c w k x e
+
   pub option-mapped : (c : Context X) → IsKnown Known c → (o : Option ComponentValType) → option_entry (map_context m c) o ≡ option_map m.entry (option_entry c o)
   option-mapped c w None = ap Some law.left_out
   option-mapped c w (Some v) = value-mapped c w v
@@ -43,7 +48,7 @@ module _ {X Y : Reader} (m : Map X Y) {Known : X.Entry → Type 0} (law : Commut
   parts-mapped c w [] = refl
   parts-mapped c w (p ∷ ps) = (λ j. option_and_then (behind Y p.0 (parts-mapped c w ps j)) (option-mapped c w p.1 j)) ∙ behind-mapped p.0 (parts_entries c ps) (option_entry c p.1)
 
-  value_checks-mapped : (fs : WasmFeatures) (c : Context X) → IsKnown Known c → (v : ComponentValType) → value_checks fs (map_context m c) v ≡ value_checks fs c v
+  pub value_checks-mapped : (fs : WasmFeatures) (c : Context X) → IsKnown Known c → (v : ComponentValType) → value_checks fs (map_context m c) v ≡ value_checks fs c v
   value_checks-mapped fs c w (Primitive p) = refl
   value_checks-mapped fs c w (Ty k) = sort_checks-mapped is_value c w k
 
@@ -81,10 +86,13 @@ module _ (X : Reader) where
   found_of s None h = absurd (false≢true (sym h.0))
   found_of s (Some x) h = (x, ap (λ (b : Bool). cond b (Some x) None) (not-false (same_sort s (sort_of X x)) h.1.0))
 
+  pub value_there : (fs : WasmFeatures) (c : Context X) (v : ComponentValType) → IsFree (value_checks fs c v) → (x : X.Entry) × (value_entry c v ≡ Some x)
+  value_there fs c (Primitive p) h = (X.primitive p, refl)
+  value_there fs c (Ty k) h = found_of is_value (type_at c k) h
+
   option_there : (fs : WasmFeatures) (c : Context X) (o : Option ComponentValType) → IsFree (option_checks fs c o) → (x : X.Entry) × (option_entry c o ≡ Some x)
   option_there fs c None h = (X.left_out, refl)
-  option_there fs c (Some (Primitive p)) h = (X.primitive p, refl)
-  option_there fs c (Some (Ty k)) h = found_of is_value (type_at c k) h
+  option_there fs c (Some v) h = value_there fs c v h
 
   pub parts_there : (fs : WasmFeatures) (c : Context X) (ps : Written_parts) → IsFree (parts_checks fs c ps) → (qs : Made_parts X) × (parts_entries c ps ≡ Some qs)
   parts_there fs c [] h = ([], refl)

@@ -16,6 +16,7 @@ use Rattle.wcv_lower.specs.Context.{Context, Stack, in_types, in_instances, in_c
 use Rattle.wcv_lower.specs.CoreInstances.{core_alias_step, core_alias_checks}
 use Rattle.wcv_lower.specs.Readers.{Reader, sort_of, if_sort, first_named}
 use Rattle.wcv_lower.specs.Step.{Step, charges, appends, core_appends, joins}
+use Rattle.wcv_lower.specs.Values.{kind_checks}
 
 -- ## An instance's export
 
@@ -42,7 +43,7 @@ export_of X n x = first_named n (X.exports x)
 
 -- it joins the space of its sort
 abbrev pub joining : {X : Reader} → X.Entry → Step X
-joining {X} x = joins X (sort_of X x) x
+joining {X} x = joins X false (sort_of X x) x
 
 abbrev pub export_alias_step : {X : Reader} → Context X → ComponentExternalKind → ℕ → Text → Option (Step X)
 export_alias_step {X} c w i n = option_map joining (option_and_then (if_sort X (sort_named w)) (option_and_then (export_of X n) (instance_at c i)))
@@ -134,7 +135,7 @@ alias_step s (alias.CoreInstanceExport w i n) = core_alias_step s.top w i n
 alias_step s (alias.Outer w n i) = outer_alias_step s w n i
 
 abbrev pub alias_checks : {X : Reader} → WasmFeatures → Stack X → ComponentAlias → Checks
-alias_checks fs s (alias.InstanceExport w i n) = export_alias_checks s.top w i n
+alias_checks fs s (alias.InstanceExport w i n) = kind_checks fs w ++ export_alias_checks s.top w i n
 alias_checks fs s (alias.CoreInstanceExport w i n) = core_alias_checks fs s.top w i n
 alias_checks fs s (alias.Outer w n i) = outer_alias_checks s w n i
 

@@ -1,5 +1,5 @@
 -- The options of canonical functions: how a list of them is read, and why it is refused.
-use Rattle.std.specs.Prelude.{ℕ, List, [], ◌∷◌, ◌++◌, map, Bool, true, false, not, ◌&&◌, ◌||◌, cond, eqb, Option, Some, None, slice_get}
+use Rattle.std.specs.Prelude.{ℕ, List, [], ◌∷◌, ◌++◌, map, Bool, true, false, not, ◌&&◌, cond, Option, Some, None, slice_get}
 use Rattle.std.specs.List.{list_any}
 use Rattle.std.specs.Option.{option_map, option_and_then, option_or, unwrap_or}
 use Rattle.wcv_core.specs.Checks.{all_checks, lacks}
@@ -17,7 +17,6 @@ use Rattle.wcv_syntax.specs.declared.canonical.CanonicalOption.{CanonicalOption}
 use Rattle.wcv_syntax.specs.declared.canonical.CanonicalOption.TheVariants as option
 use Rattle.wcv_syntax.specs.declared.core_section.ExternalKind.{ExternalKind}
 use Rattle.wcv_syntax.specs.declared.core_section.ExternalKind.TheVariants as kind
-use Rattle.wcv_types.specs.Positions.{is_there}
 use Rattle.wcv_flat.specs.Flat.{pointer_type}
 use Rattle.wcv_flat.specs.Options.{pointer_size}
 use Rattle.wcv_flat.specs.Rows.{Option_name, memory_option, realloc_option, post_return_option, async_option, callback_option}
@@ -28,6 +27,7 @@ use Rattle.wcv_flat.specs.declared.options.PtrSize.{PtrSize}
 use Rattle.wcv_flat.specs.declared.options.PtrSize.TheVariants as ptr
 use Rattle.wcv_flat.specs.declared.options.StringEncoding.{StringEncoding}
 use Rattle.wcv_flat.specs.declared.options.StringEncoding.TheVariants as encoding
+pub use Rattle.wcv_lower.specs.Checks.{repeats}
 use Rattle.wcv_lower.specs.Checks.{Checks, if_found, missing}
 use Rattle.wcv_lower.specs.Context.{Context, Stack}
 use Rattle.wcv_lower.specs.CoreInstances.{core_item_at, test_found}
@@ -162,10 +162,6 @@ number_of (option.Callback i) = 5
 number_of (option.CoreType i) = 6
 number_of option.Gc = 7
 number_of o = 0
-
-abbrev pub repeats : List ℕ → Bool
-repeats [] = false
-repeats (n ∷ ns) = is_there eqb n ns || repeats ns
 
 -- an option stands without the other
 abbrev pub stands_without : Option_name → Option_name → List CanonicalOption → Bool

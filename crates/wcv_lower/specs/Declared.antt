@@ -62,7 +62,7 @@ abbrev pub declared_export_step : {X : Reader} → Maker X → Context X → Com
 declared_export_step mk c n r = option_map (enters exporting (extern_name n)) (written mk c r)
 
 abbrev pub declared_export_checks : {X : Reader} → WasmFeatures → Maker X → Context X → ComponentExternName → ComponentTypeRef → Checks
-declared_export_checks fs mk c n r = entry_checks fs exporting (extern_name n) c (written_checks c r) (written mk c r)
+declared_export_checks fs mk c n r = entry_checks fs exporting (extern_name n) c (written_checks fs c r) (written mk c r)
 
 -- the stack behind the type item or the declaration at place p, and behind declarations at p of which the first has position n
 abbrev mutual

@@ -1,10 +1,12 @@
 -- The type of a component or of a declared type, from the context at its end, and why the end is refused.
-use Rattle.std.specs.Prelude.{ℕ, List, [], ◌∷◌, map, Bool, false, ◌||◌, cond, Option, Some, None}
+use Rattle.std.specs.Prelude.{ℕ, List, [], ◌∷◌, ◌++◌, map, Bool, false, not, ◌||◌, cond, Option, Some, None}
 use Rattle.std.specs.Option.{option_map, option_and_then}
 use Rattle.wcv_core.specs.declared.core_types.ValType.{ValType}
 use Rattle.wcv_core.specs.declared.error.ErrorKind.TheVariants as kind
 use Rattle.wcv_lower.specs.Checks.{Checks, is_none}
 use Rattle.wcv_lower.specs.Context.{Kind, concrete, declares_instance, declares_component, Context, importing, exporting}
+use Rattle.wcv_lower.specs.Defined.{is_empty}
+use Rattle.wcv_lower.specs.Marks.{unused_checks}
 use Rattle.wcv_lower.specs.Readers.{Reader, Named, New_node, instance_node, component_node}
 
 module _ (X : Reader) where
@@ -43,6 +45,10 @@ type_at_end build c = option_map build (component_made c)
 abbrev pub end_checks : {X : Reader} → Context X → Checks
 end_checks {X} c = (kind.ResourceScope, any_free X c.defined (c.side importing)) ∷ (kind.ResourceScope, is_none (kept X c.defined (c.side exporting))) ∷ []
 
+-- the end of a component that is read: some value is not used, or so
+abbrev pub component_end_checks : {X : Reader} → Context X → Checks
+component_end_checks c = unused_checks c ++ end_checks c
+
 -- ## Declared types
 
 -- an instance type owns the resources that its context defines
@@ -55,8 +61,8 @@ declared_made declares_instance c = Some (instance_made c)
 declared_made declares_component c = component_made c
 declared_made concrete c = component_made c
 
--- the end of an instance type has no cause
+-- an instance type has no imports
 abbrev pub declared_end_checks : {X : Reader} → Kind → Context X → Checks
-declared_end_checks declares_instance c = []
+declared_end_checks declares_instance c = (kind.Shape, not (is_empty (c.side importing))) ∷ []
 declared_end_checks declares_component c = end_checks c
-declared_end_checks concrete c = end_checks c
+declared_end_checks concrete c = component_end_checks c

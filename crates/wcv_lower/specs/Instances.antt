@@ -1,5 +1,5 @@
 -- Instances: those of components, and those that list items, over any kind of entry.
-use Rattle.std.specs.Prelude.{ℕ, List, [], ◌∷◌, ◌++◌, map, not, ◌&&◌, cond, Option, Some, None, is_some, slice_get, length}
+use Rattle.std.specs.Prelude.{ℕ, List, [], ◌∷◌, ◌++◌, map, not, cond, Option, Some, None, is_some, slice_get, length}
 use Rattle.std.specs.List.{list_all}
 use Rattle.std.specs.Option.{option_map, option_and_then}
 use Rattle.wcv_core.specs.Checks.{all_checks}
@@ -12,14 +12,15 @@ use Rattle.wcv_syntax.specs.declared.component_type.ComponentTypeRef.{ComponentT
 use Rattle.wcv_syntax.specs.declared.instance.ComponentExternalKind.{ComponentExternalKind}
 use Rattle.wcv_syntax.specs.declared.instance.ComponentInstantiationArg.{ComponentInstantiationArg}
 use Rattle.wcv_syntax.specs.declared.name.ComponentExport.{ComponentExport}
-use Rattle.wcv_types.specs.Abi.{borrow}
-use Rattle.wcv_types.specs.Tree.{Text, is_value, is_instance}
+use Rattle.wcv_types.specs.Tree.{Text, is_instance}
 use Rattle.wcv_matching.specs.ModuleItems.{before}
-use Rattle.wcv_lower.specs.Checks.{Checks, too_many, each_too_long, has_repeat, if_found, is_none, missing, no_room, same_sort, texts_of}
+use Rattle.wcv_lower.specs.Checks.{Checks, too_many, each_too_long, has_repeat, if_found, is_none, missing, no_room, texts_of}
 use Rattle.wcv_lower.specs.Context.{Context, Stack, in_instances, in_components, exporting, counts}
-use Rattle.wcv_lower.specs.Entries.{extern_name, items_of, written_checks}
-use Rattle.wcv_lower.specs.Readers.{Reader, Maker, Named, New_node, Brought, instance_node, sort_of}
+use Rattle.wcv_lower.specs.Entries.{extern_name, items_of, written_checks, lends}
+use Rattle.wcv_lower.specs.Marks.{value_index, using, use_checks}
+use Rattle.wcv_lower.specs.Readers.{Reader, Maker, Named, New_node, Brought, instance_node}
 use Rattle.wcv_lower.specs.Step.{Step, introduces, appends, bare}
+use Rattle.wcv_lower.specs.Values.{kind_checks}
 
 abbrev pub component_at : {X : Reader} → Context X → ℕ → Option X.Entry
 component_at c i = slice_get (c.space in_components) i
@@ -77,8 +78,21 @@ instance_made mk s (bag es) = option_map (instance_of_items mk) (bag_made s.top 
 abbrev pub instance_joins : {X : Reader} → Brought X → Step X
 instance_joins b = introduces exporting b.resources ∷ appends in_instances b.entity ∷ []
 
+-- the values among the arguments, or among the listed items
+abbrev pub argument_values : List ComponentInstantiationArg → List ℕ
+argument_values [] = []
+argument_values (a ∷ rest) = value_index a.kind a.index ++ argument_values rest
+
+abbrev pub listed_values : List ComponentExport → List ℕ
+listed_values [] = []
+listed_values (e ∷ es) = value_index e.kind e.index ++ listed_values es
+
+abbrev pub instance_values : Instance_form → List ℕ
+instance_values (instantiate i args) = argument_values args
+instance_values (bag es) = listed_values es
+
 abbrev pub instance_step : {X : Reader} → Maker X → Stack X → Instance_form → Option (Step X)
-instance_step mk s i = option_map instance_joins (instance_made mk s i)
+instance_step mk s i = using (instance_values i) (option_map instance_joins (instance_made mk s i))
 
 -- ## Why it is refused
 
@@ -94,30 +108,37 @@ abbrev pub argument_names : List ComponentInstantiationArg → List Text
 argument_names args = map (λ (a : ComponentInstantiationArg). a.name) args
 
 -- no type may be written beside a listed item; what is written is looked at
-abbrev pub shape_checks : {X : Reader} → Context X → Option ComponentTypeRef → Checks
-shape_checks c t = (error.Shape, is_some t) ∷ if_found (written_checks c) t
+abbrev pub shape_checks : {X : Reader} → WasmFeatures → Context X → Option ComponentTypeRef → Checks
+shape_checks fs c t = (error.Shape, is_some t) ∷ if_found (written_checks fs c) t
 
 -- a value that is exported holds no borrowed handle
 abbrev pub borrow_checks : (X : Reader) → X.Entry → Checks
-borrow_checks X x = (error.Borrow, same_sort is_value (sort_of X x) && X.contains borrow x) ∷ []
+borrow_checks X x = (error.Borrow, lends X x) ∷ []
 
-abbrev pub listed_checks : {X : Reader} → Context X → ComponentExport → Checks
-listed_checks {X} c e = missing (listed_at c e) ++ (shape_checks c e.ty ++ if_found (borrow_checks X) (listed_at c e))
+abbrev pub listed_checks : {X : Reader} → WasmFeatures → Context X → ComponentExport → Checks
+listed_checks {X} fs c e = kind_checks fs e.kind ++ (missing (listed_at c e) ++ (shape_checks fs c e.ty ++ if_found (borrow_checks X) (listed_at c e)))
+
+abbrev pub argument_checks : {X : Reader} → WasmFeatures → Context X → ComponentInstantiationArg → Checks
+argument_checks fs c a = kind_checks fs a.kind ++ missing (argument_at c a)
 
 -- each whole name beside those before it, where no resource has a name
 abbrev pub names_checks : (X : Reader) → WasmFeatures → Named X → Named X → Checks
 names_checks X fs es [] = []
 names_checks X fs es (x ∷ xs) = X.bare_name_checks fs es x.0 x.1 ++ names_checks X fs (es ++ x ∷ []) xs
 
-abbrev pub instance_checks : {X : Reader} → WasmFeatures → Maker X → Stack X → Instance_form → Checks
-instance_checks {X} fs mk s (instantiate i args) =
+-- of what is made, use of values aside
+abbrev pub made_checks : {X : Reader} → WasmFeatures → Maker X → Stack X → Instance_form → Checks
+made_checks {X} fs mk s (instantiate i args) =
     missing (component_at s.top i)
-    ++ (all_checks (λ (a : ComponentInstantiationArg). missing (argument_at s.top a)) args
+    ++ (all_checks (argument_checks fs s.top) args
     ++ (if_found (opening_checks X s.groups (arguments s.top args)) (component_at s.top i)
     ++ ((error.Conflict, has_repeat (argument_names args)) ∷ (if_found size_checks (instance_made mk s (instantiate i args)) ++ no_room (counts s.top) is_instance))))
-instance_checks {X} fs mk s (bag es) =
-    all_checks (listed_checks s.top) es
+made_checks {X} fs mk s (bag es) =
+    all_checks (listed_checks fs s.top) es
     ++ (names_checks X fs [] (listed s.top es) ++ (if_found size_checks (instance_made mk s (bag es)) ++ no_room (counts s.top) is_instance))
+
+abbrev pub instance_checks : {X : Reader} → WasmFeatures → Maker X → Stack X → Instance_form → Checks
+instance_checks fs mk s i = use_checks s.top (instance_values i) ++ made_checks fs mk s i
 
 -- the limits that are left to the caller
 abbrev pub instance_left : Instance_form → Checks

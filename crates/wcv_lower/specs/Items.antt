@@ -1,18 +1,17 @@
 -- What an item does to the contexts that are open, at its place, and why it is refused: a declared type is read declaration by
 -- declaration, a component item by item, all else in one step.
-use Rattle.std.specs.Prelude.{ℕ, zero, suc, ◌++◌, true, cond, Option, Some, ◌≡◌}
+use Rattle.std.specs.Prelude.{ℕ, zero, suc, ◌++◌, true, Option, Some, ◌≡◌}
 use Rattle.std.specs.Option.{option_and_then}
 use Rattle.wcv_core.specs.Limits.{max_list}
 use Rattle.wcv_core.specs.Names.{Place, deeper}
 use Rattle.wcv_core.specs.declared.features.WasmFeatures.{WasmFeatures}
-use Rattle.wcv_syntax.specs.Built.{is_built_type}
 use Rattle.wcv_syntax.specs.Model.{Form, type_item, component_item, Items, no_items, next_item}
 use Rattle.wcv_types.specs.Tree.{is_component}
 use Rattle.wcv_lower.specs.Checks.{Checks, IsFree, too_many, no_room}
 use Rattle.wcv_lower.specs.Context.{Stack, concrete, counts}
 use Rattle.wcv_lower.specs.Declared.{Makers, inside, ended, full_stack, read_type, declared_checks, declared_left}
-use Rattle.wcv_lower.specs.Ending.{end_checks}
-use Rattle.wcv_lower.specs.Growth.{grow, checks, unbuilt}
+use Rattle.wcv_lower.specs.Ending.{component_end_checks}
+use Rattle.wcv_lower.specs.Growth.{grow, checks}
 use Rattle.wcv_lower.specs.Readers.{Reader}
 
 -- the stack behind the item at place p, and behind items at p of which the first has position n; undefined where growth is
@@ -38,11 +37,11 @@ component_checks s is = full_stack s ++ (no_room (counts s.top) is_component ++ 
 
 -- its own causes; those of items inside it and of their end are not among them
 abbrev pub item_causes : {X : Reader} → WasmFeatures → Makers X → Place → Stack X → Form → Checks
-item_causes fs mk p s (type_item t) = cond (is_built_type t) (declared_checks true fs mk p s t ++ declared_left t) unbuilt
+item_causes fs mk p s (type_item t) = declared_checks true fs mk p s t ++ declared_left t
 item_causes fs mk p s (component_item is end) = component_checks s is
 item_causes fs mk p s f = checks fs (mk p) s f
 
 -- where it is a component, its items lead to an end without a cause
 abbrev pub EndsFree : {X : Reader} → WasmFeatures → Makers X → Place → Stack X → Form → Type 0
-EndsFree {X} fs mk p s (component_item is end) = (t : Stack X) × (read_items fs mk p 0 (inside concrete s) is ≡ Some t) × IsFree (end_checks t.top)
+EndsFree {X} fs mk p s (component_item is end) = (t : Stack X) × (read_items fs mk p 0 (inside concrete s) is ≡ Some t) × IsFree (component_end_checks t.top)
 EndsFree fs mk p s f = Unit {0}

@@ -1,5 +1,6 @@
 -- Entries of one kind read as entries of another, and contexts and steps with them.
 use Rattle.std.specs.Prelude.{ℕ, List, map, slice_get, true, Option, Some, ◌≡◌}
+use Rattle.std.specs.Option.{option_map}
 use Rattle.wcv_core.specs.CoreForm.{Group}
 use Rattle.wcv_core.specs.declared.core_types.EntityType.{EntityType}
 use Rattle.wcv_core.specs.declared.core_types.ValType.{ValType}
@@ -9,7 +10,7 @@ use Rattle.wcv_types.specs.Abi.{Mark}
 use Rattle.wcv_types.specs.Tree.{Text, Extern_name, Role}
 use Rattle.wcv_lower.specs.Context.{Context, Stack, Side, Space, Core_space}
 use Rattle.wcv_lower.specs.Readers.{Reader, Maker, Named, New_node, func_node, defined_node, module_node, core_instance_node, core_exports_node, instance_node, component_node, Brought, first_named}
-use Rattle.wcv_lower.specs.Step.{Change, appends, lists, introduces, defines, creates, core_appends, interns, charges, types_slots, Step}
+use Rattle.wcv_lower.specs.Step.{Change, appends, lists, introduces, defines, creates, core_appends, interns, charges, types_slots, marks_value, uses_value, names_start, Step}
 use Rattle.wcv_lower.specs.Uses.{Uses}
 
 abbrev pub map_entries : {E F : Type 0} → (E → F) → List (Extern_name × E) → List (Extern_name × F)
@@ -30,7 +31,7 @@ pub record Map (X Y : Reader) : Type 0 where
   pub resource : X.Resource → Y.Resource
   pub identity : X.Identity → Y.Identity
 
--- the map commutes with all that is read; of the sort and of exports, where the entry is known. What is read of a known one is known
+-- the map commutes with all that is read; of the sort, of exports and of a function's parts, where the entry is known. What is read of a known one is known
 pub record Commutes {X Y : Reader} (m : Map X Y) (Known : X.Entry → Type 0) : Type 0 where
   pub sort : (x : X.Entry) → Known x → Y.sort (m.entry x) ≡ X.sort x
   pub size : (x : X.Entry) → Y.size (m.entry x) ≡ X.size x
@@ -38,6 +39,8 @@ pub record Commutes {X Y : Reader} (m : Map X Y) (Known : X.Entry → Type 0) : 
   pub created : (x : X.Entry) → Y.created (m.entry x) ≡ m.entry (X.created x)
   pub referenced : (x : X.Entry) → Y.referenced (m.entry x) ≡ m.entry (X.referenced x)
   pub exports : (x : X.Entry) → Known x → Y.exports (m.entry x) ≡ map_entries m.entry (X.exports x)
+  pub params : (x : X.Entry) → Known x → Y.params (m.entry x) ≡ map m.entry (X.params x)
+  pub result : (x : X.Entry) → Known x → Y.result (m.entry x) ≡ option_map m.entry (X.result x)
   pub referenced_known : (x : X.Entry) → Known x → Known (X.referenced x)
   pub export_known : (x : X.Entry) → Known x → (n : Text) (y : X.Entry) → first_named n (X.exports x) ≡ Some y → Known y
   pub introduced : (x : X.Entry) → Y.introduced (m.entry x) ≡ map_paths m.resource (X.introduced x)
@@ -57,6 +60,7 @@ pub record Commutes {X Y : Reader} (m : Map X Y) (Known : X.Entry → Type 0) : 
   pub core_exports : (x : X.Entry) → Y.core_exports (m.entry x) ≡ X.core_exports x
   pub item : (x : X.Entry) → Y.item (m.entry x) ≡ X.item x
   pub core_item : (e : EntityType) → Y.core_item e ≡ m.entry (X.core_item e)
+  pub primitive_known : (p : PrimitiveValType) → Known (X.primitive p)
   pub primitive : (p : PrimitiveValType) → Y.primitive p ≡ m.entry (X.primitive p)
   pub left_out : Y.left_out ≡ m.entry X.left_out
   pub primitive_of : (x : X.Entry) → Y.primitive_of (m.entry x) ≡ X.primitive_of x
@@ -86,6 +90,8 @@ module _ {X Y : Reader} (m : Map X Y) where
     depth = c.depth;
     aliased = c.aliased;
     context_type = c.context_type;
+    used = c.used;
+    started = c.started;
   }
 
   abbrev pub map_stack : Stack X → Stack Y
@@ -101,6 +107,9 @@ module _ {X Y : Reader} (m : Map X Y) where
   map_change (interns gs) = interns gs
   map_change (charges k n) = charges k n
   map_change (types_slots v) = types_slots v
+  map_change (marks_value b) = marks_value b
+  map_change (uses_value k) = uses_value k
+  map_change names_start = names_start
 
   abbrev pub map_step : Step X → Step Y
   map_step p = map map_change p

@@ -26,6 +26,9 @@ pub record Reader : Type 1 where
   pub referenced : Entry → Entry
   -- those of an instance, in order
   pub exports : Entry → List (Extern_name × Entry)
+  -- of a function the types of its parameters, in order, and of its result, if it has one
+  pub params : Entry → List Entry
+  pub result : Entry → Option Entry
   -- the resources that it introduces where it joins as it is, with their paths in it
   pub introduced : Entry → List (Resource × List ℕ)
   -- the types that it creates

@@ -1,9 +1,9 @@
 -- Entries that are ids of an arena: those of the code. A slot is what stands where an entry stands.
-use Rattle.std.specs.Prelude.{ℕ, suc, pred, Some, None, List, [], ◌∷◌, length}
+use Rattle.std.specs.Prelude.{ℕ, suc, pred, Option, Some, None, List, [], ◌∷◌, length}
 use Rattle.wcv_core.specs.Names.{Name, number}
 use Rattle.wcv_types.specs.Arena.{Arena}
 use Rattle.wcv_types.specs.Identity.{Identity}
-use Rattle.wcv_types.specs.Tree.{Extern_name, export, head, owned, Sort, is_nothing, is_value, is_resource, is_func, is_instance, is_component, is_type, is_module, is_core_instance, is_core_type, is_core_item}
+use Rattle.wcv_types.specs.Tree.{Extern_name, label, here, export, head, owned, Sort, is_nothing, is_value, is_resource, is_func, is_instance, is_component, is_type, is_module, is_core_instance, is_core_type, is_core_item}
 use Rattle.wcv_types.specs.Unfold.{Slot, leaf, core, at, both, Slots, slots_at, slot_tree, trees}
 use Rattle.wcv_types.specs.declared.ids.Part.{Part}
 use Rattle.wcv_types.specs.declared.ids.Part.TheVariants as p
@@ -33,6 +33,31 @@ export_slots (s ∷ ss) = export_slots ss
 abbrev pub exports : Arena → Slot → List (Extern_name × Slot)
 exports a (at q) = export_slots (slots_at a.nodes q)
 exports a x = []
+
+-- the slots under labels
+abbrev pub labelled : Slots → List Slot
+labelled [] = []
+labelled ((label n, x) ∷ ss) = x ∷ labelled ss
+labelled (s ∷ ss) = labelled ss
+
+abbrev pub params : Arena → Slot → List Slot
+params a (at (p.Func i)) = labelled (slots_at a.nodes (p.Func i))
+params a x = []
+
+-- it is not left out
+abbrev pub if_given : Slot → Option Slot
+if_given (leaf None) = None
+if_given x = Some x
+
+-- the slot without a label
+abbrev pub unlabelled : Slots → Option Slot
+unlabelled [] = None
+unlabelled ((here, x) ∷ ss) = if_given x
+unlabelled (s ∷ ss) = unlabelled ss
+
+abbrev pub result : Arena → Slot → Option Slot
+result a (at (p.Func i)) = unlabelled (slots_at a.nodes (p.Func i))
+result a x = None
 
 -- the sort that an id tells
 abbrev pub part_sort : Part → Sort
@@ -64,6 +89,8 @@ slot_reader a = record {
   created = created;
   referenced = referenced;
   exports = exports a;
+  params = params a;
+  result = result a;
   introduced = λ x. tree_reader.introduced (slot_tree (trees a.nodes) x);
   creates = λ x. tree_reader.creates (slot_tree (trees a.nodes) x);
   same = tree_reader.same;

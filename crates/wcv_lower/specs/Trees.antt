@@ -13,12 +13,13 @@ use Rattle.wcv_types.specs.Measure.{size, depth}
 use Rattle.wcv_types.specs.Named.{is_in, is_named, passes}
 use Rattle.wcv_types.specs.Resources.{owned_by, is_free}
 use Rattle.wcv_types.specs.Tree as tree
-use Rattle.wcv_types.specs.Tree.{Role, Head, nothing, primitive, resource, defined, func, instance, core_type, core_item, type_entity, here, node, Parts, none, part, Sort, is_type, sort, head, parts, exports, type_of, instance_type, component_type, module_type, core_exports, sub_type, primitive_type}
+use Rattle.wcv_types.specs.Tree.{Role, label, Head, nothing, primitive, resource, defined, func, instance, core_type, core_item, type_entity, here, node, Parts, none, part, Sort, is_nothing, is_type, sort, head, parts, exports, type_of, instance_type, component_type, module_type, core_exports, sub_type, primitive_type}
 pub use Rattle.wcv_types.specs.Unfold.{Type_tree}
 use Rattle.wcv_types.specs.Unfold.{capped}
 use Rattle.wcv_matching.specs.AtomTests.{id_tests}
 use Rattle.wcv_matching.specs.ModuleItems.{item_at, core_imports_in, instance_exports}
 use Rattle.wcv_matching.specs.OnePass.{opens_pass, passes_match}
+use Rattle.wcv_lower.specs.Checks.{same_sort}
 use Rattle.wcv_lower.specs.Context.{Context, Stack, Side, importing, exporting, names_for, with_named}
 use Rattle.wcv_lower.specs.EntryNames.{name_checks, bare_name_checks}
 use Rattle.wcv_lower.specs.Instantiated.{instantiated, instantiated_resources}
@@ -89,6 +90,32 @@ abbrev mutual
   exports_pass named s none = true
   exports_pass named s (part k t ps) = entry_passes named s t && exports_pass (named_after named s t) s ps
 
+-- ## Functions
+
+-- what stands under labels
+abbrev pub labelled : Parts Name Name → List Type_tree
+labelled none = []
+labelled (part (label n) t ps) = t ∷ labelled ps
+labelled (part k t ps) = labelled ps
+
+abbrev pub params : Type_tree → List Type_tree
+params (node (func i async) ps) = labelled ps
+params t = []
+
+-- it is not left out
+abbrev pub if_given : Type_tree → Option Type_tree
+if_given t = cond (same_sort is_nothing (sort t)) None (Some t)
+
+-- what stands without a label
+abbrev pub unlabelled : Parts Name Name → Option Type_tree
+unlabelled none = None
+unlabelled (part here t ps) = if_given t
+unlabelled (part k t ps) = unlabelled ps
+
+abbrev pub result : Type_tree → Option Type_tree
+result (node (func i async) ps) = unlabelled ps
+result t = None
+
 -- ## Free resources
 
 abbrev pub refers_outside : List Name → Head Name Name → Bool
@@ -133,6 +160,8 @@ tree_reader = record {
   created = created;
   referenced = referenced;
   exports = exports;
+  params = params;
+  result = result;
   introduced = λ t. own_resources (sort t) t;
   creates = creates;
   same = same_identity;

@@ -8,6 +8,8 @@ use Rattle.wcv_core.specs.declared.primitive.PrimitiveValType.{PrimitiveValType}
 use Rattle.wcv_core.specs.declared.primitive.PrimitiveValType.TheVariants as prim
 use Rattle.wcv_syntax.specs.declared.component_type.ComponentValType.{ComponentValType}
 use Rattle.wcv_syntax.specs.declared.component_type.ComponentValType.TheVariants.{Primitive, Ty}
+use Rattle.wcv_syntax.specs.declared.instance.ComponentExternalKind.{ComponentExternalKind}
+use Rattle.wcv_syntax.specs.declared.instance.ComponentExternalKind.TheVariants as external
 use Rattle.wcv_types.specs.Tree.{Sort, is_value, is_resource, Role}
 use Rattle.wcv_lower.specs.Checks.{Checks, missing_of}
 pub use Rattle.wcv_flat.specs.Rows.{cm_async, cm_threading, cm_error_context}
@@ -26,11 +28,19 @@ cm_more_async_builtins = 1024
 abbrev pub cm64 : ℕ
 cm64 = 8192
 
+abbrev pub cm_values : ℕ
+cm_values = 16384
+
 abbrev pub cm_map : ℕ
 cm_map = 32768
 
 abbrev pub cm_fixed_length_lists : ℕ
 cm_fixed_length_lists = 65536
+
+-- an item of that sort asks for its feature, if it is a value
+abbrev pub kind_checks : WasmFeatures → ComponentExternalKind → Checks
+kind_checks fs external.Value = lacks fs cm_values
+kind_checks fs k = []
 
 -- ## Types by index
 

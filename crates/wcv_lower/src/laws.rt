@@ -7,7 +7,6 @@ ghost use Rattle.wcv_core.specs.CoreGroups.{total};
 ghost use Rattle.wcv_core.specs.CoreSizes.{IsEntityWithin};
 ghost use Rattle.wcv_core.specs.Names.{Name, Place, at, deeper, member};
 ghost use Rattle.wcv_core.specs.declared.features.WasmFeatures.{WasmFeatures};
-ghost use Rattle.wcv_syntax.specs.Built.{is_built_ref, is_built_type};
 ghost use Rattle.wcv_syntax.specs.Model.{Text, Form, instance_item, Instance_form, instantiate, Type_form, instance_type, Decls};
 ghost use Rattle.wcv_syntax.specs.ModuleTypes.{Core_import, Core_export, Module_type};
 ghost use Rattle.wcv_syntax.specs.declared.component_type.ComponentTypeRef.{ComponentTypeRef};
@@ -39,7 +38,7 @@ ghost use Rattle.wcv_lower.specs.DeclaredMaps.{TypeAlike};
 ghost use Rattle.wcv_lower.specs.Entries.{extern_name, written, exported_at, exported, export_checks};
 ghost use Rattle.wcv_lower.specs.Even.{IsEven, IsBalanced, IsRegular};
 ghost use Rattle.wcv_lower.specs.Given.{AtMost, GivenNames, GivesAt, Numbers, names_of};
-ghost use Rattle.wcv_lower.specs.Growth.{grow, checks};
+ghost use Rattle.wcv_lower.specs.Growth.{is_plain, grow, checks};
 ghost use Rattle.wcv_lower.specs.Instances.{component_at, arguments, instance_checks};
 ghost use Rattle.wcv_lower.specs.Instantiated.{opened_resource, opening, instantiated, instantiated_resources};
 ghost use Rattle.wcv_lower.specs.Items.{read_item, item_causes, EndsFree};
@@ -57,13 +56,13 @@ ghost use Rattle.wcv_lower.specs.WorkedNested.{nested_root, nested_inside, made_
 ghost use Rattle.wcv_lower.specs.Worked.{imported_twice, own, made_type, made_instance};
 
 /// With renamed names, a renamed stack grows to the renamed one, and an item has the same causes. Where it
-/// has none, it does something.
+/// has none, and is read in one step, it does something.
 pub fn renaming_keeps_growth_and_causes()
     ensures growth { (w : Renaming) (n m : Names) (p : Place) → AreRenamed (Under p) w.resources.to w.identities.to n m → (fs : WasmFeatures) (s : Tree_stack) (f : Form) →
         grow fs (tree_maker m p) (map_stack (renaming w) s) f ≡ option_map (map_stack (renaming w)) (grow fs (tree_maker n p) s f) }
     ensures causes { (w : Renaming) (n m : Names) (p : Place) → AreRenamed (Under p) w.resources.to w.identities.to n m → (fs : WasmFeatures) (s : Tree_stack) (f : Form) →
         checks fs (tree_maker m p) (map_stack (renaming w) s) f ≡ checks fs (tree_maker n p) s f }
-    ensures free { (n : Names) (p : Place) (fs : WasmFeatures) (s : Tree_stack) (f : Form) → IsFree (checks fs (tree_maker n p) s f) → (t : Tree_stack) × (grow fs (tree_maker n p) s f ≡ Some t) }
+    ensures free { (n : Names) (p : Place) (fs : WasmFeatures) (s : Tree_stack) (f : Form) → is_plain f ≡ true → IsFree (checks fs (tree_maker n p) s f) → (t : Tree_stack) × (grow fs (tree_maker n p) s f ≡ Some t) }
 {}
 
 /// An alias over ids of an arena does what it does over the trees that they stand for, and has the same causes.
@@ -94,7 +93,7 @@ pub fn a_core_instance_exports_what_it_is_made_of()
 /// Where an export with a written type has no cause, the type brings no resource of its own, the item matches it, and the entry is
 /// what the type gives.
 pub fn an_exported_item_matches_its_written_type()
-    ensures { (fs : WasmFeatures) (n : Names) (p : Place) (s : Tree_stack) (e : ComponentExport) (r : ComponentTypeRef) → e.ty ≡ Some r → is_built_ref r ≡ true → IsFree (export_checks fs (tree_maker n p) s e) →
+    ensures { (fs : WasmFeatures) (n : Names) (p : Place) (s : Tree_stack) (e : ComponentExport) (r : ComponentTypeRef) → e.ty ≡ Some r → IsFree (export_checks fs (tree_maker n p) s e) →
         (x : Type_tree) × (b : Brought tree_reader) × (exported_at s.top e ≡ Some x) × (written (tree_maker n p) s.top r ≡ Some b) × (exported (tree_maker n p) s.top e ≡ Some b) × (b.resources ≡ []) × (tree_reader.matches s.groups x b.entity ≡ true) }
 {}
 
@@ -141,7 +140,7 @@ pub fn renaming_keeps_declared_types()
         read_type fs (tree_maker m) p (map_stack (renaming w) s) t ≡ option_map (map_stack (renaming w)) (read_type fs (tree_maker n) p s t) }
     ensures causes { (w : Renaming) (n m : Names) (p : Place) → AreRenamed (Under p) w.resources.to w.identities.to n m → (fs : WasmFeatures) (limited : Bool) (s : Tree_stack) (t : Type_form) →
         declared_checks limited fs (tree_maker m) p (map_stack (renaming w) s) t ≡ declared_checks limited fs (tree_maker n) p s t }
-    ensures free { (n : Names) (p : Place) (fs : WasmFeatures) (limited : Bool) (s : Tree_stack) (t : Type_form) → is_built_type t ≡ true → IsFree (declared_checks limited fs (tree_maker n) p s t) → (u : Tree_stack) × (read_type fs (tree_maker n) p s t ≡ Some u) }
+    ensures free { (n : Names) (p : Place) (fs : WasmFeatures) (limited : Bool) (s : Tree_stack) (t : Type_form) → IsFree (declared_checks limited fs (tree_maker n) p s t) → (u : Tree_stack) × (read_type fs (tree_maker n) p s t ≡ Some u) }
 {}
 
 /// With renamed names, an item in a renamed stack, also a component, is read to the renamed one, and has the same causes. Where it has

@@ -12,10 +12,12 @@ use Rattle.wcv_core.specs.declared.features.WasmFeatures.{WasmFeatures}
 use Rattle.wcv_core.specs.Features.{default_features}
 use Rattle.wcv_syntax.specs.Model.{Items}
 use Rattle.wcv_listing.specs.Generated.{generated}
-use Rattle.wcv_lower.specs.Ending.{type_at_end}
+use Rattle.wcv_lower.specs.Ending.{type_at_end, end_checks}
+use Rattle.wcv_lower.specs.Marks.{unused_checks}
 use Rattle.wcv_lower.specs.Trees.{Type_tree, Tree_stack, node_tree}
 use Rattle.wcv_main.specs.Due.{Due, wrong_words, too_long, no_json, no_shape, sections, made, due_of_bytes, due_over, usage, IsReport, IsSummary, IsExpected, accepted_text, made_text, refusal_text}
 use Rattle.wcv_core.specs.Names.{base}
+use Rattle.wcv_lower.proofs.Causes.{free_right}
 use Rattle.wcv_lower.proofs.EndingLaws.{has_type}
 use Rattle.wcv_link.specs.Valid.{ValidTo, Refused}
 use Rattle.wcv_link.proofs.Decided.{valid_or_refused}
@@ -42,7 +44,7 @@ some_due (sections features is end) = by_answer (valid_or_refused features is en
   where
     by_answer : ((d : Tree_stack) × ValidTo features is d) ⊎ ((kind : ErrorKind) × (offset : ℕ) × Refused features is end kind offset) → (s : Status) × (text : List ℕ) × IsExpected (sections features is end) s text
     by_answer (inl v) =
-        let t = has_type (node_tree (base [])) v.0.top v.1.1 in
+        let t = has_type (node_tree (base [])) v.0.top (free_right (unused_checks v.0.top) (end_checks v.0.top) v.1.1) in
         (status.Done, accepted_text v.0 t.0, inl (reported features is v.0 t.0 v.1 t.1))
     by_answer (inr r) = (status.Refused, refusal_text r.0 r.1 [], inr (r.0, r.1, r.2, refl, ([], refl)))
 some_due (made n) = by_answer (valid_or_refused default_features (generated n) (5 + 3 * n))

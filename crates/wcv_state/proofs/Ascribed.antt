@@ -39,7 +39,7 @@ module _ (a : Arena) (y x : ComponentEntityType) where
   ascribed_brings offset e q k o = inr (inl (k, ap (λ (v : Bool). not (not v && tree_reader.matches a.core item expected)) q), o)
 
   module _ (fit : AllFit a) (table : IsTable a.core) (hy : EntityStands a y) (hx : EntityStands a x) (q : brings_own a x ≡ false) where
-    test_decides : Decides (tree_reader.matches a.core item expected) (TypeMatches a.core item expected)
+    pub test_decides : Decides (tree_reader.matches a.core item expected) (TypeMatches a.core item expected)
     test_decides = matching-by_ids a.core same_seen seen-decides table item expected (entity_orderly a fit y hy) (entity_orderly a fit x hx) (entity_within a fit y hy) (entity_within a fit x hx)
 
     pub ascribed_free : TypeMatches a.core item expected → IsFree (ascribed_id_checks a y x)

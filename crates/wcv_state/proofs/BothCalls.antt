@@ -1,12 +1,10 @@
 -- An export by two calls: what both do together.
-use Rattle.std.proofs.Common.{◌≡◌, ℕ, ◌≤◌, List, [], ◌∷◌, ◌++◌, map, refl, sym, ◌∙◌, ap, subst, arith, Bool, true, false, Some, ⊎_elim, length-append}
+use Rattle.std.proofs.Common.{◌≡◌, ℕ, ◌≤◌, List, ◌++◌, refl, sym, ◌∙◌, ap, subst, arith, Bool, true, false, Some, ⊎_elim, length-append}
 use Rattle.std.specs.Prelude.{Option, length}
 use Rattle.std.specs.Option.{option_map}
-use Rattle.std.proofs.lemmas.Bool.{false≢true}
 use Rattle.wcv_core.specs.Names.{Name, Place, number, stamp, base, at, stamped, aside}
 use Rattle.wcv_core.specs.Refusal.{error_kind}
 use Rattle.wcv_core.specs.declared.error.Error.{Error}
-use Rattle.wcv_syntax.specs.Built.{is_built_ref, is_built_item}
 use Rattle.wcv_syntax.specs.Model.{export_item}
 use Rattle.wcv_syntax.specs.declared.component_type.ComponentTypeRef.{ComponentTypeRef}
 use Rattle.wcv_syntax.specs.declared.name.ComponentExport.{ComponentExport}
@@ -16,51 +14,39 @@ use Rattle.wcv_types.specs.Entities.{entity_tree, EntityStands}
 use Rattle.wcv_types.specs.Standing.{Extends}
 use Rattle.wcv_types.specs.Unfold.{Type_tree, trees}
 use Rattle.wcv_types.specs.declared.shapes.ComponentEntityType.{ComponentEntityType}
-use Rattle.wcv_types.specs.declared.shapes.ComponentValType.{ComponentValType}
 use Rattle.wcv_lower.specs.Checks.{Checks, IsFree, if_found, full_side}
-use Rattle.wcv_lower.specs.Context.{in_values, exporting, counts}
-use Rattle.wcv_lower.specs.Entries.{extern_name, written, written_checks, exported, exported_checks, entity_checks, join_checks}
+use Rattle.wcv_lower.specs.Context.{exporting, counts}
+use Rattle.wcv_lower.specs.Entries.{extern_name, written, written_checks, exported_values, exported, exported_checks, entity_checks, join_checks}
 use Rattle.wcv_lower.specs.Entries as entries
 use Rattle.wcv_lower.specs.Given.{GivenNames, names_of, none_given, both_given, Numbers, IsNewResource, IsNewIdentity, GivesAt}
 use Rattle.wcv_lower.specs.Names.{Under}
+use Rattle.wcv_lower.specs.Marks.{uses_each, using, use_all}
 use Rattle.wcv_lower.specs.Readers.{Maker, Brought}
-use Rattle.wcv_lower.specs.Step.{brought_at, apply, enters}
+use Rattle.wcv_lower.specs.Step.{Step, brought_at, apply, enters}
 use Rattle.wcv_lower.specs.Trees.{Tree_context, tree_reader, tree_maker}
 use Rattle.wcv_lower.proofs.Causes.{cause_left, cause_right, cause_either, free_both, free_left, free_right}
 use Rattle.wcv_lower.proofs.Given.{given_weaker}
-use Rattle.wcv_state.specs.Contents.{Contents, ids, core_ids, unmarked, marks_aside, id_tree, core_tree, context_of, stack_of, StateStands}
-use Rattle.wcv_state.specs.Looking.{is_built_entity}
-use Rattle.wcv_state.specs.Promises.{MemoryOrCausedBy, numbers_of, is_instance_entity, if_built, ref_checks, Grew, WrittenEntity, Exported, Entered, EntryCaused, ExportDeclared, ExportCaused}
+use Rattle.wcv_lower.proofs.MarkLaws.{uses-applied, apply-append}
+use Rattle.wcv_state.specs.Contents.{Contents, with_uses, context_of, stack_of, StateStands}
+use Rattle.wcv_state.specs.Promises.{MemoryOrCausedBy, numbers_of, is_instance_entity, Grew, WrittenEntity, Exported, Entered, EntryCaused, ExportDeclared, ExportCaused}
 use Rattle.wcv_state.proofs.Brought.{as_it_is_at}
-use Rattle.wcv_state.proofs.Calls.{built_free, caused_more}
+use Rattle.wcv_state.proofs.Calls.{caused_more}
 use Rattle.wcv_state.proofs.Keeping.{same_context}
+use Rattle.wcv_state.proofs.UsedValues.{uses_context}
 use Rattle.wcv_state.proofs.Opened.{both_none}
-use Rattle.wcv_state.proofs.Sides.{each_space, each_core}
-
--- marks of use are no part of a context
-marks_unseen : (a : Arena) (s : Contents) → context_of a (marks_aside s) ≡ context_of a s
-marks_unseen a s = λ j. record (context_of a s) {
-  core = λ k. each_core (λ i. map (core_tree (trees a.nodes) i) (core_ids i (marks_aside s).spaces) ≡ map (core_tree (trees a.nodes) i) (core_ids i s.spaces)) refl refl refl refl refl refl refl refl k j;
-  space = λ k. each_space (λ i. map (id_tree (trees a.nodes) i) (ids i (marks_aside s).spaces) ≡ map (id_tree (trees a.nodes) i) (ids i s.spaces)) refl refl (values s.spaces.values) refl refl k j;
-}
-  where
-    values : (xs : List (ComponentValType × Bool)) → map (id_tree (trees a.nodes) in_values) (map (unmarked in_values) xs) ≡ map (id_tree (trees a.nodes) in_values) xs
-    values [] = refl
-    values (x ∷ xs) = ap (λ l. id_tree (trees a.nodes) in_values x ∷ l) (values xs)
-
--- where there is no cause, it is built
-free_built : (b : Bool) (cs : Checks) → IsFree (if_built b cs) → (b ≡ true) × IsFree cs
-free_built true cs f = (refl, f)
-free_built false cs f = absurd (false≢true (sym f.0))
 
 -- ## An entry that joins where it was looked up
 
-module _ (a b : Arena) (outer : List Tree_context) (s t : Contents) (h : StateStands a s) (g : Extends a b) (core : b.core ≡ a.core) (same : marks_aside t ≡ marks_aside s) where
-  context_same : context_of b t ≡ context_of a s
-  context_same = sym (marks_unseen b t) ∙ ap (context_of b) same ∙ marks_unseen b s ∙ same_context a b g s h
+module _ (a b : Arena) (outer : List Tree_context) (s t : Contents) (h : StateStands a s) (g : Extends a b) (core : b.core ≡ a.core) (ks : List ℕ) (same : t ≡ with_uses ks s) where
+  context_same : context_of b t ≡ use_all ks (context_of a s)
+  context_same = ap (context_of b) same ∙ uses_context b ks s ∙ ap (use_all ks) (same_context a b g s h)
 
-  stack_same : stack_of b t outer ≡ stack_of a s outer
-  stack_same = λ j. record { top = context_same j; outer = outer; groups = core j }
+  stack_same : stack_of b t outer ≡ apply (uses_each ks) (stack_of a s outer)
+  stack_same = (λ j. record { top = context_same j; outer = outer; groups = core j }) ∙ sym (uses-applied ks (stack_of a s outer))
+
+module _ (a b : Arena) (outer : List Tree_context) (s : Contents) (h : StateStands a s) (g : Extends a b) (core : b.core ≡ a.core) where
+  stack_stays : stack_of b s outer ≡ stack_of a s outer
+  stack_stays = λ j. record { top = same_context a b g s h j; outer = outer; groups = core j }
 
 -- ## Names of two calls, one of which gives none
 
@@ -122,29 +108,30 @@ module _ (a b c : Arena) (p : Place) (x : ComponentEntityType) (g : Extends a b)
       go true e = ap (λ (n : GivenNames). brought_at (tree_maker (names_of (both_given n v)) p) tree) (instance e)
       go false e = as_it_is_at b (tree_maker (names_of (both_given first v)) p) x stands e ∙ sym (as_it_is_at b (tree_maker (names_of v) p) x stands e)
 
--- the entity of an exported item, and then its entry, are the export
-pub export_by_both : (a b c : Arena) (outer : List Tree_context) (p : Place) (s t s' : Contents) (e : ComponentExport) (x : ComponentEntityType) → StateStands a s → Extends a b → Extends b c → Exported a b p s e x → marks_aside t ≡ marks_aside s → Entered true b c outer p t s' e.name x → Grew a c outer p s s' (export_item e)
+-- the entity of an exported item, and then its entry, are the export, where a value is marked as used between
+pub export_by_both : (a b c : Arena) (outer : List Tree_context) (p : Place) (s t s' : Contents) (e : ComponentExport) (x : ComponentEntityType) → StateStands a s → Extends a b → Extends b c → Exported a b p s e x → t ≡ with_uses (exported_values e) s →
+    Entered true b c outer p t s' e.name x → Grew a c outer p s s' (export_item e)
 export_by_both a b c outer p s t s' e x h g k w same v =
     let y : Tree_context = context_of a s in
+    let ks : List ℕ = exported_values e in
     let brought : Brought tree_reader = brought_at (tree_maker (names_of v.names) p) (entity_tree (trees b.nodes) x) in
+    let enter : Step tree_reader = enters exporting (extern_name e.name) brought in
     let all_names : GivenNames = both_given w.names v.names in
-    let of_item : Checks = exported_checks a.core (tree_maker (names_of all_names) p) y e in
-    let looked = free_built (is_built_item e) of_item (w.free v.names) in
+    let of_item : Checks = exported_checks s.features a.core (tree_maker (names_of all_names) p) y e in
     let of_entity : Checks = entity_checks s.features exporting (extern_name e.name) y brought.entity in
     let room : Checks = full_side true exporting (counts y) in
-    let met = free_built (is_built_entity x) (join_checks true t.features exporting (extern_name e.name) (context_of b t) brought.entity) v.free in
     let features : t.features ≡ s.features = ap (λ (z : Contents). z.features) same in
     let here : join_checks true t.features exporting (extern_name e.name) (context_of b t) brought.entity ≡ room ++ of_entity =
-    λ j. join_checks true (features j) exporting (extern_name e.name) (context_same a b outer s t h g w.core same j) brought.entity in
-    let joined : IsFree (room ++ of_entity) = subst IsFree here met.1 in
-    let all : IsFree (room ++ (of_item ++ of_entity)) = free_both room (of_item ++ of_entity) (free_left room of_entity joined) (free_both of_item of_entity looked.1 (free_right room of_entity joined)) in
+    λ j. join_checks true (features j) exporting (extern_name e.name) (context_same a b outer s t h g w.core ks same j) brought.entity in
+    let joined : IsFree (room ++ of_entity) = subst IsFree here v.free in
+    let all : IsFree (room ++ (of_item ++ of_entity)) = free_both room (of_item ++ of_entity) (free_left room of_entity joined) (free_both of_item of_entity (w.free v.names) (free_right room of_entity joined)) in
     let found : exported (tree_maker (names_of all_names) p) y e ≡ Some brought = w.brings v.names ∙ ap Some (brought_both a b c p x g k w.names w.given w.instance w.stands v.names v.given v.bare) in
     record {
       names = all_names;
       given = both_given_at a b c p x g k w.names w.given w.instance w.stands v.names v.given v.bare;
-      grown = ap (λ o. option_map (λ q. apply q (stack_of a s outer)) (option_map (enters exporting (extern_name e.name)) o)) found ∙
-          (λ j. Some (apply (enters exporting (extern_name e.name) brought) (sym (stack_same a b outer s t h g w.core same) j))) ∙ ap Some (sym v.entered);
-      free = built_free (is_built_item e) _ looked.0 (subst (λ (o : Option (Brought tree_reader)). IsFree (entries.entry_checks s.features exporting (extern_name e.name) y of_item o)) (sym found) all);
+      grown = ap (λ o. option_map (λ q. apply q (stack_of a s outer)) (using ks (option_map (enters exporting (extern_name e.name)) o))) found ∙
+          ap Some (apply-append (uses_each ks) enter (stack_of a s outer) ∙ ap (apply enter) (sym (stack_same a b outer s t h g w.core ks same)) ∙ sym v.entered);
+      free = subst (λ (o : Option (Brought tree_reader)). IsFree (entries.entry_checks s.features exporting (extern_name e.name) y of_item o)) (sym found) all;
       live = v.live;
     }
 
@@ -159,24 +146,22 @@ pub written_by_both : (a b c : Arena) (outer : List Tree_context) (p : Place) (s
 written_by_both a b c outer p s s' r n x h g k w v =
     let t : Tree_context = context_of a s in
     let brought : Brought tree_reader = brought_at (tree_maker (names_of v.names) p) (entity_tree (trees b.nodes) x) in
-    let looked = free_built (is_built_ref r) (written_checks t r) w.free in
-    let met = free_built (is_built_entity x) (join_checks true s.features exporting (extern_name n) (context_of b s) brought.entity) v.free in
     let of_entity : Checks = entity_checks s.features exporting (extern_name n) t brought.entity in
     let room : Checks = full_side true exporting (counts t) in
-    let joined : IsFree (room ++ of_entity) = subst (λ (y : Tree_context). IsFree (join_checks true s.features exporting (extern_name n) y brought.entity)) (same_context a b g s h) met.1 in
-    let all : IsFree (room ++ (written_checks t r ++ of_entity)) = free_both room (written_checks t r ++ of_entity) (free_left room of_entity joined) (free_both (written_checks t r) of_entity looked.1 (free_right room of_entity joined)) in
+    let joined : IsFree (room ++ of_entity) = subst (λ (y : Tree_context). IsFree (join_checks true s.features exporting (extern_name n) y brought.entity)) (same_context a b g s h) v.free in
+    let all : IsFree (room ++ (written_checks s.features t r ++ of_entity)) = free_both room (written_checks s.features t r ++ of_entity) (free_left room of_entity joined) (free_both (written_checks s.features t r) of_entity w.free (free_right room of_entity joined)) in
     let found = written_both a b c p s r x g k w v.names v.given v.bare in
     record {
       names = both_given w.names v.names;
       given = both_given_at a b c p x g k w.names w.given w.instance w.stands v.names v.given v.bare;
       read = ap (λ o. option_map (λ q. apply q (stack_of a s outer)) (option_map (enters exporting (extern_name n)) o)) found ∙
-          (λ j. Some (apply (enters exporting (extern_name n) brought) (sym (stack_same a b outer s s h g w.core refl) j))) ∙ ap Some (sym v.entered);
-      free = subst (λ (o : Option (Brought tree_reader)). IsFree (entries.entry_checks s.features exporting (extern_name n) t (written_checks t r) o)) (sym found) all;
+          (λ j. Some (apply (enters exporting (extern_name n) brought) (sym (stack_stays a b outer s h g w.core) j))) ∙ ap Some (sym v.entered);
+      free = subst (λ (o : Option (Brought tree_reader)). IsFree (entries.entry_checks s.features exporting (extern_name n) t (written_checks s.features t r) o)) (sym found) all;
     }
 
 -- a cause of the written type is one of the export
-pub export_written_caused : {M : Type 0} (a b : Arena) (p : Place) (s : Contents) (r : ComponentTypeRef) (n : ComponentExternName) (offset : ℕ) (e : Error M) → is_built_ref r ≡ true → MemoryOrCausedBy (ref_checks (context_of a s) r) offset e → ExportCaused a b p s n r offset e
-export_written_caused a b p s r n offset e built t =
+pub export_written_caused : {M : Type 0} (a b : Arena) (p : Place) (s : Contents) (r : ComponentTypeRef) (n : ComponentExternName) (offset : ℕ) (e : Error M) → MemoryOrCausedBy (written_checks s.features (context_of a s) r) offset e → ExportCaused a b p s n r offset e
+export_written_caused a b p s r n offset e t =
     let c : Tree_context = context_of a s in
     let found : Option (Brought tree_reader) = written (tree_maker (names_of none_given) p) c r in
     let room : Checks = full_side true exporting (counts c) in
@@ -184,9 +169,9 @@ export_written_caused a b p s r n offset e built t =
     record {
       names = none_given;
       given = record { resources = tt; identities = tt };
-      caused = caused_more (written_checks c r) (room ++ (written_checks c r ++ of_found)) offset e
-          (λ q. cause_right room (written_checks c r ++ of_found) (error_kind e) (cause_left (written_checks c r) of_found (error_kind e) q))
-          (subst (λ (y : Bool). MemoryOrCausedBy (if_built y (written_checks c r)) offset e) built t);
+      caused = caused_more (written_checks s.features c r) (room ++ (written_checks s.features c r ++ of_found)) offset e
+          (λ q. cause_right room (written_checks s.features c r ++ of_found) (error_kind e) (cause_left (written_checks s.features c r) of_found (error_kind e) q))
+          t;
     }
 
 -- so is one of the entry
@@ -198,13 +183,12 @@ export_entry_caused a b c p s r n x offset e h g k w v =
     let of_entity : Checks = entity_checks s.features exporting (extern_name n) t brought.entity in
     let room : Checks = full_side true exporting (counts t) in
     let met : MemoryOrCausedBy (room ++ of_entity) offset e =
-    subst (λ (y : Tree_context). MemoryOrCausedBy (join_checks true s.features exporting (extern_name n) y brought.entity) offset e) (same_context a b g s h)
-    (subst (λ (y : Bool). MemoryOrCausedBy (if_built y (join_checks true s.features exporting (extern_name n) (context_of b s) brought.entity)) offset e) w.built v.caused) in
+    subst (λ (y : Tree_context). MemoryOrCausedBy (join_checks true s.features exporting (extern_name n) y brought.entity) offset e) (same_context a b g s h) v.caused in
     let found = written_both a b c p s r x g k w v.names v.given v.bare in
     record {
       names = both_given w.names v.names;
       given = both_given_at a b c p x g k w.names w.given w.instance w.stands v.names v.given v.bare;
-      caused = subst (λ (o : Option (Brought tree_reader)). MemoryOrCausedBy (entries.entry_checks s.features exporting (extern_name n) t (written_checks t r) o) offset e) (sym found)
-          (caused_more (room ++ of_entity) (room ++ (written_checks t r ++ of_entity)) offset e
-          (λ q. ⊎_elim (λ l. cause_left room (written_checks t r ++ of_entity) (error_kind e) l) (λ l. cause_right room (written_checks t r ++ of_entity) (error_kind e) (cause_right (written_checks t r) of_entity (error_kind e) l)) (cause_either room of_entity (error_kind e) q)) met);
+      caused = subst (λ (o : Option (Brought tree_reader)). MemoryOrCausedBy (entries.entry_checks s.features exporting (extern_name n) t (written_checks s.features t r) o) offset e) (sym found)
+          (caused_more (room ++ of_entity) (room ++ (written_checks s.features t r ++ of_entity)) offset e
+          (λ q. ⊎_elim (λ l. cause_left room (written_checks s.features t r ++ of_entity) (error_kind e) l) (λ l. cause_right room (written_checks s.features t r ++ of_entity) (error_kind e) (cause_right (written_checks s.features t r) of_entity (error_kind e) l)) (cause_either room of_entity (error_kind e) q)) met);
     }

@@ -33,7 +33,10 @@ use Rattle.wcv_names.specs.KeySet.{HasKeys}
 use Rattle.wcv_names.specs.ResourceNames.{Named_ids, same_reference, reference_of, references_of, name_of, names_of}
 use Rattle.wcv_names.proofs.ByNames.{name_checks-same}
 use Rattle.wcv_names.proofs.Entering.{keys_of_joined}
-use Rattle.wcv_lower.specs.Checks.{Checks, IsFree, is_among, full_if, no_room}
+use Rattle.wcv_lower.specs.Checks.{Checks, Cause, IsFree, is_among, full_if, no_room}
+use Rattle.wcv_lower.specs.Context.{Side}
+use Rattle.wcv_lower.specs.Entries.{lent}
+use Rattle.wcv_lower.specs.Trees.{tree_reader}
 use Rattle.wcv_lower.proofs.Causes.{cause_left, cause_right, cause_either, free_both, free_left, free_right}
 use Rattle.wcv_state.specs.declared.entries.Entries.{Entries}
 use Rattle.wcv_state.specs.Entering.{Admitted, entry_checks, room_counts}
@@ -165,7 +168,7 @@ all_unnamed c es x e h =
 
 -- ## The causes of an entry
 
-module _ (a : Arena) (limited : Bool) (fs : WasmFeatures) (s : SpaceLists) (side : Entries) (info : TypeInfo) (n : Extern_name) (t : Type_tree) (stand : All (EntryStands a) side.items) (agree : NamesAgree side) where
+module _ (a : Arena) (limited : Bool) (fs : WasmFeatures) (d : Side) (s : SpaceLists) (side : Entries) (info : TypeInfo) (n : Extern_name) (t : Type_tree) (stand : All (EntryStands a) side.items) (agree : NamesAgree side) where
   abbrev Es : List (Extern_name × Type_tree)
   Es = entry_trees (trees a.nodes) side.items
 
@@ -178,41 +181,53 @@ module _ (a : Arena) (limited : Bool) (fs : WasmFeatures) (s : SpaceLists) (side
   abbrev room_alone : Checks
   room_alone = no_room (room_counts s) (sort t)
 
+  abbrev handed : Checks
+  handed = lent tree_reader d t
+
+  abbrev alone : Checks
+  alone = room_alone ++ size_alone
+
   kept : externs.name_checks (names_of side.resources) fs Es n t ≡ name_checks fs Es n t
   kept = names_kept a side.resources side.items fs n t stand agree.references agree.names
 
-  pub enter_free : IsFree (extern_checks (names_of side.resources) fs (entry_trees (trees a.nodes) side.items) info n t) → IsFree (full_if limited max_entries (length side.items)) → IsFree (no_room (room_counts s) (sort t)) →
-      IsFree (entry_checks limited fs (trees a.nodes) s side.items info n t)
-  enter_free h l r =
-      free_both full_list (name_checks fs Es n t ++ (room_alone ++ size_alone)) l
-      (free_both (name_checks fs Es n t) (room_alone ++ size_alone) (subst IsFree kept (free_left (externs.name_checks (names_of side.resources) fs Es n t) size_alone h))
-      (free_both room_alone size_alone r (free_right (externs.name_checks (names_of side.resources) fs Es n t) size_alone h)))
+  pub enter_free : IsFree (extern_checks (names_of side.resources) fs (entry_trees (trees a.nodes) side.items) info n t) → IsFree (full_if limited max_entries (length side.items)) → IsFree (no_room (room_counts s) (sort t)) → IsFree (lent tree_reader d t) →
+      IsFree (entry_checks limited fs d (trees a.nodes) s side.items info n t)
+  enter_free h l r b =
+      free_both full_list (name_checks fs Es n t ++ (alone ++ handed)) l
+      (free_both (name_checks fs Es n t) (alone ++ handed) (subst IsFree kept (free_left (externs.name_checks (names_of side.resources) fs Es n t) size_alone h))
+      (free_both alone handed (free_both room_alone size_alone r (free_right (externs.name_checks (names_of side.resources) fs Es n t) size_alone h)) b))
 
-  pub name_caused : {M : Type 0} (offset : ℕ) (e : Error M) → MemoryOrCausedBy (extern_checks (names_of side.resources) fs (entry_trees (trees a.nodes) side.items) info n t) offset e → MemoryOrCausedBy (entry_checks limited fs (trees a.nodes) s side.items info n t) offset e
+  pub name_caused : {M : Type 0} (offset : ℕ) (e : Error M) → MemoryOrCausedBy (extern_checks (names_of side.resources) fs (entry_trees (trees a.nodes) side.items) info n t) offset e → MemoryOrCausedBy (entry_checks limited fs d (trees a.nodes) s side.items info n t) offset e
   name_caused offset e h =
-      caused_more (name_checks fs Es n t ++ size_alone) (full_list ++ (name_checks fs Es n t ++ (room_alone ++ size_alone))) offset e
-      (λ q. cause_right full_list (name_checks fs Es n t ++ (room_alone ++ size_alone)) (error_kind e)
-      (⊎_elim (λ k. cause_left (name_checks fs Es n t) (room_alone ++ size_alone) (error_kind e) k)
-      (λ k. cause_right (name_checks fs Es n t) (room_alone ++ size_alone) (error_kind e) (cause_right room_alone size_alone (error_kind e) k))
+      caused_more (name_checks fs Es n t ++ size_alone) (full_list ++ (name_checks fs Es n t ++ (alone ++ handed))) offset e
+      (λ q. cause_right full_list (name_checks fs Es n t ++ (alone ++ handed)) (error_kind e)
+      (⊎_elim (λ k. cause_left (name_checks fs Es n t) (alone ++ handed) (error_kind e) k)
+      (λ k. cause_right (name_checks fs Es n t) (alone ++ handed) (error_kind e) (cause_left alone handed (error_kind e) (cause_right room_alone size_alone (error_kind e) k)))
       (cause_either (name_checks fs Es n t) size_alone (error_kind e) q)))
       (subst (λ (cs : Checks). MemoryOrCausedBy (cs ++ size_alone) offset e) kept h)
 
-  pub side_caused : {M : Type 0} (offset : ℕ) (e : Error M) → MemoryOrCausedBy (full_if limited max_entries (length side.items)) offset e → MemoryOrCausedBy (entry_checks limited fs (trees a.nodes) s side.items info n t) offset e
+  pub side_caused : {M : Type 0} (offset : ℕ) (e : Error M) → MemoryOrCausedBy (full_if limited max_entries (length side.items)) offset e → MemoryOrCausedBy (entry_checks limited fs d (trees a.nodes) s side.items info n t) offset e
   side_caused offset e h =
-      caused_more full_list (full_list ++ (name_checks fs Es n t ++ (room_alone ++ size_alone))) offset e
-      (λ q. cause_left full_list (name_checks fs Es n t ++ (room_alone ++ size_alone)) (error_kind e) q) h
+      caused_more full_list (full_list ++ (name_checks fs Es n t ++ (alone ++ handed))) offset e
+      (λ q. cause_left full_list (name_checks fs Es n t ++ (alone ++ handed)) (error_kind e) q) h
 
-  pub room_caused : {M : Type 0} (offset : ℕ) (e : Error M) → MemoryOrCausedBy (no_room (room_counts s) (sort t)) offset e → MemoryOrCausedBy (entry_checks limited fs (trees a.nodes) s side.items info n t) offset e
-  room_caused offset e h =
-      caused_more room_alone (full_list ++ (name_checks fs Es n t ++ (room_alone ++ size_alone))) offset e
-      (λ q. cause_right full_list (name_checks fs Es n t ++ (room_alone ++ size_alone)) (error_kind e)
-      (cause_right (name_checks fs Es n t) (room_alone ++ size_alone) (error_kind e) (cause_left room_alone size_alone (error_kind e) q))) h
+  -- some of the causes behind those of the name
+  behind_name : {M : Type 0} (cs : Checks) (offset : ℕ) (e : Error M) → (Cause cs (error_kind e) → Cause (alone ++ handed) (error_kind e)) → MemoryOrCausedBy cs offset e → MemoryOrCausedBy (full_list ++ (name_checks fs Es n t ++ (alone ++ handed))) offset e
+  behind_name cs offset e f h =
+      caused_more cs (full_list ++ (name_checks fs Es n t ++ (alone ++ handed))) offset e
+      (λ q. cause_right full_list (name_checks fs Es n t ++ (alone ++ handed)) (error_kind e) (cause_right (name_checks fs Es n t) (alone ++ handed) (error_kind e) (f q))) h
+
+  pub room_caused : {M : Type 0} (offset : ℕ) (e : Error M) → MemoryOrCausedBy (no_room (room_counts s) (sort t)) offset e → MemoryOrCausedBy (entry_checks limited fs d (trees a.nodes) s side.items info n t) offset e
+  room_caused offset e h = behind_name room_alone offset e (λ q. cause_left alone handed (error_kind e) (cause_left room_alone size_alone (error_kind e) q)) h
+
+  pub lent_caused : {M : Type 0} (offset : ℕ) (e : Error M) → MemoryOrCausedBy (lent tree_reader d t) offset e → MemoryOrCausedBy (entry_checks limited fs d (trees a.nodes) s side.items info n t) offset e
+  lent_caused offset e h = behind_name handed offset e (λ q. cause_right alone handed (error_kind e) q) h
 
   -- a name that may join is new
-  pub entry_new : IsFree (entry_checks limited fs (trees a.nodes) s side.items info n t) → list_any (bytes_eq n.name) (names_in side.items) ≡ false
+  pub entry_new : IsFree (entry_checks limited fs d (trees a.nodes) s side.items info n t) → list_any (bytes_eq n.name) (names_in side.items) ≡ false
   entry_new h =
       may_join (trees a.nodes) side.items (resource_names Es) fs n t
-      (free_left (name_checks fs Es n t) (room_alone ++ size_alone) (free_right full_list (name_checks fs Es n t ++ (room_alone ++ size_alone)) h))
+      (free_left (name_checks fs Es n t) (alone ++ handed) (free_right full_list (name_checks fs Es n t ++ (alone ++ handed)) h))
 
 -- the names of a list with one more entry
 pub admitted_agree : (side mid side' : Entries) (i i' : TypeInfo) (n : ComponentExternName) (x : ComponentEntityType) (t : Type_tree) → NamesAgree side → Admitted side mid i i' n x t → mid.items ≡ side.items → side'.items ≡ mid.items ++ entry_of n x ∷ [] → side'.names ≡ mid.names →

@@ -3,14 +3,12 @@ use Rattle.std.proofs.Common.{◌≡◌, ℕ, List, [], ◌∷◌, ◌++◌, ref
 use Rattle.std.specs.Prelude.{All, Option, slice_get, nat_le}
 use Rattle.std.specs.Map.{lookup}
 use Rattle.std.specs.Option.{option_map, option_and_then}
-use Rattle.std.proofs.lemmas.Bool.{false≢true}
 use Rattle.std.proofs.lemmas.Bool.Decides.{nat_tests}
 use Rattle.wcv_core.specs.Limits.{max_instances}
 use Rattle.wcv_core.specs.Names.{Name, Place}
 use Rattle.wcv_core.specs.declared.error.Error.{Error}
 use Rattle.wcv_core.specs.declared.error.ErrorKind.TheVariants as error
 use Rattle.wcv_core.proofs.Causes.{cause_left, cause_right, free_both}
-use Rattle.wcv_syntax.specs.Built.{is_built_sort}
 use Rattle.wcv_syntax.specs.Model.{alias_item}
 use Rattle.wcv_syntax.specs.declared.instance.ComponentAlias.TheVariants as alias
 use Rattle.wcv_syntax.specs.declared.instance.ComponentExternalKind.{ComponentExternalKind}
@@ -30,23 +28,22 @@ use Rattle.wcv_types.proofs.Lists.{some-inj}
 use Rattle.wcv_subtype.proofs.PassIds.{found_stands}
 use Rattle.wcv_lower.specs.Aliases.{sort_named, is_admitted, instance_at, export_of, joining, export_alias_step, named_checks, export_alias_checks}
 use Rattle.wcv_lower.specs.Checks.{Checks, Counts, Cause, IsFree, full, if_found, missing, no_room, same_sort}
-use Rattle.wcv_lower.specs.Context.{in_types, in_funcs, in_instances, in_components, core_modules, is_concrete, counts}
+use Rattle.wcv_lower.specs.Context.{in_types, in_funcs, in_values, in_instances, in_components, core_modules, is_concrete, counts}
 use Rattle.wcv_lower.specs.Given.{none_given}
-use Rattle.wcv_lower.specs.Growth.{unbuilt}
 use Rattle.wcv_lower.specs.Readers.{if_sort, first_named}
 use Rattle.wcv_lower.specs.Step.{Step, apply, joins}
 use Rattle.wcv_lower.specs.Trees.{Tree_context, tree_reader}
-use Rattle.wcv_state.specs.Aliasing.{with_entity, is_kind, export_id, export_id_checks, ExportFinds}
+use Rattle.wcv_lower.specs.Values.{kind_checks}
+use Rattle.wcv_state.specs.Aliasing.{with_entity, export_id, export_id_checks, ExportFinds}
 use Rattle.wcv_state.specs.Contents.{Contents, kind_of, id_tree, context_of, stack_of, StateStands}
 use Rattle.wcv_state.specs.Entering.{room_counts}
-use Rattle.wcv_state.specs.Looking.{New_id, own_id, core_id, is_built_entity, enter_id}
 use Rattle.wcv_state.specs.Promises.{MemoryOrCausedBy, Grew, Keeps}
 use Rattle.wcv_state.proofs.Brought.{entity_sorted}
 use Rattle.wcv_state.proofs.Calls.{caused_more}
 use Rattle.wcv_state.proofs.CoreItems.{missing_mapped}
 use Rattle.wcv_state.proofs.Found.{get_same, stands_at}
-use Rattle.wcv_state.proofs.JoinedSides.{counts_same}
-use Rattle.wcv_state.proofs.Keeping.{new_change, Joins, entity_joins, keeps_with_id, keeps_with_core, with_id_context, with_core_context}
+use Rattle.wcv_state.proofs.JoinedSides.{counts_same, entered_context}
+use Rattle.wcv_state.proofs.Keeping.{keeps_with_id, keeps_with_core}
 
 -- a count that ends at a greater number is as good
 pub instances_full : (n : ℕ) → full max_instances (min n 18446744073709551615) ≡ full max_instances n
@@ -55,40 +52,18 @@ instances_full n = let e : nat_le max_instances (min n 18446744073709551615) ≡
 -- ## An entity joins its space
 
 module _ (a : Arena) (s : Contents) where
-  pub entity_keeps : StateStands a s → (x : ComponentEntityType) → is_built_entity x ≡ true → EntityStands a x → Keeps a a s (with_entity x s)
-  entity_keeps h (entity.Module i) b p = keeps_with_core a core_modules i s h p
-  entity_keeps h (entity.Func i) b p = keeps_with_id a in_funcs i s h p
-  entity_keeps h (entity.Value v) b p = absurd (false≢true b)
-  entity_keeps h (entity.Ty c r) b p = keeps_with_id a in_types c s h (p.0, p.0)
-  entity_keeps h (entity.Instance i) b p = keeps_with_id a in_instances i s h p
-  entity_keeps h (entity.Component i) b p = keeps_with_id a in_components i s h p
+  pub entity_keeps : StateStands a s → (x : ComponentEntityType) → EntityStands a x → Keeps a a s (with_entity x s)
+  entity_keeps h (entity.Module i) p = keeps_with_core a core_modules i s h p
+  entity_keeps h (entity.Func i) p = keeps_with_id a in_funcs i s h p
+  entity_keeps h (entity.Value v) p = keeps_with_id a in_values (v, false) s h p
+  entity_keeps h (entity.Ty c r) p = keeps_with_id a in_types c s h (p.0, p.0)
+  entity_keeps h (entity.Instance i) p = keeps_with_id a in_instances i s h p
+  entity_keeps h (entity.Component i) p = keeps_with_id a in_components i s h p
 
-  entered_stack : (outer : List Tree_context) (n : New_id) → stack_of a (record s { spaces = enter_id (Some n) s.spaces }) outer ≡ apply (new_change (trees a.nodes) n ∷ []) (stack_of a s outer)
-  entered_stack outer (own_id k x) = λ j. record { top = with_id_context a k x s j; outer = outer; groups = a.core }
-  entered_stack outer (core_id k x) = λ j. record { top = with_core_context a k x s j; outer = outer; groups = a.core }
-
-  -- so its tree joins the context
-  pub entity_stack : (outer : List Tree_context) (x : ComponentEntityType) → is_built_entity x ≡ true → EntityStands a x →
-      stack_of a (with_entity x s) outer ≡ apply (joins tree_reader (sort (entity_tree (trees a.nodes) x)) (entity_tree (trees a.nodes) x)) (stack_of a s outer)
-  entity_stack outer x b p =
-      let w : Joins a x = entity_joins a x b p in
-      ap (λ (o : Option New_id). stack_of a (record s { spaces = enter_id o s.spaces }) outer) w.is ∙ entered_stack outer w.entry ∙ sym (ap (λ (p : Step tree_reader). apply p (stack_of a s outer)) w.step)
-
--- ## Sorts
-
--- an entity of a sort that is built
-pub kind_built : (w : ComponentExternalKind) (x : ComponentEntityType) → is_built_sort w ≡ true → is_kind w x ≡ true → is_built_entity x ≡ true
-kind_built w (entity.Module i) b e = refl
-kind_built w (entity.Func i) b e = refl
-kind_built kind.Module (entity.Value v) b e = absurd (false≢true e)
-kind_built kind.Func (entity.Value v) b e = absurd (false≢true e)
-kind_built kind.Value (entity.Value v) b e = absurd (false≢true b)
-kind_built kind.Ty (entity.Value v) b e = absurd (false≢true e)
-kind_built kind.Instance (entity.Value v) b e = absurd (false≢true e)
-kind_built kind.Component (entity.Value v) b e = absurd (false≢true e)
-kind_built w (entity.Ty c r) b e = refl
-kind_built w (entity.Instance i) b e = refl
-kind_built w (entity.Component i) b e = refl
+  -- so its tree joins the context, and a value is not used yet
+  pub entity_stack : (outer : List Tree_context) (x : ComponentEntityType) → EntityStands a x →
+      stack_of a (with_entity x s) outer ≡ apply (joins tree_reader false (sort (entity_tree (trees a.nodes) x)) (entity_tree (trees a.nodes) x)) (stack_of a s outer)
+  entity_stack outer x p = entered_context a outer false x s.spaces (context_of a s) p
 
 -- ## What is found
 
@@ -138,7 +113,7 @@ module _ (a : Arena) (s : Contents) (h : StateStands a s) (w : ComponentExternal
   instance_stands x e = stands_at a s h in_instances i x e
 
   -- the entity joins
-  export_step_is : (x : ComponentEntityType) → ExportFinds a s.spaces w i n x → export_alias_step (context_of a s) w i n ≡ Some (joins tree_reader (sort (tree a x)) (tree a x))
+  export_step_is : (x : ComponentEntityType) → ExportFinds a s.spaces w i n x → export_alias_step (context_of a s) w i n ≡ Some (joins tree_reader false (sort (tree a x)) (tree a x))
   export_step_is x f =
       let sorted : same_sort (sort_named w) (sort (tree a x)) ≡ true = ap (same_sort (sort_named w)) (entity_sorted a x f.stands) ∙ f.sort in
       ap (λ (o : Option Type_tree). option_map (joining {X = tree_reader}) (option_and_then (if_sort tree_reader (sort_named w)) (option_and_then (export_of tree_reader n) o))) (instance_is f.instance f.at) ∙
@@ -146,6 +121,9 @@ module _ (a : Arena) (s : Contents) (h : StateStands a s) (w : ComponentExternal
       ap (λ (b : Bool). option_map (joining {X = tree_reader}) (cond b (Some (tree a x)) None)) sorted
 
   -- ## Causes
+
+  abbrev feature : Checks
+  feature = kind_checks s.features w
 
   abbrev scope : Checks
   scope = (error.AliasKind, not (is_concrete (kind_of s.kind)) && not (is_admitted w)) ∷ []
@@ -159,8 +137,11 @@ module _ (a : Arena) (s : Contents) (h : StateStands a s) (w : ComponentExternal
   abbrev room : Checks
   room = no_room (counts (context_of a s)) (sort_named w)
 
+  abbrev behind : Checks
+  behind = scope ++ (there ++ (found ++ room))
+
   abbrev all : Checks
-  all = export_alias_checks (context_of a s) w i n
+  all = kind_checks s.features w ++ export_alias_checks (context_of a s) w i n
 
   there_same : missing at_index ≡ there
   there_same = sym (missing_mapped (id_tree (trees a.nodes) in_instances) at_index) ∙ ap missing (sym instance_here)
@@ -179,22 +160,26 @@ module _ (a : Arena) (s : Contents) (h : StateStands a s) (w : ComponentExternal
   room_in kind.Instance = ap (λ (c : Counts). no_room c (sort_named kind.Instance)) (sym (counts_same a s))
   room_in kind.Component = ap (λ (c : Counts). no_room c (sort_named kind.Component)) (sym (counts_same a s))
 
-  pub export_free : (x : ComponentEntityType) → ExportFinds a s.spaces w i n x → IsFree scope → IsFree (no_room (room_counts s.spaces) (sort_named w)) → IsFree all
-  export_free x f u r =
+  pub export_free : (x : ComponentEntityType) → ExportFinds a s.spaces w i n x → IsFree (kind_checks s.features w) → IsFree scope → IsFree (no_room (room_counts s.spaces) (sort_named w)) → IsFree all
+  export_free x f k u r =
       let sorted : same_sort (sort_named w) (sort (tree a x)) ≡ true = ap (same_sort (sort_named w)) (entity_sorted a x f.stands) ∙ f.sort in
-      free_both scope (there ++ (found ++ room)) u
+      free_both feature behind k
+      (free_both scope (there ++ (found ++ room)) u
       (free_both there (found ++ room) (subst IsFree (ap missing (sym (instance_is f.instance f.at))) (refl, tt))
       (free_both found room
       (subst IsFree (ap (if_found (λ y. named_checks tree_reader (sort_named w) (export_of tree_reader n y))) (sym (instance_is f.instance f.at)))
       (subst (λ (o : Option Type_tree). IsFree (named_checks tree_reader (sort_named w) o)) (sym f.export) (refl, (ap not sorted, tt))))
-      (subst IsFree (room_in w) r)))
+      (subst IsFree (room_in w) r))))
 
   module _ {M : Type 0} (offset : ℕ) (e : Error M) where
+    pub feature_caused : MemoryOrCausedBy (kind_checks s.features w) offset e → MemoryOrCausedBy all offset e
+    feature_caused t = caused_more feature all offset e (cause_left feature behind e.kind) t
+
     pub scope_caused : MemoryOrCausedBy scope offset e → MemoryOrCausedBy all offset e
-    scope_caused t = caused_more scope all offset e (cause_left scope (there ++ (found ++ room)) e.kind) t
+    scope_caused t = caused_more scope all offset e (λ c. cause_right feature behind e.kind (cause_left scope (there ++ (found ++ room)) e.kind c)) t
 
     behind_scope : (cs : Checks) → (Cause cs e.kind → Cause (there ++ (found ++ room)) e.kind) → MemoryOrCausedBy cs offset e → MemoryOrCausedBy all offset e
-    behind_scope cs f t = caused_more cs all offset e (λ c. cause_right scope (there ++ (found ++ room)) e.kind (f c)) t
+    behind_scope cs f t = caused_more cs all offset e (λ c. cause_right feature behind e.kind (cause_right scope (there ++ (found ++ room)) e.kind (f c))) t
 
     pub index_caused : MemoryOrCausedBy (missing at_index) offset e → MemoryOrCausedBy all offset e
     index_caused t = behind_scope there (cause_left there (found ++ room) e.kind) (subst (λ cs. MemoryOrCausedBy cs offset e) there_same t)
@@ -209,12 +194,12 @@ module _ (a : Arena) (s : Contents) (h : StateStands a s) (w : ComponentExternal
 
 -- ## The item
 
-module _ (a : Arena) (s s' : Contents) (h : StateStands a s) (live : s.spent ≡ false) (w : ComponentExternalKind) (built : is_built_sort w ≡ true) (i : ℕ) (n : Text) (x : ComponentEntityType) (f : ExportFinds a s.spaces w i n x) (is : s' ≡ with_entity x s) where
-  pub export_grew : IsFree (export_alias_checks (context_of a s) w i n) → (outer : List Tree_context) (p : Place) → Grew a a outer p s s' (alias_item (alias.InstanceExport w i n))
+module _ (a : Arena) (s s' : Contents) (h : StateStands a s) (live : s.spent ≡ false) (w : ComponentExternalKind) (i : ℕ) (n : Text) (x : ComponentEntityType) (f : ExportFinds a s.spaces w i n x) (is : s' ≡ with_entity x s) where
+  pub export_grew : IsFree (kind_checks s.features w ++ export_alias_checks (context_of a s) w i n) → (outer : List Tree_context) (p : Place) → Grew a a outer p s s' (alias_item (alias.InstanceExport w i n))
   export_grew free outer p = record {
     names = none_given;
     given = record { resources = tt; identities = tt };
-    grown = ap (option_map (λ (q : Step tree_reader). apply q (stack_of a s outer))) (export_step_is a s h w i n x f) ∙ ap Some (sym (entity_stack a s outer x (kind_built w x built f.sort) f.stands)) ∙ λ j. Some (stack_of a (sym is j) outer);
-    free = subst (λ (b : Bool). IsFree (cond b (export_alias_checks (context_of a s) w i n) unbuilt)) (sym built) free;
+    grown = ap (option_map (λ (q : Step tree_reader). apply q (stack_of a s outer))) (export_step_is a s h w i n x f) ∙ ap Some (sym (entity_stack a s outer x f.stands)) ∙ λ j. Some (stack_of a (sym is j) outer);
+    free = free;
     live = ap (λ (z : Contents). z.spent) is ∙ live;
   }

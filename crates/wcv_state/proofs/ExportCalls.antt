@@ -1,7 +1,9 @@
 -- An entity that was opened joins the exports.
-use Rattle.std.proofs.Common.{◌≡◌, ℕ, List, [], refl, sym, ◌∙◌, subst, Bool, true, false, inl, inr}
+use Rattle.std.proofs.Common.{◌≡◌, ℕ, List, refl, sym, ◌∙◌, subst, Bool, inl}
 use Rattle.wcv_core.specs.Names.{Place}
+use Rattle.wcv_core.specs.Refusal.{error_kind}
 use Rattle.wcv_core.specs.declared.error.Error.{Error}
+use Rattle.wcv_core.specs.declared.error.ErrorKind.TheVariants as kind
 use Rattle.wcv_syntax.specs.declared.name.ComponentExternName.{ComponentExternName}
 use Rattle.wcv_types.specs.Arena.{Arena}
 use Rattle.wcv_types.specs.Entities.{entity_tree}
@@ -17,27 +19,15 @@ use Rattle.wcv_lower.specs.Step.{brought_at, apply, enters}
 use Rattle.wcv_lower.specs.Trees.{Tree_context, tree_reader, tree_maker}
 use Rattle.wcv_state.specs.Bringing.{EntityOpened, HasJoined}
 use Rattle.wcv_state.specs.Contents.{Contents, context_of, stack_of, StateStands}
-use Rattle.wcv_state.specs.Looking.{is_built_entity}
-use Rattle.wcv_state.specs.Promises.{MemoryOrCausedBy, if_built, Entered, EntryCaused}
+use Rattle.wcv_state.specs.Promises.{MemoryOrCausedBy, Entered, EntryCaused}
 use Rattle.wcv_state.specs.declared.bringing.NewEntity.{NewEntity}
-use Rattle.wcv_state.proofs.Calls.{built_free, built_caused}
 use Rattle.wcv_state.proofs.Keeping.{same_context}
 
--- what is not built is refused whatever it is, and so is all out of memory
-refused_more : {M : Type 0} (b : Bool) (cs : Checks) (offset : ℕ) (e : Error M) → MemoryOrCausedBy (if_built b []) offset e → MemoryOrCausedBy (if_built b cs) offset e
-refused_more false cs offset e t = t
-refused_more true cs offset e (inl m) = inl m
-refused_more true cs offset e (inr t) = absurd t.0
+-- out of memory
+pub entry_memory : {M : Type 0} (limited : Bool) (a b : Arena) (p : Place) (s : Contents) (n : ComponentExternName) (x : ComponentEntityType) (offset : ℕ) (e : Error M) → error_kind e ≡ kind.OutOfMemory → EntryCaused limited a b p s n x offset e
+entry_memory limited a b p s n x offset e t = record { names = none_given; given = record { resources = tt; identities = tt }; bare = λ k. refl; caused = inl t }
 
-pub entry_unbuilt : {M : Type 0} (limited : Bool) (a b : Arena) (p : Place) (s : Contents) (n : ComponentExternName) (x : ComponentEntityType) (offset : ℕ) (e : Error M) → MemoryOrCausedBy (if_built (is_built_entity x) []) offset e → EntryCaused limited a b p s n x offset e
-entry_unbuilt limited a b p s n x offset e t = record {
-  names = none_given;
-  given = record { resources = tt; identities = tt };
-  bare = λ k. refl;
-  caused = refused_more (is_built_entity x) _ offset e t;
-}
-
-module _ (limited : Bool) (a b : Arena) (p : Place) (s : Contents) (n : ComponentExternName) (x : ComponentEntityType) (e : NewEntity) (h : StateStands a s) (built : is_built_entity x ≡ true) (o : EntityOpened a b x e) where
+module _ (limited : Bool) (a b : Arena) (p : Place) (s : Contents) (n : ComponentExternName) (x : ComponentEntityType) (e : NewEntity) (h : StateStands a s) (o : EntityOpened a b x e) where
   abbrev mk : Maker tree_reader
   mk = tree_maker (names_of (o.given_names p)) p
 
@@ -57,17 +47,17 @@ module _ (limited : Bool) (a b : Arena) (p : Place) (s : Contents) (n : Componen
     names = o.given_names p;
     given = o.given p;
     bare = λ k. (o.bare k).1 p;
-    caused = built_caused (is_built_entity x) _ offset er built (subst (λ (cs : Checks). MemoryOrCausedBy cs offset er) checks_same t);
+    caused = subst (λ (cs : Checks). MemoryOrCausedBy cs offset er) checks_same t;
   }
 
-pub entry_entered : (limited : Bool) (a b : Arena) (outer : List Tree_context) (p : Place) (s s' : Contents) (n : ComponentExternName) (x : ComponentEntityType) (e : NewEntity) → StateStands a s → is_built_entity x ≡ true → EntityOpened a b x e → HasJoined limited exporting b s s' n e →
+pub entry_entered : (limited : Bool) (a b : Arena) (outer : List Tree_context) (p : Place) (s s' : Contents) (n : ComponentExternName) (x : ComponentEntityType) (e : NewEntity) → StateStands a s → EntityOpened a b x e → HasJoined limited exporting b s s' n e →
     (IsLed (context_of b s) → IsLed (context_of b s')) → Entered limited a b outer p s s' n x
-entry_entered limited a b outer p s s' n x e h built o j led = record {
+entry_entered limited a b outer p s s' n x e h o j led = record {
   names = o.given_names p;
   given = o.given p;
-  entered = j.entered outer ∙ (λ i. apply (enters exporting (extern_name n) (sym (o.brought p) i)) (before limited a b p s n x e h built o outer s' i));
+  entered = j.entered outer ∙ (λ i. apply (enters exporting (extern_name n) (sym (o.brought p) i)) (before limited a b p s n x e h o outer s' i));
   bare = λ k. (o.bare k).1 p;
-  free = built_free (is_built_entity x) _ built (subst IsFree (checks_same limited a b p s n x e h built o) j.free);
+  free = subst IsFree (checks_same limited a b p s n x e h o) j.free;
   led = λ l. led (subst IsLed (sym (same_context a b o.grown s h)) l);
   live = j.live;
 }

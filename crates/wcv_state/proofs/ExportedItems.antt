@@ -22,10 +22,11 @@ use Rattle.wcv_types.specs.declared.ids.Part.TheVariants as part
 use Rattle.wcv_types.specs.declared.ids.ResourceId.{ResourceId}
 use Rattle.wcv_types.specs.declared.shapes.ComponentEntityType.{ComponentEntityType}
 use Rattle.wcv_types.specs.declared.shapes.ComponentEntityType.TheVariants as entity
+use Rattle.wcv_types.specs.declared.shapes.ComponentValType.{ComponentValType}
 use Rattle.wcv_lower.specs.Checks.{Checks, IsFree, if_found, missing}
 use Rattle.wcv_lower.specs.Context.{in_types, in_instances}
 use Rattle.wcv_lower.specs.Defined.{is_empty}
-use Rattle.wcv_lower.specs.Entries.{written, written_checks, items_of, exported_at, exported_as, exported_by, exported, mismatch, ascribed_checks, exported_checks}
+use Rattle.wcv_lower.specs.Entries.{written, written_checks, items_of, exported_at, exported_as, exported_by, exported, mismatch, ascribed_checks, found_checks}
 use Rattle.wcv_lower.specs.Given.{names_of, both_given}
 use Rattle.wcv_lower.specs.Names as origin
 use Rattle.wcv_lower.specs.Names.{Names}
@@ -33,15 +34,16 @@ use Rattle.wcv_lower.specs.NewTypes.{path_or_none}
 use Rattle.wcv_lower.specs.Readers.{Maker}
 use Rattle.wcv_lower.specs.Step.{Brought, bare, brought_at}
 use Rattle.wcv_lower.specs.Trees.{Type_tree, type_entry, tree_reader, tree_maker}
+use Rattle.wcv_lower.specs.Values.{kind_checks}
 use Rattle.wcv_lower.proofs.Causes.{free_both}
 use Rattle.wcv_state.specs.Contents.{Contents, context_of, id_tree, StateStands}
 use Rattle.wcv_state.specs.Instances.{MayOpenItem, EntityMayOpen}
 use Rattle.wcv_state.specs.Looking.{item_id, introduced_id, introduced_in, created_reference, brings_own, ascribed_id_checks, CreatesAgain, GivesExported, GivesItem}
 use Rattle.wcv_state.specs.Promises.{is_instance_entity, EntityAlone}
 use Rattle.wcv_state.proofs.Brought.{as_it_is_at, instance_at, brought_same}
-use Rattle.wcv_state.proofs.Found.{Brings, Looked, LookedUp, found_same, found_instance, get_same, stands_at, written_found}
+use Rattle.wcv_state.proofs.Found.{Brings, Looked, LookedUp, also_free, found_same, found_instance, get_same, stands_at, written_checks_same, written_found}
 use Rattle.wcv_state.proofs.Found as found
-use Rattle.wcv_state.proofs.ItemsAt.{IsItem, read_as, item_there, is_item}
+use Rattle.wcv_state.proofs.ItemsAt.{read_as, item_there, item_stands}
 use Rattle.wcv_state.proofs.Keeping.{same_slot}
 use Rattle.wcv_state.proofs.MadeAlone.{stays_at}
 use Rattle.wcv_state.proofs.Opened.{alone_opens}
@@ -131,9 +133,8 @@ module _ (a : Arena) (s : Contents) (h : StateStands a s) where
   bare_found b w i x e n =
       let o : Option Type_tree = slice_get (items_of (context_of a s) w) i in
       let is : o ≡ Some (entity_tree (trees a.nodes) x) = item_there a s h w i x e.1 in
-      let k : IsItem a x = is_item a s h w i x e.1 in
       subst (λ (y : Arena). LookedUp a y x (missing o) (λ m. option_map (bare tree_reader) o)) (sym e.0)
-      (found_same a x (missing o) o is (subst (λ (q : Option Type_tree). IsFree (missing q)) (sym is) (refl, tt)) k.built n.2 k.stands n.0 n.1)
+      (found_same a x (missing o) o is (subst (λ (q : Option Type_tree). IsFree (missing q)) (sym is) (refl, tt)) n.2 (item_stands a s h w i x e.1) n.0 n.1)
 
   kind_found : (b : Arena) (w : ComponentExternalKind) (i : ℕ) (x : ComponentEntityType) → GivesExported a b s.spaces w i x → LookedUp a b x (missing (slice_get (items_of (context_of a s) w) i)) (kind_brings w i)
   kind_found b kind.Module i x e = bare_found b kind.Module i x e (read_as IsBare entity.Module (slice_get s.spaces.core_modules i) x (λ j f. (refl, refl, λ v. absurd (false≢true v))) e.1)
@@ -147,7 +148,7 @@ module _ (a : Arena) (s : Contents) (h : StateStands a s) where
       found_instance a j (missing o) o is (subst (λ (q : Option Type_tree). IsFree (missing q)) (sym is) (refl, tt)) (stands_at a s h in_instances i j f))
       e.1)
   kind_found b kind.Component i x e = bare_found b kind.Component i x e (read_as IsBare entity.Component (slice_get s.spaces.components i) x (λ j f. (refl, refl, λ v. absurd (false≢true v))) e.1)
-  kind_found b kind.Value i x e = absurd (cc)
+  kind_found b kind.Value i x e = bare_found b kind.Value i x e (read_as IsBare (λ (v : ComponentValType × Bool). entity.Value v.0) (slice_get s.spaces.values i) x (λ j f. (refl, refl, λ v. absurd (false≢true v))) e.1)
   kind_found b kind.Ty i x w =
       let look : Option Type_tree = slice_get ((context_of a s).space in_types) i in
       found.again a s h b i x (missing look) (kind_brings kind.Ty i) w (λ r e.
@@ -157,20 +158,21 @@ module _ (a : Arena) (s : Contents) (h : StateStands a s) where
   -- the causes of an item with a written type, by names under which that gives what joins of the entity
   pub ascribed_same : (b : Arena) (e : ComponentExport) (r : ComponentTypeRef) (y x : ComponentEntityType) → Extends a b → b.core ≡ a.core → item_id s.spaces e.kind e.index ≡ Some y → EntityStands b x →
       (names : Names) (p : Place) → written (tree_maker names p) (context_of a s) r ≡ Some (brought_at (tree_maker names p) (entity_tree (trees b.nodes) x)) →
-      (missing (exported_at (context_of a s) e) ++ ascribed_checks a.core (tree_maker names p) (context_of a s) (Some r) (exported_at (context_of a s) e)) ≡
-      (missing (Some (entity_tree (trees a.nodes) y)) ++ (written_checks (context_of a s) r ++ ascribed_id_checks b y x))
+      (missing (exported_at (context_of a s) e) ++ ascribed_checks s.features a.core (tree_maker names p) (context_of a s) (Some r) (exported_at (context_of a s) e)) ≡
+      (missing (Some (entity_tree (trees a.nodes) y)) ++ (written_checks s.features (context_of a s) r ++ ascribed_id_checks b y x))
   ascribed_same b e r y x g core there hx names p w =
       let t : Type_tree = entity_tree (trees a.nodes) y in
-      let all : Option Type_tree → Option (Brought tree_reader) → Checks = λ o q. missing o ++ (written_checks (context_of a s) r ++ if_found (λ (z : Type_tree). if_found (mismatch {X = tree_reader} a.core z) q) o) in
+      let all : Option Type_tree → Option (Brought tree_reader) → Checks = λ o q. missing o ++ (written_checks s.features (context_of a s) r ++ if_found (λ (z : Type_tree). if_found (mismatch {X = tree_reader} a.core z) q) o) in
       (λ j. all (item_there a s h e.kind e.index y there j) (w j)) ∙
-      ap (λ (cs : Checks). missing (Some t) ++ (written_checks (context_of a s) r ++ cs)) (mismatch_same a b g core y x (is_item a s h e.kind e.index y there).stands hx names p)
+      ap (λ (cs : Checks). missing (Some t) ++ (written_checks s.features (context_of a s) r ++ cs)) (mismatch_same a b g core y x (item_stands a s h e.kind e.index y there) hx names p)
 
   -- so of what is given with or without a written type
-  pub item_found : (b : Arena) (e : ComponentExport) (o : Option ComponentTypeRef) (x : ComponentEntityType) → GivesItem a b s.spaces e o x →
-      Looked a b x (λ k. missing (exported_at (context_of a s) e) ++ ascribed_checks a.core k (context_of a s) o (exported_at (context_of a s) e)) (λ k. exported_by k (context_of a s) e o)
+  pub item_found : (b : Arena) (e : ComponentExport) (o : Option ComponentTypeRef) (x : ComponentEntityType) → GivesItem a b s.features s.spaces e o x →
+      Looked a b x (λ k. missing (exported_at (context_of a s) e) ++ ascribed_checks s.features a.core k (context_of a s) o (exported_at (context_of a s) e)) (λ k. exported_by k (context_of a s) e o)
   item_found b e None x w = kind_found b e.kind e.index x w
   item_found b e (Some r) x w =
-      let l : LookedUp a b x (written_checks (context_of a s) r) (λ m. written m (context_of a s) r) = written_found a s h b r x w.written in
+      let f : IsFree (written_checks s.features (context_of a s) r) = subst IsFree (sym (written_checks_same a s h s.features r)) w.looked in
+      let l : LookedUp a b x (written_checks s.features (context_of a s) r) (λ m. written m (context_of a s) r) = written_found a s h s.features b r x w.written f in
       let t : Type_tree = entity_tree (trees a.nodes) w.item in
       record {
         grown = l.grown;
@@ -183,15 +185,15 @@ module _ (a : Arena) (s : Contents) (h : StateStands a s) where
         instance = l.instance;
         free = λ p more.
             subst IsFree (sym (ascribed_same b e r w.item x l.grown l.core w.at l.stands (names_of (both_given (l.given_names p) more)) p (l.brought p more)))
-            (free_both (missing (Some t)) (written_checks (context_of a s) r ++ ascribed_id_checks b w.item x) (refl, tt) (free_both (written_checks (context_of a s) r) (ascribed_id_checks b w.item x) (l.free p more) w.free));
-        built = l.built;
+            (free_both (missing (Some t)) (written_checks s.features (context_of a s) r ++ ascribed_id_checks b w.item x) (refl, tt) (free_both (written_checks s.features (context_of a s) r) (ascribed_id_checks b w.item x) f w.free));
         stands = l.stands;
         fresh = l.fresh;
         stamped = l.stamped;
       }
 
-  pub exported_found : (b : Arena) (e : ComponentExport) (x : ComponentEntityType) → GivesItem a b s.spaces e e.ty x → Looked a b x (λ k. exported_checks a.core k (context_of a s) e) (λ k. exported k (context_of a s) e)
-  exported_found b e x w = item_found b e e.ty x w
+  pub exported_found : (b : Arena) (e : ComponentExport) (x : ComponentEntityType) → GivesItem a b s.features s.spaces e e.ty x → IsFree (kind_checks s.features e.kind) →
+      Looked a b x (λ k. found_checks s.features a.core k (context_of a s) e) (λ k. exported k (context_of a s) e)
+  exported_found b e x w f = also_free a b x _ _ (kind_checks s.features e.kind) f (item_found b e e.ty x w)
 
   -- an instance may be made of it, if it is one
   kind_opens : (b : Arena) (w : ComponentExternalKind) (k : ℕ) (x : ComponentEntityType) → GivesExported a b s.spaces w k x → MayOpenItem a s.spaces.instances w k None → EntityMayOpen b x
@@ -201,14 +203,14 @@ module _ (a : Arena) (s : Contents) (h : StateStands a s) where
   kind_opens b kind.Module k x e m = read_as (EntityMayOpen b) entity.Module (slice_get s.spaces.core_modules k) x (λ i f. tt) e.1
   kind_opens b kind.Func k x e m = read_as (EntityMayOpen b) entity.Func (slice_get s.spaces.funcs k) x (λ i f. tt) e.1
   kind_opens b kind.Component k x e m = read_as (EntityMayOpen b) entity.Component (slice_get s.spaces.components k) x (λ i f. tt) e.1
-  kind_opens b kind.Value k x e m = absurd (cc)
+  kind_opens b kind.Value k x e m = read_as (EntityMayOpen b) (λ (v : ComponentValType × Bool). entity.Value v.0) (slice_get s.spaces.values k) x (λ v f. tt) e.1
   kind_opens b kind.Ty k x e m = go (slice_get s.spaces.types k) e
     where
       go : (o : Option ComponentAnyTypeId) → CreatesAgain a b o x → EntityMayOpen b x
       go None f = absurd f
       go (Some r) f = subst (EntityMayOpen b) (sym f.2) tt
 
-  pub item_opens : (b : Arena) (e : ComponentExport) (o : Option ComponentTypeRef) (x : ComponentEntityType) → GivesItem a b s.spaces e o x → EntityStands b x → MayOpenItem a s.spaces.instances e.kind e.index o → EntityMayOpen b x
+  pub item_opens : (b : Arena) (e : ComponentExport) (o : Option ComponentTypeRef) (x : ComponentEntityType) → GivesItem a b s.features s.spaces e o x → EntityStands b x → MayOpenItem a s.spaces.instances e.kind e.index o → EntityMayOpen b x
   item_opens b e None x w st m = kind_opens b e.kind e.index x w m
   item_opens b e (Some r) x w st m =
       alone_opens b x st (brings_none b x (without (brings_own b x) (fits b.core (entity_tree (trees b.nodes) w.item) (entity_tree (trees b.nodes) x)) w.free.0))

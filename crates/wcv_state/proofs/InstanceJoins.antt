@@ -1,5 +1,5 @@
 -- An instance joins a state, and what is new in it is defined.
-use Rattle.std.proofs.Common.{◌≡◌, ℕ, List, [], ◌++◌, refl, ◌∙◌, ap, Bool, inl, ◌⊎◌, take, map, None, All}
+use Rattle.std.proofs.Common.{◌≡◌, ℕ, List, [], ◌++◌, refl, ◌∙◌, ap, Bool, false, inl, ◌⊎◌, take, map, None, All}
 use Rattle.wcv_core.specs.declared.core_types.ValType.{ValType}
 use Rattle.std.specs.Prelude.{Option}
 use Rattle.wcv_types.specs.Arena.{Arena}
@@ -42,7 +42,7 @@ pub instance_keeps : (a : Arena) (s z : Contents) (sp : SpaceLists) (ds : Define
     All (λ (r : ResourceId × List ℕ). ResourceStands a r.0) new → (sp ≡ z.spaces) ⊎ (sp ≡ push_id in_instances i z.spaces) → ds ≡ z.defined_resources ++ unknown (take k new) → Keeps a a s (joined_state z sp ds b)
 instance_keeps a s z sp ds b i new k e h st rs spaces made =
     let s' : Contents = joined_state z sp ds b in
-    keeps_entry a s z s' (instance_entry i) e h refl st spaces (each_side _ (inl refl) (inl refl)) (λ kept. same_imported a z kept _ _ (instance_entry i) refl (inl refl))
+    keeps_entry a false s z s' (instance_entry i) e h st spaces (each_side _ (inl refl) (inl refl)) (λ kept. same_imported a z kept _ _ (instance_entry i) refl (inl refl))
     (λ kept. brought_defined a z kept (instance_entry i) new rs ds k made) (λ kept d. (no_more (names z d), kept.named d)) (λ kept. same_sized (trees a.nodes) z s' refl (each_side _ refl refl) kept) refl refl refl
 
 pub instance_joined : (a : Arena) (s z : Contents) (sp : SpaceLists) (m : NewInstance) (ds : Defined) (b : Bool) → z ≡ s → sp ≡ push_id in_instances m.ty z.spaces → ds ≡ z.defined_resources ++ unknown m.resources → (outer : List Tree_context) →

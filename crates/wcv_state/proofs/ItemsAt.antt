@@ -1,9 +1,7 @@
--- An item of any sort but values, over ids and as the rules have it.
-use Rattle.std.proofs.Common.{◌≡◌, ℕ, List, refl, ◌∙◌, ap, subst, true, false, Some, None}
+-- An item of any sort, over ids and as the rules have it.
+use Rattle.std.proofs.Common.{◌≡◌, ℕ, List, refl, ◌∙◌, ap, subst, Bool, Some, None}
 use Rattle.std.specs.Prelude.{slice_get, Option}
 use Rattle.std.specs.Option.{option_map}
-use Rattle.std.proofs.lemmas.Bool.{false≢true}
-use Rattle.wcv_syntax.specs.Built.{is_built_sort}
 use Rattle.wcv_syntax.specs.declared.instance.ComponentExternalKind.{ComponentExternalKind}
 use Rattle.wcv_syntax.specs.declared.instance.ComponentExternalKind.TheVariants as kind
 use Rattle.wcv_types.specs.Arena.{Arena}
@@ -12,13 +10,14 @@ use Rattle.wcv_types.specs.Unfold.{trees}
 use Rattle.wcv_types.specs.declared.ids.ComponentAnyTypeId.{ComponentAnyTypeId}
 use Rattle.wcv_types.specs.declared.shapes.ComponentEntityType.{ComponentEntityType}
 use Rattle.wcv_types.specs.declared.shapes.ComponentEntityType.TheVariants as entity
+use Rattle.wcv_types.specs.declared.shapes.ComponentValType.{ComponentValType}
 use Rattle.wcv_types.proofs.Lists.{some-inj}
 use Rattle.wcv_lower.specs.Checks.{missing}
-use Rattle.wcv_lower.specs.Context.{in_types, in_funcs, in_instances, in_components, core_modules}
+use Rattle.wcv_lower.specs.Context.{in_types, in_funcs, in_values, in_instances, in_components, core_modules}
 use Rattle.wcv_lower.specs.Entries.{items_of}
 use Rattle.wcv_lower.specs.Trees.{Type_tree}
 use Rattle.wcv_state.specs.Contents.{Contents, context_of, id_tree, core_tree, StateStands}
-use Rattle.wcv_state.specs.Looking.{item_id, item_id_checks, is_built_entity}
+use Rattle.wcv_state.specs.Looking.{item_id, item_id_checks}
 use Rattle.wcv_state.proofs.CoreItems.{missing_mapped}
 use Rattle.wcv_state.proofs.Found.{get_same, stands_at, core_same, core_stands_at}
 
@@ -26,11 +25,6 @@ use Rattle.wcv_state.proofs.Found.{get_same, stands_at, core_same, core_stands_a
 pub read_as : {I : Type 0} (P : ComponentEntityType → Type 0) (to : I → ComponentEntityType) (o : Option I) (x : ComponentEntityType) → ((i : I) → o ≡ Some i → P (to i)) → option_map to o ≡ Some x → P x
 read_as P to None x f e = absurd (cc)
 read_as P to (Some i) x f e = subst P (some-inj e) (f i refl)
-
--- an item as it stands in a state
-pub record IsItem (a : Arena) (x : ComponentEntityType) : Type 0 where
-  pub stands : EntityStands a x
-  pub built : is_built_entity x ≡ true
 
 module _ (a : Arena) (s : Contents) (h : StateStands a s) where
   abbrev ts : List Type_tree
@@ -40,38 +34,30 @@ module _ (a : Arena) (s : Contents) (h : StateStands a s) where
   tree_mapped to tree f None = refl
   tree_mapped to tree f (Some i) = ap Some (f i)
 
-  pub items_same : (w : ComponentExternalKind) (k : ℕ) → is_built_sort w ≡ true → slice_get (items_of (context_of a s) w) k ≡ option_map (entity_tree ts) (item_id s.spaces w k)
-  items_same kind.Module k b = core_same a s h core_modules k ∙ tree_mapped entity.Module (core_tree ts core_modules) (λ i. refl) (slice_get s.spaces.core_modules k)
-  items_same kind.Func k b = get_same a s h in_funcs k ∙ tree_mapped entity.Func (id_tree ts in_funcs) (λ i. refl) (slice_get s.spaces.funcs k)
-  items_same kind.Ty k b = get_same a s h in_types k ∙ tree_mapped (λ (r : ComponentAnyTypeId). entity.Ty r r) (id_tree ts in_types) (λ i. refl) (slice_get s.spaces.types k)
-  items_same kind.Instance k b = get_same a s h in_instances k ∙ tree_mapped entity.Instance (id_tree ts in_instances) (λ i. refl) (slice_get s.spaces.instances k)
-  items_same kind.Component k b = get_same a s h in_components k ∙ tree_mapped entity.Component (id_tree ts in_components) (λ i. refl) (slice_get s.spaces.components k)
-  items_same kind.Value k b = absurd (false≢true b)
+  pub items_same : (w : ComponentExternalKind) (k : ℕ) → slice_get (items_of (context_of a s) w) k ≡ option_map (entity_tree ts) (item_id s.spaces w k)
+  items_same kind.Module k = core_same a s h core_modules k ∙ tree_mapped entity.Module (core_tree ts core_modules) (λ i. refl) (slice_get s.spaces.core_modules k)
+  items_same kind.Func k = get_same a s h in_funcs k ∙ tree_mapped entity.Func (id_tree ts in_funcs) (λ i. refl) (slice_get s.spaces.funcs k)
+  items_same kind.Value k = get_same a s h in_values k ∙ tree_mapped (λ (v : ComponentValType × Bool). entity.Value v.0) (id_tree ts in_values) (λ v. refl) (slice_get s.spaces.values k)
+  items_same kind.Ty k = get_same a s h in_types k ∙ tree_mapped (λ (r : ComponentAnyTypeId). entity.Ty r r) (id_tree ts in_types) (λ i. refl) (slice_get s.spaces.types k)
+  items_same kind.Instance k = get_same a s h in_instances k ∙ tree_mapped entity.Instance (id_tree ts in_instances) (λ i. refl) (slice_get s.spaces.instances k)
+  items_same kind.Component k = get_same a s h in_components k ∙ tree_mapped entity.Component (id_tree ts in_components) (λ i. refl) (slice_get s.spaces.components k)
 
-  pub items_missing : (w : ComponentExternalKind) (k : ℕ) → is_built_sort w ≡ true → missing (slice_get (items_of (context_of a s) w) k) ≡ item_id_checks s.spaces w k
-  items_missing kind.Module k b = ap missing (core_same a s h core_modules k) ∙ missing_mapped (core_tree ts core_modules) (slice_get s.spaces.core_modules k)
-  items_missing kind.Func k b = ap missing (get_same a s h in_funcs k) ∙ missing_mapped (id_tree ts in_funcs) (slice_get s.spaces.funcs k)
-  items_missing kind.Ty k b = ap missing (get_same a s h in_types k) ∙ missing_mapped (id_tree ts in_types) (slice_get s.spaces.types k)
-  items_missing kind.Instance k b = ap missing (get_same a s h in_instances k) ∙ missing_mapped (id_tree ts in_instances) (slice_get s.spaces.instances k)
-  items_missing kind.Component k b = ap missing (get_same a s h in_components k) ∙ missing_mapped (id_tree ts in_components) (slice_get s.spaces.components k)
-  items_missing kind.Value k b = absurd (false≢true b)
-
-  pub sort_built : (w : ComponentExternalKind) (k : ℕ) (x : ComponentEntityType) → item_id s.spaces w k ≡ Some x → is_built_sort w ≡ true
-  sort_built kind.Module k x e = refl
-  sort_built kind.Func k x e = refl
-  sort_built kind.Ty k x e = refl
-  sort_built kind.Instance k x e = refl
-  sort_built kind.Component k x e = refl
-  sort_built kind.Value k x e = absurd (cc)
+  pub items_missing : (w : ComponentExternalKind) (k : ℕ) → missing (slice_get (items_of (context_of a s) w) k) ≡ item_id_checks s.spaces w k
+  items_missing kind.Module k = ap missing (core_same a s h core_modules k) ∙ missing_mapped (core_tree ts core_modules) (slice_get s.spaces.core_modules k)
+  items_missing kind.Func k = ap missing (get_same a s h in_funcs k) ∙ missing_mapped (id_tree ts in_funcs) (slice_get s.spaces.funcs k)
+  items_missing kind.Value k = ap missing (get_same a s h in_values k) ∙ missing_mapped (id_tree ts in_values) (slice_get s.spaces.values k)
+  items_missing kind.Ty k = ap missing (get_same a s h in_types k) ∙ missing_mapped (id_tree ts in_types) (slice_get s.spaces.types k)
+  items_missing kind.Instance k = ap missing (get_same a s h in_instances k) ∙ missing_mapped (id_tree ts in_instances) (slice_get s.spaces.instances k)
+  items_missing kind.Component k = ap missing (get_same a s h in_components k) ∙ missing_mapped (id_tree ts in_components) (slice_get s.spaces.components k)
 
   -- what stands there, as the rules have it
   pub item_there : (w : ComponentExternalKind) (k : ℕ) (x : ComponentEntityType) → item_id s.spaces w k ≡ Some x → slice_get (items_of (context_of a s) w) k ≡ Some (entity_tree ts x)
-  item_there w k x e = items_same w k (sort_built w k x e) ∙ ap (option_map (entity_tree ts)) e
+  item_there w k x e = items_same w k ∙ ap (option_map (entity_tree ts)) e
 
-  pub is_item : (w : ComponentExternalKind) (k : ℕ) (x : ComponentEntityType) → item_id s.spaces w k ≡ Some x → IsItem a x
-  is_item kind.Module k x e = read_as (IsItem a) entity.Module (slice_get s.spaces.core_modules k) x (λ i f. record { stands = core_stands_at a s h core_modules k i f; built = refl }) e
-  is_item kind.Func k x e = read_as (IsItem a) entity.Func (slice_get s.spaces.funcs k) x (λ i f. record { stands = stands_at a s h in_funcs k i f; built = refl }) e
-  is_item kind.Ty k x e = read_as (IsItem a) (λ (r : ComponentAnyTypeId). entity.Ty r r) (slice_get s.spaces.types k) x (λ i f. record { stands = stands_at a s h in_types k i f; built = refl }) e
-  is_item kind.Instance k x e = read_as (IsItem a) entity.Instance (slice_get s.spaces.instances k) x (λ i f. record { stands = stands_at a s h in_instances k i f; built = refl }) e
-  is_item kind.Component k x e = read_as (IsItem a) entity.Component (slice_get s.spaces.components k) x (λ i f. record { stands = stands_at a s h in_components k i f; built = refl }) e
-  is_item kind.Value k x e = absurd (cc)
+  pub item_stands : (w : ComponentExternalKind) (k : ℕ) (x : ComponentEntityType) → item_id s.spaces w k ≡ Some x → EntityStands a x
+  item_stands kind.Module k x e = read_as (EntityStands a) entity.Module (slice_get s.spaces.core_modules k) x (λ i f. core_stands_at a s h core_modules k i f) e
+  item_stands kind.Func k x e = read_as (EntityStands a) entity.Func (slice_get s.spaces.funcs k) x (λ i f. stands_at a s h in_funcs k i f) e
+  item_stands kind.Value k x e = read_as (EntityStands a) (λ (v : ComponentValType × Bool). entity.Value v.0) (slice_get s.spaces.values k) x (λ v f. stands_at a s h in_values k v f) e
+  item_stands kind.Ty k x e = read_as (EntityStands a) (λ (r : ComponentAnyTypeId). entity.Ty r r) (slice_get s.spaces.types k) x (λ i f. stands_at a s h in_types k i f) e
+  item_stands kind.Instance k x e = read_as (EntityStands a) entity.Instance (slice_get s.spaces.instances k) x (λ i f. stands_at a s h in_instances k i f) e
+  item_stands kind.Component k x e = read_as (EntityStands a) entity.Component (slice_get s.spaces.components k) x (λ i f. stands_at a s h in_components k i f) e

@@ -1,6 +1,6 @@
 -- An entry joins a side: the context after it, and what the checks of it are to the context.
-use Rattle.std.proofs.Common.{◌≡◌, ℕ, List, [], ◌∷◌, map, refl, sym, ◌∙◌, ap, length, Bool, true}
-use Rattle.std.specs.Prelude.{Option, Some, None, ◌&&◌, ◌++◌}
+use Rattle.std.proofs.Common.{◌≡◌, ℕ, List, [], ◌∷◌, map, refl, sym, ◌∙◌, ap, length, Bool}
+use Rattle.std.specs.Prelude.{Option, None, ◌&&◌, ◌++◌}
 use Rattle.std.proofs.lemmas.List.{map-append}
 use Rattle.wcv_core.specs.Names.{Name, number}
 use Rattle.wcv_core.specs.declared.core_types.ValType.{ValType}
@@ -17,41 +17,37 @@ use Rattle.wcv_types.specs.declared.ids.ResourceId.{ResourceId}
 use Rattle.wcv_types.specs.declared.shapes.ComponentEntityType.{ComponentEntityType}
 use Rattle.wcv_types.proofs.Each.{length-mapped}
 use Rattle.wcv_lower.specs.Checks.{full_side, bad_entity}
-use Rattle.wcv_lower.specs.Context.{asks_names, counts, Side, importing, exporting, joined, same_side, names_for, with_named, enlist, introduce, name_types, placed, unknown}
-use Rattle.wcv_lower.specs.Entries.{extern_name}
+use Rattle.wcv_lower.specs.Context.{in_types, in_funcs, in_values, in_instances, in_components, asks_names, counts, Side, importing, exporting, joined, same_side, names_for, with_named, enlist, introduce, name_types, placed, unknown}
+use Rattle.wcv_lower.specs.Entries.{extern_name, lent}
 use Rattle.wcv_lower.specs.EntryNames.{name_checks}
 use Rattle.wcv_lower.specs.Readers.{weight}
-use Rattle.wcv_lower.specs.Step.{Step, change, apply, joins, enters}
+use Rattle.wcv_lower.specs.Step.{Step, apply, joins, enters}
 use Rattle.wcv_lower.specs.Trees.{Type_tree, Tree_context, Tree_stack, tree_reader, creates}
 use Rattle.wcv_lower.proofs.Joined.{map-joined}
 use Rattle.wcv_state.specs.Bringing.{Paths, MayJoin, brought_new}
 use Rattle.wcv_state.specs.Contents.{Contents, SpaceLists, ids, core_ids, kind_of, sides, names, context_of, stack_of, id_tree, core_tree, defined_resource, counts_of}
 use Rattle.wcv_state.specs.Entering.{entry_checks}
-use Rattle.wcv_state.specs.Looking.{is_built_entity, New_id, own_id, core_id, enter_id, entered, entry_of, with_entry}
+use Rattle.wcv_state.specs.Looking.{New_id, own_id, core_id, entity_id, enter_id, entered, entry_of, with_entry}
 use Rattle.wcv_state.specs.declared.bringing.NewEntity.{NewEntity}
-use Rattle.wcv_state.proofs.Keeping.{push_trees, push_core_trees, new_change, Joins, entity_joins}
-use Rattle.wcv_state.proofs.Sides.{core_push, space_push}
-
--- the context with those spaces
-abbrev with_spaces : List Type_tree → SpaceLists → Tree_context → Tree_context
-with_spaces ts s c = record c { core = λ k. map (core_tree ts k) (core_ids k s); space = λ k. map (id_tree ts k) (ids k s) }
+use Rattle.wcv_state.proofs.Keeping.{with_spaces, pushed_spaces, pushed_core, new_step, entity_joins}
 
 module _ (a : Arena) (outer : List Tree_context) where
   -- the context on top
   abbrev on : Tree_context → Tree_stack
   on c = record { top = c; outer = outer; groups = a.core }
 
-  new_context : (n : New_id) (s : SpaceLists) (c : Tree_context) → on (with_spaces (trees a.nodes) (enter_id (Some n) s) c) ≡ change (new_change (trees a.nodes) n) (on (with_spaces (trees a.nodes) s c))
-  new_context (own_id k x) s c = λ j. on (record c { core = λ i. map (core_tree (trees a.nodes) i) (core_push k x s i j); space = λ i. push_trees (trees a.nodes) k x s i j })
-  new_context (core_id k x) s c = λ j. on (record c { core = λ i. push_core_trees (trees a.nodes) k x s i j; space = λ i. map (id_tree (trees a.nodes) i) (space_push k x s i j) })
+  pub new_context : (n : New_id) (s : SpaceLists) (c : Tree_context) → on (with_spaces (trees a.nodes) (enter_id n s) c) ≡ apply (new_step (trees a.nodes) n) (on (with_spaces (trees a.nodes) s c))
+  new_context (own_id in_types x) s c = ap on (pushed_spaces (trees a.nodes) in_types x s c)
+  new_context (own_id in_funcs x) s c = ap on (pushed_spaces (trees a.nodes) in_funcs x s c)
+  new_context (own_id in_values x) s c = ap on (pushed_spaces (trees a.nodes) in_values x s c)
+  new_context (own_id in_instances x) s c = ap on (pushed_spaces (trees a.nodes) in_instances x s c)
+  new_context (own_id in_components x) s c = ap on (pushed_spaces (trees a.nodes) in_components x s c)
+  new_context (core_id k x) s c = ap on (pushed_core (trees a.nodes) k x s c)
 
   -- an entity in its space is what its tree does to the stack
-  entered_context : (x : ComponentEntityType) (s : SpaceLists) (c : Tree_context) → is_built_entity x ≡ true → EntityStands a x →
-      on (with_spaces (trees a.nodes) (entered x s) c) ≡ apply (joins tree_reader (sort (entity_tree (trees a.nodes) x)) (entity_tree (trees a.nodes) x)) (on (with_spaces (trees a.nodes) s c))
-  entered_context x s c b h =
-      let w : Joins a x = entity_joins a x b h in
-      ap (λ (o : Option New_id). on (with_spaces (trees a.nodes) (enter_id o s) c)) w.is ∙ new_context w.entry s c ∙
-      sym (ap (λ (p : Step tree_reader). apply p (on (with_spaces (trees a.nodes) s c))) w.step)
+  pub entered_context : (used : Bool) (x : ComponentEntityType) (s : SpaceLists) (c : Tree_context) → EntityStands a x →
+      on (with_spaces (trees a.nodes) (entered used x s) c) ≡ apply (joins tree_reader used (sort (entity_tree (trees a.nodes) x)) (entity_tree (trees a.nodes) x)) (on (with_spaces (trees a.nodes) s c))
+  entered_context used x s c h = new_context (entity_id used x) s c ∙ sym (ap (λ (p : Step tree_reader). apply p (on (with_spaces (trees a.nodes) s c))) (entity_joins a used x h))
 
 -- ## What it brings
 
@@ -90,7 +86,8 @@ pub record Joined_state (a : Arena) (d : Side) (z s' : Contents) (n : ComponentE
   pub kinds : s'.kind ≡ z.kind
   pub aliased : s'.aliased ≡ z.aliased
   pub slots : s'.context_type ≡ z.context_type
-  pub spaces : s'.spaces ≡ entered x.ty z.spaces
+  pub started : s'.started ≡ z.started
+  pub spaces : s'.spaces ≡ entered (same_side d exporting) x.ty z.spaces
   pub info : s'.info ≡ with_entry z.info (entity_tree (trees a.nodes) x.ty)
   pub listed : (e : Side) → sides s' e ≡ joined (same_side e d) (sides z e) (entry_of n x.ty)
   pub imported : map resource_path s'.imported_resources ≡ (introduce d (brought_new a x).resources (context_of a z)).imported
@@ -103,10 +100,11 @@ pub joined_stack : (a : Arena) (outer : List Tree_context) (d : Side) (z s' : Co
 joined_stack a outer d z s' n x m w =
     let ts : List Type_tree = trees a.nodes in
     let t : Type_tree = entity_tree ts x.ty in
+    let b : Bool = same_side d exporting in
     let before : Tree_context = context_of a z in
     let introduced : Tree_context = record before { imported = imported_after a d z x; defined = defined_after a d z x } in
     let c : Tree_context = name_types d (creates t) (enlist d (extern_name n) t introduced) in
-    let step : stack_of a s' outer ≡ on a outer (with_spaces ts (entered x.ty z.spaces) c) = λ j. on a outer (record {
+    let step : stack_of a s' outer ≡ on a outer (with_spaces ts (entered b x.ty z.spaces) c) = λ j. on a outer (record {
       kind = kind_of (w.kinds j);
       core = λ k. map (core_tree ts k) (core_ids k (w.spaces j));
       space = λ k. map (id_tree ts k) (ids k (w.spaces j));
@@ -118,10 +116,12 @@ joined_stack a outer d z s' n x m w =
       depth = (w.info j).depth;
       aliased = w.aliased j;
       context_type = w.slots j;
+      used = map (λ v. v.1) (w.spaces j).values;
+      started = w.started j;
     }) in
-    let whole : apply (joins tree_reader (sort t) t) (on a outer (name_types d (creates t) (enlist d (extern_name n) t (introduce d (brought_new a x).resources before)))) ≡ apply (joins tree_reader (sort t) t) (on a outer c) =
-    λ j. apply (joins tree_reader (sort t) t) (on a outer (name_types d (creates t) (enlist d (extern_name n) t (introduce_is d (brought_new a x).resources before j)))) in
-    step ∙ entered_context a outer x.ty z.spaces c m.built m.stands ∙ sym whole
+    let whole : apply (joins tree_reader b (sort t) t) (on a outer (name_types d (creates t) (enlist d (extern_name n) t (introduce d (brought_new a x).resources before)))) ≡ apply (joins tree_reader b (sort t) t) (on a outer c) =
+    λ j. apply (joins tree_reader b (sort t) t) (on a outer (name_types d (creates t) (enlist d (extern_name n) t (introduce_is d (brought_new a x).resources before j)))) in
+    step ∙ entered_context a outer b x.ty z.spaces c m.stands ∙ sym whole
 
 -- ## Checks
 
@@ -134,8 +134,8 @@ counts_same a s = λ j. record (counts_of s) {
 
 -- the causes of an entry are those of its side, of its name and of its entity in the context
 pub entry_checks_same : (a : Arena) (limited : Bool) (d : Side) (s : Contents) (fs : WasmFeatures) (n : Extern_name) (t : Type_tree) →
-    entry_checks limited fs (trees a.nodes) s.spaces (sides s d) s.info n t ≡
-    full_side limited d (counts (context_of a s)) ++ (name_checks fs ((context_of a s).side d) n t ++ bad_entity (counts (context_of a s)) (weight tree_reader t))
+    entry_checks limited fs d (trees a.nodes) s.spaces (sides s d) s.info n t ≡
+    full_side limited d (counts (context_of a s)) ++ (name_checks fs ((context_of a s).side d) n t ++ (bad_entity (counts (context_of a s)) (weight tree_reader t) ++ lent tree_reader d t))
 entry_checks_same a limited d s fs n t =
     let c : counts (context_of a s) ≡ counts_of s = counts_same a s in
-    λ j. full_side limited d (sym c j) ++ (name_checks fs ((context_of a s).side d) n t ++ bad_entity (sym c j) (weight tree_reader t))
+    λ j. full_side limited d (sym c j) ++ (name_checks fs ((context_of a s).side d) n t ++ (bad_entity (sym c j) (weight tree_reader t) ++ lent tree_reader d t))

@@ -1,7 +1,6 @@
 -- Which entities pass as entries by sets of ids.
 use Rattle.std.proofs.Common.{◌≡◌, ℕ, suc, ◌+◌, ◌<◌, List, [], ◌∷◌, ◌++◌, drop, length, get_or, refl, sym, ◌∙◌, ap, subst, Bool, true, false, ◌&&◌, ◌||◌, ◌⊎◌, inl, inr, ⊎_elim, cond, drop-cons, add-one}
 use Rattle.std.specs.Prelude.{not}
-use Rattle.std.proofs.Math.Bool.{and-false}
 use Rattle.std.proofs.lemmas.Bool.{false≢true}
 use Rattle.wcv_core.specs.Refusal.{error_kind, error_offset}
 use Rattle.wcv_core.specs.declared.error.Error.{Error}
@@ -29,7 +28,6 @@ use Rattle.wcv_types.specs.declared.shapes.ComponentEntityType.TheVariants as en
 use Rattle.wcv_types.specs.declared.shapes.ComponentValType.{ComponentValType}
 use Rattle.wcv_types.specs.declared.shapes.ComponentValType.TheVariants as val
 use Rattle.wcv_types.proofs.Unfolding.{sort_stands, known_any}
-use Rattle.wcv_lower.specs.Checks.{IsFree}
 use Rattle.wcv_lower.specs.Context.{Kind, asks_names, Side, importing, exporting, names_for, with_named}
 use Rattle.wcv_lower.specs.Entries.{unnamed}
 use Rattle.wcv_lower.specs.Trees.{tree_reader, creates, all_created, is_known, named_after, is_export_alone, entry_passes, exports_pass}

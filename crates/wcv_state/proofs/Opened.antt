@@ -30,7 +30,7 @@ use Rattle.wcv_lower.specs.Step.{Brought, brought_at}
 use Rattle.wcv_lower.specs.Trees.{tree_reader, tree_maker}
 use Rattle.wcv_state.specs.Bringing.{LeadsWithin, EntityOpened, Found}
 use Rattle.wcv_state.specs.Instances.{InstanceMade, EntityMayOpen}
-use Rattle.wcv_state.specs.Looking.{is_built_entity, introduced_id, introduced_in, created_reference}
+use Rattle.wcv_state.specs.Looking.{introduced_id, introduced_in, created_reference}
 use Rattle.wcv_state.specs.Promises.{numbers_of, is_instance_entity, EntityAlone}
 use Rattle.wcv_state.specs.declared.bringing.NewEntity.{NewEntity}
 use Rattle.wcv_state.specs.declared.instances.NewInstance.{NewInstance}
@@ -41,7 +41,7 @@ use Rattle.wcv_state.proofs.MadeAlone.{stays_at}
 
 -- ## As it is
 
-module _ (a : Arena) (x : ComponentEntityType) (b : is_built_entity x ≡ true) (h : EntityStands a x) where
+module _ (a : Arena) (x : ComponentEntityType) (h : EntityStands a x) where
   introduced_here : (o : Option ResourceId) → introduced_id x ≡ o → All (λ (r : ResourceId × List ℕ). ResourceStands a r.0) (introduced_in o) ×
       All (λ (r : ResourceId × List ℕ). LeadsWithin r.1 (number r.0.index) (entity_tree (trees a.nodes) x)) (introduced_in o) × All (λ (r : ResourceId × List ℕ). (introduced_id x ≡ Some r.0) ⊎ (a.resources ≤ r.0.index)) (introduced_in o)
   introduced_here None e = (All-nil _, All-nil _, All-nil _)
@@ -61,7 +61,7 @@ module _ (a : Arena) (x : ComponentEntityType) (b : is_built_entity x ≡ true) 
         given = λ p. record { resources = tt; identities = tt };
         brought = λ p. stays_at a (names_of none_given) p x h e ∙ brought_same a x h;
         bare = λ k. (refl, λ p. refl);
-        may_join = record { built = b; stands = h; resources = w.0; lead = w.1 };
+        may_join = record { stands = h; resources = w.0; lead = w.1 };
         fresh = w.2;
         created = refl;
       }
@@ -137,7 +137,6 @@ module _ (a b : Arena) (i : ComponentInstanceTypeId) (m : NewInstance) (g : Exte
     brought = λ p. instance_at a (tree_maker (names_of (w.given_names p)) p) i h ∙ w.brought p;
     bare = λ e. absurd (false≢true (sym e));
     may_join = record {
-      built = refl;
       stands = w.stands;
       resources = w.below;
       lead = All-weaker (λ (r : ResourceId × List ℕ). PathLeadsTo r.1 (number r.0.index) (exports made)) (λ (r : ResourceId × List ℕ). LeadsWithin r.1 (number r.0.index) made) (λ r k. within r.1 (number r.0.index) k) m.resources w.lead;

@@ -1,5 +1,5 @@
 -- What the calls for an outer alias look at, and what they make of the states.
-use Rattle.std.proofs.Common.{◌≡◌, ◌≢◌, ℕ, zero, suc, ◌+◌, ◌<◌, ◌≤◌, ◌-◌, List, [], ◌∷◌, ◌++◌, length, get_or, slice_set, slice_index_or, refl, sym, ◌∙◌, ap, subst, arith, Bool, true, false, not, ◌&&◌, Some, None, All}
+use Rattle.std.proofs.Common.{◌≡◌, ◌≢◌, ℕ, zero, suc, ◌+◌, ◌<◌, ◌≤◌, ◌-◌, List, [], ◌∷◌, ◌++◌, length, get_or, slice_set, slice_index_or, refl, sym, ◌∙◌, ap, subst, arith, true, false, not, ◌&&◌, Some, None, All}
 use Rattle.std.specs.Prelude.{Option, reverse, slice_get, option_to_list}
 use Rattle.std.specs.Option.{option_map, option_and_then}
 use Rattle.std.proofs.lemmas.Bool.{false≢true}
@@ -20,18 +20,18 @@ use Rattle.wcv_types.specs.declared.ids.ComponentAnyTypeId.{ComponentAnyTypeId}
 use Rattle.wcv_types.specs.declared.shapes.ComponentEntityType.TheVariants as entity
 use Rattle.wcv_types.proofs.Lists.{some-inj}
 use Rattle.wcv_lower.specs.Aliases.{is_charged, outer_admitted, outer_room}
-use Rattle.wcv_lower.specs.Checks.{Checks, Cause, IsFree, if_found, is_none, missing}
+use Rattle.wcv_lower.specs.Checks.{Checks, IsFree, if_found, is_none, missing}
 use Rattle.wcv_lower.specs.Context.{core_types, core_modules, in_types, in_components, is_concrete}
 use Rattle.wcv_lower.specs.Growth.{call_checks}
 use Rattle.wcv_lower.specs.Names.{Names}
 use Rattle.wcv_lower.specs.Step.{change_at}
 use Rattle.wcv_lower.specs.Trees.{Tree_context, tree_maker}
 use Rattle.wcv_lower.proofs.Causes.{cause_left, cause_right, free_both}
-use Rattle.wcv_state.specs.Aliasing.{outer_id, outer_in, aliased_tree, with_aliased, is_built_aliased, is_entity, AliasedStands, boundary_checks, after_target, outer_id_checks, OuterFinds, AliasedOn}
+use Rattle.wcv_state.specs.Aliasing.{outer_id, outer_in, aliased_tree, with_aliased, is_entity, AliasedStands, boundary_checks, after_target, outer_id_checks, OuterFinds, AliasedOn}
 use Rattle.wcv_state.specs.Contents.{Contents, SpaceLists, kind_of, stack_of, with_charge, CoreIdStands, StateStands}
 use Rattle.wcv_state.specs.Entering.{room_counts}
 use Rattle.wcv_state.specs.Promises.{MemoryOrCausedBy, Keeps, Grew}
-use Rattle.wcv_state.specs.Stack.{IsOpen, ChangesLast, KeepsOn, stay, innermost, around, contexts_around, stack_on}
+use Rattle.wcv_state.specs.Stack.{IsOpen, KeepsOn, innermost, around, contexts_around, stack_on}
 use Rattle.wcv_state.specs.declared.outer_aliases.Aliased.{Aliased}
 use Rattle.wcv_state.specs.declared.outer_aliases.Aliased.TheVariants as aliased
 use Rattle.wcv_state.proofs.Calls.{caused_more}
@@ -56,13 +56,6 @@ outer_stands a t h kind.CoreModule i x e =
 outer_stands a t h kind.CoreType i x e = found_at aliased.CoreType (slice_get t.spaces.core_types i) x (AliasedStands a) (λ y q. all_at (CoreIdStands a core_types) t.spaces.core_types i y (h.core core_types) q) e
 outer_stands a t h kind.Ty i x e = found_at (λ y. aliased.Entity (entity.Ty y y)) (slice_get t.spaces.types i) x (AliasedStands a) (λ y q. stands_at a t h in_types i y q) e
 outer_stands a t h kind.Component i x e = found_at (λ y. aliased.Entity (entity.Component y)) (slice_get t.spaces.components i) x (AliasedStands a) (λ y q. stands_at a t h in_components i y q) e
-
--- it is no value
-pub outer_built : (w : ComponentOuterAliasKind) (s : SpaceLists) (i : ℕ) (x : Aliased) → outer_id w s i ≡ Some x → is_built_aliased x ≡ true
-outer_built kind.CoreModule s i x e = found_at (λ y. aliased.Entity (entity.Module y)) (slice_get s.core_modules i) x (λ z. is_built_aliased z ≡ true) (λ y q. refl) e
-outer_built kind.CoreType s i x e = found_at aliased.CoreType (slice_get s.core_types i) x (λ z. is_built_aliased z ≡ true) (λ y q. refl) e
-outer_built kind.Ty s i x e = found_at (λ (y : ComponentAnyTypeId). aliased.Entity (entity.Ty y y)) (slice_get s.types i) x (λ z. is_built_aliased z ≡ true) (λ y q. refl) e
-outer_built kind.Component s i x e = found_at (λ y. aliased.Entity (entity.Component y)) (slice_get s.components i) x (λ z. is_built_aliased z ≡ true) (λ y q. refl) e
 
 -- what is charged is no core type
 pub outer_sort : (w : ComponentOuterAliasKind) (s : SpaceLists) (i : ℕ) (x : Aliased) → outer_id w s i ≡ Some x → is_charged w ≡ true → is_entity x ≡ true
@@ -144,17 +137,13 @@ module _ (a : Arena) (ss : List Contents) (s : Contents) (w : ComponentOuterAlia
 -- ## What becomes of the states
 
 -- what was aliased joins a state
-pub aliased_keeps : (a : Arena) (s : Contents) → StateStands a s → (x : Aliased) → is_built_aliased x ≡ true → AliasedStands a x → Keeps a a s (with_aliased x s)
-aliased_keeps a s h (aliased.CoreType i) b p = keeps_with_core a core_types i s h p
-aliased_keeps a s h (aliased.Entity x) b p = entity_keeps a s h x b p
+pub aliased_keeps : (a : Arena) (s : Contents) → StateStands a s → (x : Aliased) → AliasedStands a x → Keeps a a s (with_aliased x s)
+aliased_keeps a s h (aliased.CoreType i) p = keeps_with_core a core_types i s h p
+aliased_keeps a s h (aliased.Entity x) p = entity_keeps a s h x p
 
 aliased_same : (x : Aliased) (s : Contents) → (with_aliased x s).aliased ≡ s.aliased
 aliased_same (aliased.CoreType i) s = refl
 aliased_same (aliased.Entity x) s = refl
-
--- none changed
-pub states_stayed : (ss : List Contents) → 0 < length ss → ChangesLast stay ss ss
-states_stayed ss h = record { outer = around ss; old = innermost ss; new = innermost ss; was = parted ss h; becomes = parted ss h }
 
 kept_stand : (a b : Arena) (ss ts : List Contents) → KeepsOn a b ss ts → All (StateStands b) ts
 kept_stand a b [] [] h = All-nil (StateStands b)
@@ -190,7 +179,7 @@ module _ (a : Arena) (ss : List Contents) (w : ComponentOuterAliasKind) (n i : �
   pushed = ap (λ (j : ℕ). reverse (slice_set ss j y)) last ∙ states_pushed ss (around ss) s₀ y (parted ss some) some
 
   pub push_keeps : KeepsOn a a ss (slice_set ss k y)
-  push_keeps = kept_on ss k s y last some at a a ready (subst (Keeps a a s) (sym is) (aliased_keeps a s is_open.stands x f.built f.stands))
+  push_keeps = kept_on ss k s y last some at a a ready (subst (Keeps a a s) (sym is) (aliased_keeps a s is_open.stands x f.stands))
 
   -- in the innermost itself
   pub push_aliases : n ≡ 0 → IsFree (outer_id_checks a ss (innermost ss) w n i) → AliasedOn a a ss (slice_set ss k y) (alias.Outer w n i)

@@ -4,7 +4,6 @@ use Rattle.std.specs.Map.{lookup}
 use Rattle.std.specs.Option.{option_map, option_and_then, unwrap_or}
 use Rattle.wcv_core.specs.Limits.{max_size}
 use Rattle.wcv_core.specs.declared.error.ErrorKind.TheVariants as error
-use Rattle.wcv_syntax.specs.Built.{is_built_alias}
 use Rattle.wcv_syntax.specs.declared.instance.ComponentAlias.{ComponentAlias}
 use Rattle.wcv_syntax.specs.declared.instance.ComponentAlias.TheVariants as alias
 use Rattle.wcv_syntax.specs.declared.instance.ComponentExternalKind.{ComponentExternalKind}
@@ -12,7 +11,7 @@ use Rattle.wcv_syntax.specs.declared.instance.ComponentOuterAliasKind.{Component
 use Rattle.wcv_syntax.specs.declared.instance.ComponentOuterAliasKind.TheVariants as outer_kind
 use Rattle.wcv_types.specs.Arena.{Arena}
 use Rattle.wcv_types.specs.Entities.{entity_tree, EntityStands}
-use Rattle.wcv_types.specs.Tree.{Text, sort}
+use Rattle.wcv_types.specs.Tree.{Text}
 use Rattle.wcv_types.specs.Unfold.{Type_tree, trees, tree_at}
 use Rattle.wcv_types.specs.declared.ids.ComponentInstanceTypeId.{ComponentInstanceTypeId}
 use Rattle.wcv_types.specs.declared.ids.Part.TheVariants as part
@@ -26,16 +25,15 @@ use Rattle.wcv_lower.specs.CoreInstances.{test_found}
 use Rattle.wcv_lower.specs.Declared.{applied}
 use Rattle.wcv_lower.specs.Trees.{tree_reader}
 use Rattle.wcv_state.specs.Contents.{Contents, SpaceLists, CoreIdStands, core_tree, kind_of, with_core}
-use Rattle.wcv_state.specs.Looking.{entity_sort, entered, is_built_entity}
+use Rattle.wcv_state.specs.Looking.{entity_sort, entered}
 use Rattle.wcv_state.specs.Entering.{room_counts}
-use Rattle.wcv_state.specs.Promises.{if_built}
 use Rattle.wcv_state.specs.Stack.{all_uncharged, stack_on}
 use Rattle.wcv_state.specs.declared.outer_aliases.Aliased.{Aliased}
 use Rattle.wcv_state.specs.declared.outer_aliases.Aliased.TheVariants as aliased
 
--- an entity in the space of its sort
+-- an entity in the space of its sort, and a value is not used yet
 abbrev pub with_entity : ComponentEntityType → Contents → Contents
-with_entity x s = record s { spaces = entered x s.spaces }
+with_entity x s = record s { spaces = entered false x s.spaces }
 
 -- ## An instance's export
 
@@ -84,11 +82,6 @@ abbrev pub with_aliased : Aliased → Contents → Contents
 with_aliased (aliased.CoreType i) s = with_core core_types i s
 with_aliased (aliased.Entity x) s = with_entity x s
 
--- no value
-abbrev pub is_built_aliased : Aliased → Bool
-is_built_aliased (aliased.CoreType i) = true
-is_built_aliased (aliased.Entity x) = is_built_entity x
-
 -- no core type
 abbrev pub is_entity : Aliased → Bool
 is_entity (aliased.CoreType i) = false
@@ -134,7 +127,6 @@ pub record OuterFinds (a : Arena) (ss : List Contents) (w : ComponentOuterAliasK
   -- there is room for that
   pub fits : 0 < size → All (λ s. s.aliased + size ≤ 4294967295) (option_to_list (after_target ss n))
   pub stands : AliasedStands a x
-  pub built : is_built_aliased x ≡ true
 
 -- ## The states
 
@@ -148,5 +140,5 @@ pub record AliasedOn (a a' : Arena) (ss ss' : List Contents) (x : ComponentAlias
   pub becomes : ss' ≡ outer' ++ new ∷ []
   pub same : all_uncharged outer' ≡ all_uncharged outer
   pub grown : applied (stack_on a outer old) (alias_step (stack_on a outer old) x) ≡ Some (stack_on a' outer' new)
-  pub free : IsFree (if_built (is_built_alias x) (alias_checks old.features (stack_on a outer old) x))
+  pub free : IsFree (alias_checks old.features (stack_on a outer old) x)
   pub live : new.spent ≡ false

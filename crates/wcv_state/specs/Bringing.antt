@@ -1,5 +1,5 @@
 -- Entities as they join imports or exports, with the resources that they introduce.
-use Rattle.std.specs.Prelude.{ℕ, List, [], ◌∷◌, map, All, Bool, true, false, Option, Some, ◌≡◌, ◌≤◌, ◌⊎◌}
+use Rattle.std.specs.Prelude.{ℕ, List, [], ◌∷◌, map, All, Bool, false, Option, Some, ◌≡◌, ◌≤◌, ◌⊎◌}
 use Rattle.wcv_core.specs.Names.{Name, Place, number}
 use Rattle.wcv_syntax.specs.declared.name.ComponentExternName.{ComponentExternName}
 use Rattle.wcv_types.specs.Arena.{Arena}
@@ -20,7 +20,7 @@ use Rattle.wcv_lower.specs.Readers.{Maker, Brought}
 use Rattle.wcv_lower.specs.Step.{brought_at, apply, enters}
 use Rattle.wcv_lower.specs.Trees.{Tree_context, tree_reader, tree_maker}
 use Rattle.wcv_state.specs.Contents.{Contents, context_of, stack_of}
-use Rattle.wcv_state.specs.Looking.{is_built_entity, introduced_id, has_resource, created_reference}
+use Rattle.wcv_state.specs.Looking.{introduced_id, has_resource, created_reference}
 use Rattle.wcv_state.specs.Promises.{numbers_of, is_instance_entity}
 use Rattle.wcv_state.specs.declared.bringing.NewEntity.{NewEntity}
 
@@ -39,7 +39,6 @@ brought_new a n = record { entity = entity_tree (trees a.nodes) n.ty; resources 
 
 -- it stands there: its resources are of the arena, and the path of each leads to it
 pub record MayJoin (a : Arena) (n : NewEntity) : Type 0 where
-  pub built : is_built_entity n.ty ≡ true
   pub stands : EntityStands a n.ty
   pub resources : All (λ (r : ResourceId × List ℕ). ResourceStands a r.0) n.resources
   pub lead : All (λ (r : ResourceId × List ℕ). LeadsWithin r.1 (number r.0.index) (entity_tree (trees a.nodes) n.ty)) n.resources

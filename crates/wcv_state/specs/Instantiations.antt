@@ -2,7 +2,7 @@
 use Rattle.std.specs.Prelude.{suc, List, [], All, None, true, false, map, ◌≡◌, ◌≤◌, ◌<◌}
 use Rattle.std.specs.List.{IsDistinct}
 use Rattle.std.specs.Map.{keys_of, lookup}
-use Rattle.wcv_core.specs.Names.{Name, Place, member, number}
+use Rattle.wcv_core.specs.Names.{Name, Place, member}
 use Rattle.wcv_types.specs.Arena.{Arena}
 use Rattle.wcv_types.specs.ByName.{NamesDiffer}
 use Rattle.wcv_types.specs.ComponentTrees.{resource_path}
@@ -30,7 +30,7 @@ use Rattle.wcv_lower.specs.Readers.{Brought}
 use Rattle.wcv_lower.specs.Step.{apply}
 use Rattle.wcv_lower.specs.Trees.{Tree_context, tree_maker, tree_reader}
 use Rattle.wcv_state.specs.Contents.{Contents, stack_of}
-use Rattle.wcv_state.specs.Opening.{Paths, entry_rank}
+use Rattle.wcv_state.specs.Opening.{entry_rank}
 use Rattle.wcv_state.specs.Promises.{numbers_of}
 use Rattle.wcv_state.specs.declared.instances.NewInstance.{NewInstance}
 use Rattle.wcv_state.specs.declared.instances.Opened.{Opened}

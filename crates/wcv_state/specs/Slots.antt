@@ -27,6 +27,8 @@ slots_of a s = record {
   depth = s.info.depth;
   aliased = s.aliased;
   context_type = s.context_type;
+  used = map (λ v. v.1) s.spaces.values;
+  started = s.started;
 }
 
 -- the states that are open, the innermost first, over the arena's table of core types

@@ -5,7 +5,6 @@ ghost use Rattle.wcv_core.specs.CoreGroups.{total};
 ghost use Rattle.wcv_core.specs.CoreSizes.{IsEntityWithin};
 ghost use Rattle.wcv_core.specs.Names.{Place};
 ghost use Rattle.wcv_core.specs.declared.error.ErrorKind.TheVariants as kinds;
-ghost use Rattle.wcv_syntax.specs.Built.{is_built_alias as is_alias_built};
 ghost use Rattle.wcv_syntax.specs.Model.{alias_item};
 ghost use Rattle.wcv_types.specs.Standing.{Stands};
 ghost use Rattle.wcv_types.specs.Unfold.{tree_at};
@@ -25,14 +24,13 @@ ghost use Rattle.wcv_state.specs.Promises.{CausedBy, MemoryOrCausedBy, Keeps, Gr
 ghost use Rattle.wcv_state.specs.Stack.{IsOpen, ChangesLast, RefusedOn, KeepsOn, around, innermost, stack_on, stay};
 
 use crate::core_items::{check_core_sort, check_item_room, is_of, sort_name};
-use crate::forms::unbuilt;
 use crate::kind::ComponentKind;
 use crate::marks::mark_all_spent;
 use crate::outer_aliases::add_outer_alias;
 use crate::state::ComponentState;
 use wcv_core::{EntityType, Error, ErrorKind, Refusal, Text, Why};
 use wcv_matching::core_exports;
-use wcv_syntax::{ComponentAlias, ExternalKind, is_built_alias};
+use wcv_syntax::{ComponentAlias, ExternalKind};
 use wcv_types::{ComponentCoreInstanceTypeId, TypeAlloc};
 
 /// Whether what a core instance exports may be aliased where the item stands.
@@ -132,7 +130,6 @@ impl ComponentState {
     ) -> Result<(), Error>
         requires live { self.old.spent ≡ false }
         requires stands { StateStands types.now self.old }
-        requires built { is_alias_built alias ≡ true }
         requires here { is_outer alias ≡ false }
         ensures ok { OnOk result ((outer : List Tree_context) (p : Place) → Grew types.now types.now outer p self.old self.new (alias_item alias)) }
         ensures err { IfErr result (λ e. (outer : List Tree_context) (n : Names) (p : Place) → MemoryOrCausedBy (call_checks self.old.features (tree_maker n p) (stack_of types.now self.old outer) (alias_item alias)) offset e) }
@@ -156,11 +153,11 @@ impl ComponentState {
     /// Reads an alias into the innermost state: what an instance or a core instance exports under a name, or what stands
     /// in a state further out, joins the space of its sort. Refuses an index that is not below the length of its space,
     /// and a count of states that is not below their number, as `OutOfBounds`, a name that the instance lacks as
-    /// `UnknownExport`, an export of another sort as `WrongSort`, a tag without its feature as `Feature`, an alias that a
-    /// declared type may not have as `AliasKind`, a type or a component in which a resource is free and that would cross
-    /// into a component as `ResourceScope`, more items than there may be, or more that crosses, as `Limit`, and an alias
-    /// that is not built yet as `Unbuilt`. What crosses is charged to the state right after the one that it stands in,
-    /// where that is a component. After an error the states are spent. The length of the name is left to the caller.
+    /// `UnknownExport`, an export of another sort as `WrongSort`, a tag or a value without its feature as `Feature`, an
+    /// alias that a declared type may not have as `AliasKind`, a type or a component in which a resource is free and that
+    /// would cross into a component as `ResourceScope`, and more items than there may be, or more that crosses, as
+    /// `Limit`. What crosses is charged to the state right after the one that it stands in, where that is a component.
+    /// After an error the states are spent. The length of the name is left to the caller.
     pub fn add_alias(
         components: &mut [ComponentState],
         alias: ComponentAlias,
@@ -197,9 +194,6 @@ fn add_alias_on(
     ensures last { OnErr result (ChangesLast stay components.old components.new) }
     ensures keeps { KeepsOn types.now types.now components.old components.new }
 {
-    if !is_built_alias(&alias) {
-        return Err(Error::from(unbuilt(offset)));
-    }
     match alias {
         ComponentAlias::Outer { kind, count, index } => {
             add_outer_alias(components, kind, count, index, types, offset)

@@ -1,11 +1,11 @@
 // What joins of an entity: as it is, or of an instance type an instance.
-ghost use Rattle.std.specs.Prelude.{◌≡◌, true, false, IfOk};
+ghost use Rattle.std.specs.Prelude.{◌≡◌, false, IfOk};
 ghost use Rattle.wcv_types.specs.Entities.{EntityStands};
 ghost use Rattle.wcv_types.specs.Standing.{Extends};
 ghost use Rattle.wcv_types.specs.declared.shapes.ComponentEntityType.TheVariants as entity;
 ghost use Rattle.wcv_state.specs.Bringing.{EntityOpened};
 ghost use Rattle.wcv_state.specs.Instances.{EntityMayOpen};
-ghost use Rattle.wcv_state.specs.Looking.{is_built_entity, introduced_id, introduced_in};
+ghost use Rattle.wcv_state.specs.Looking.{introduced_id, introduced_in};
 ghost use Rattle.wcv_state.specs.Promises.{is_instance_entity};
 
 use crate::instances::instance_of;
@@ -53,7 +53,6 @@ fn open_instance(
 /// What joins of an entity. Of an instance type it is an instance, and the resources that the type owns are new
 /// there. Out of memory the arena may have grown.
 pub fn open_entity(types: &mut TypeAlloc, ty: ComponentEntityType) -> Result<NewEntity, OutOfMemory>
-    requires built { is_built_entity ty ≡ true }
     requires stands { EntityStands types.old ty }
     requires opens { EntityMayOpen types.old ty }
     ensures ok { IfOk result (EntityOpened types.old types.new ty) }

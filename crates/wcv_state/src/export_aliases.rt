@@ -1,8 +1,7 @@
 // Aliases of what instances export.
-ghost use Rattle.std.specs.Prelude.{◌≡◌, ◌∷◌, [], true, false, not, ◌&&◌, All, Some, List, OnOk, IfOk, IfErr};
+ghost use Rattle.std.specs.Prelude.{◌≡◌, ◌∷◌, ◌++◌, [], true, false, not, ◌&&◌, All, Some, List, OnOk, IfOk, IfErr};
 ghost use Rattle.wcv_core.specs.Names.{Place};
 ghost use Rattle.wcv_core.specs.declared.error.ErrorKind.TheVariants as kinds;
-ghost use Rattle.wcv_syntax.specs.Built.{is_built_sort};
 ghost use Rattle.wcv_syntax.specs.Model.{alias_item};
 ghost use Rattle.wcv_types.specs.Entities.{entry_trees, EntryStands};
 ghost use Rattle.wcv_types.specs.Standing.{Stands};
@@ -16,6 +15,7 @@ ghost use Rattle.wcv_lower.specs.Context.{is_concrete};
 ghost use Rattle.wcv_lower.specs.Growth.{call_checks};
 ghost use Rattle.wcv_lower.specs.Names.{Names};
 ghost use Rattle.wcv_lower.specs.Trees.{Tree_context, tree_maker};
+ghost use Rattle.wcv_lower.specs.Values.{kind_checks};
 ghost use Rattle.wcv_state.specs.Aliasing as aliasing;
 ghost use Rattle.wcv_state.specs.Aliasing.{export_id, export_id_checks, ExportFinds};
 ghost use Rattle.wcv_state.specs.Contents.{kind_of, context_of, stack_of, StateStands};
@@ -24,6 +24,7 @@ ghost use Rattle.wcv_state.specs.Inside.{lists};
 ghost use Rattle.wcv_state.specs.Promises.{CausedBy, MemoryOrCausedBy, Keeps, Grew};
 
 use crate::entries::check_count;
+use crate::features::check_kind;
 use crate::kind::ComponentKind;
 use crate::labels::are_alike;
 use crate::spaces::{Spaces, both};
@@ -215,12 +216,12 @@ impl ComponentState {
         types: &TypeAlloc,
         offset: u64,
     ) -> Result<ComponentEntityType, Error>
-        requires stands { StateStands types.now self.now }
-        requires built { is_built_sort kind ≡ true }
+        requires { StateStands types.now self.now }
         ensures ok { IfOk result (ExportFinds types.now self.now.spaces kind index name.now) }
-        ensures free { OnOk result (IsFree (export_alias_checks (context_of types.now self.now) kind index name.now)) }
-        ensures err { IfErr result (MemoryOrCausedBy (export_alias_checks (context_of types.now self.now) kind index name.now) offset) }
+        ensures free { OnOk result (IsFree (kind_checks self.now.features kind ++ export_alias_checks (context_of types.now self.now) kind index name.now)) }
+        ensures err { IfErr result (MemoryOrCausedBy (kind_checks self.now.features kind ++ export_alias_checks (context_of types.now self.now) kind index name.now) offset) }
     {
+        check_kind(&self.features, kind, offset)?;
         check_sort(self.kind, kind, offset)?;
         let id = self.instance_at(index, offset)?;
         let item = named_export(exports_of(types, id), kind, name, offset)?;
@@ -239,7 +240,6 @@ impl ComponentState {
     ) -> Result<(), Error>
         requires live { self.old.spent ≡ false }
         requires stands { StateStands types.now self.old }
-        requires built { is_built_sort kind ≡ true }
         ensures ok { OnOk result ((outer : List Tree_context) (p : Place) → Grew types.now types.now outer p self.old self.new (alias_item (ComponentAlias.InstanceExport kind index name))) }
         ensures err { IfErr result (λ e. (outer : List Tree_context) (n : Names) (p : Place) → MemoryOrCausedBy (call_checks self.old.features (tree_maker n p) (stack_of types.now self.old outer) (alias_item (ComponentAlias.InstanceExport kind index name))) offset e) }
         ensures keeps { Keeps types.now types.now self.old self.new }

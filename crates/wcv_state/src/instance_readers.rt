@@ -1,6 +1,5 @@
 // What stands in the spaces of instances and of components, and items of any sort.
-ghost use Rattle.std.specs.Prelude.{◌≡◌, Some, true, slice_get, IfOk, IfErr};
-ghost use Rattle.wcv_syntax.specs.Built.{is_built_sort};
+ghost use Rattle.std.specs.Prelude.{◌≡◌, Some, slice_get, IfOk, IfErr};
 ghost use Rattle.wcv_lower.specs.Checks.{missing};
 ghost use Rattle.wcv_state.specs.Looking.{item_id, item_id_checks};
 ghost use Rattle.wcv_state.specs.Promises.{CausedBy};
@@ -35,15 +34,15 @@ impl ComponentState {
         element_at(&self.spaces.components, "component", idx, offset)
     }
 
-    /// The item of that sort at the index, as an entity: of a type both nodes are the one that stands there. A value
-    /// is not asked for. Refuses an index that is not below the length as `OutOfBounds`, and takes no memory.
+    /// The item of that sort at the index, as an entity: of a type both nodes are the one that stands there. Whether a
+    /// value was used is not looked at. Refuses an index that is not below the length as `OutOfBounds`, and takes no
+    /// memory.
     pub fn item_at(
         &self,
         kind: ComponentExternalKind,
         idx: u32,
         offset: u64,
     ) -> Result<ComponentEntityType, Refusal<'static>>
-        requires { is_built_sort kind ≡ true }
         ensures ok { IfOk result (λ x. item_id self.now.spaces kind idx ≡ Some x) }
         ensures err { IfErr result (CausedBy (item_id_checks self.now.spaces kind idx) offset) }
     {

@@ -1,55 +1,31 @@
 // Imports and exports that are read.
-ghost use Rattle.std.specs.Prelude.{◌≡◌, [], true, false, List, OnOk, OnErr, IfOk, IfErr};
+ghost use Rattle.std.specs.Prelude.{◌≡◌, false, true, List, OnOk, OnErr, IfOk, IfErr};
 ghost use Rattle.wcv_core.specs.Names.{Place};
-ghost use Rattle.wcv_syntax.specs.Built.{is_built_ref, is_built_item};
 ghost use Rattle.wcv_syntax.specs.Model.{import_item, export_item};
-ghost use Rattle.wcv_types.specs.Entities.{EntityStands};
 ghost use Rattle.wcv_types.specs.Standing.{Extends};
+ghost use Rattle.wcv_lower.specs.Checks.{IsFree};
 ghost use Rattle.wcv_lower.specs.Entries as rules;
-ghost use Rattle.wcv_lower.specs.Entries.{written_checks, exported_checks};
+ghost use Rattle.wcv_lower.specs.Entries.{written_checks, found_checks, exported_values};
 ghost use Rattle.wcv_lower.specs.Trees.{Tree_context};
-ghost use Rattle.wcv_state.specs.Bringing.{EntityOpened, Found};
-ghost use Rattle.wcv_state.specs.Contents.{marks_aside, context_of, StateStands};
+ghost use Rattle.wcv_lower.specs.Values.{kind_checks};
+ghost use Rattle.wcv_state.specs.Bringing.{Found};
+ghost use Rattle.wcv_state.specs.Contents.{with_uses, context_of, StateStands};
 ghost use Rattle.wcv_state.specs.Instances.{MayOpen, ItemMayOpen, EntityMayOpen};
-ghost use Rattle.wcv_state.specs.Looking.{is_built_entity as built_entity, GivesItem};
-ghost use Rattle.wcv_state.specs.Promises.{MemoryOrCausedBy, Keeps, Grew, Refuses, RefusesBy, if_built, WrittenEntity, ref_checks, Exported, ItemCaused, Entered, EntryCaused, is_instance_entity, MayJoinExports};
+ghost use Rattle.wcv_state.specs.Looking.{GivesItem};
+ghost use Rattle.wcv_state.specs.Promises.{MemoryOrCausedBy, Keeps, Grew, Refuses, RefusesBy, WrittenEntity, Exported, ItemCaused, Entered, EntryCaused, is_instance_entity, MayJoinExports};
 
 use crate::ascribing::check_ascribed;
 use crate::bringing::{NewEntity, open_entity};
-use crate::entries::is_built_entity;
-use crate::forms::{exported, item_at, unbuilt, written};
+use crate::features::check_kind;
+use crate::forms::{exported, item_at, written};
 use crate::state::ComponentState;
 use wcv_core::Error;
-use wcv_syntax::{
-    ComponentExport, ComponentExternName, ComponentImport, ComponentTypeRef,
-    is_built_item as is_item_built,
-};
+use wcv_syntax::{ComponentExport, ComponentExternName, ComponentImport, ComponentTypeRef};
 use wcv_types::{ComponentEntityType, TypeAlloc};
-
-/// What joins of an entity, which has to be of a sort that is built.
-fn open_export(
-    types: &mut TypeAlloc,
-    ty: ComponentEntityType,
-    offset: u64,
-) -> Result<NewEntity, Error>
-    requires stands { EntityStands types.old ty }
-    requires opens { EntityMayOpen types.old ty }
-    ensures built { OnOk result (built_entity ty ≡ true) }
-    ensures ok { IfOk result (EntityOpened types.old types.new ty) }
-    ensures grown { Extends types.old types.new }
-    ensures same { is_instance_entity ty ≡ false → types.new ≡ types.old }
-    ensures err { IfErr result (MemoryOrCausedBy (if_built (built_entity ty) []) offset) }
-{
-    if !is_built_entity(&ty) {
-        return Err(Error::from(unbuilt(offset)));
-    }
-    let new = open_entity(types, ty)?;
-    Ok(new)
-}
 
 impl ComponentState {
     /// The entity that a written type gives, which may be handed to `add_export` next. Refuses an index that is not below the length as `OutOfBounds`,
-    /// a type of another sort as `WrongSort`, and a form that is not built yet as `Unbuilt`.
+    /// a type of another sort as `WrongSort`, and what needs a missing feature as `Feature`.
     pub fn check_type_ref(
         &mut self,
         ty: &ComponentTypeRef,
@@ -62,11 +38,11 @@ impl ComponentState {
         ensures joins { IfOk result (MayJoinExports types.new self.new) }
         ensures opens { IfOk result (λ x. MayOpen types.old self.old.spaces.types ty.now → EntityMayOpen types.new x) }
         ensures same { OnOk result (self.new ≡ self.old) }
-        ensures err { IfErr result (RefusesBy (ref_checks (context_of types.old self.old) ty.now) self.new offset) }
+        ensures err { IfErr result (RefusesBy (written_checks self.old.features (context_of types.old self.old) ty.now) self.new offset) }
         ensures keeps { Keeps types.old types.new self.old self.new }
     {
         self.spent = true;
-        let entity = written(&self.spaces, ty, types, offset)?;
+        let entity = written(&self.spaces, ty, types, &self.features, offset)?;
         self.spent = false;
         Ok(entity)
     }
@@ -80,12 +56,11 @@ impl ComponentState {
     ) -> Result<NewEntity, Error>
         requires stands { StateStands types.old self.now }
         requires opens { MayOpen types.old self.now.spaces.types ty.now }
-        ensures built { OnOk result (is_built_ref ty.now ≡ true) }
-        ensures ok { IfOk result (λ n. Found types.old types.new n (λ k. written_checks (context_of types.old self.now) ty.now) (λ k. rules.written k (context_of types.old self.now) ty.now)) }
+        ensures ok { IfOk result (λ n. Found types.old types.new n (λ k. written_checks self.now.features (context_of types.old self.now) ty.now) (λ k. rules.written k (context_of types.old self.now) ty.now)) }
         ensures grown { Extends types.old types.new }
-        ensures err { IfErr result (MemoryOrCausedBy (ref_checks (context_of types.old self.now) ty.now) offset) }
+        ensures err { IfErr result (MemoryOrCausedBy (written_checks self.now.features (context_of types.old self.now) ty.now) offset) }
     {
-        let entity = written(&self.spaces, ty, types, offset)?;
+        let entity = written(&self.spaces, ty, types, &self.features, offset)?;
         let new = open_entity(types, entity)?;
         Ok(new)
     }
@@ -132,14 +107,12 @@ impl ComponentState {
         offset: u64,
     ) -> Result<ComponentEntityType, Error>
         requires { StateStands types.old self.now }
-        ensures built { OnOk result (is_built_item export.now ≡ true) }
-        ensures ok { IfOk result (GivesItem types.old types.new self.now.spaces export.now export.now.ty) }
+        ensures ok { IfOk result (GivesItem types.old types.new self.now.features self.now.spaces export.now export.now.ty) }
+        ensures kind { OnOk result (IsFree (kind_checks self.now.features export.now.kind)) }
         ensures grown { Extends types.old types.new }
         ensures err { IfErr result (λ e. (p : Place) → ItemCaused types.old types.new p self.now export.now offset e) }
     {
-        if !is_item_built(export) {
-            return Err(Error::from(unbuilt(offset)));
-        }
+        check_kind(&self.features, export.kind, offset)?;
         match &export.ty {
             None => {
                 let entity = exported(&self.spaces, export, types, offset)?;
@@ -147,7 +120,7 @@ impl ComponentState {
             }
             Some(ty) => {
                 let item = item_at(&self.spaces, export.kind, export.index, offset)?;
-                let entity = written(&self.spaces, ty, types, offset)?;
+                let entity = written(&self.spaces, ty, types, &self.features, offset)?;
                 match check_ascribed(types, &item, &entity, offset) {
                     Ok(()) => Ok(entity),
                     Err(error) => Err(error),
@@ -157,9 +130,10 @@ impl ComponentState {
     }
 
     /// The entity of an exported item, which may be handed to `add_export` next: where a type is written beside it,
-    /// what that gives. Refuses an index that is not below the length as `OutOfBounds`, what `check_type_ref` refuses
-    /// of the written type, an item that does not match it as `Mismatch`, and a form that is not built yet as
-    /// `Unbuilt`. No item matches a type that brings resources of its own.
+    /// what that gives. A value is used from here on. Refuses an index that is not below the length as `OutOfBounds`,
+    /// what `check_type_ref` refuses of the written type, an item that does not match it as `Mismatch`, a value that
+    /// is used as `Value`, and what needs a missing feature as `Feature`. No item matches a type that brings resources
+    /// of its own.
     pub fn export_to_entity_type(
         &mut self,
         export: &ComponentExport,
@@ -171,18 +145,20 @@ impl ComponentState {
         ensures ok { IfOk result (λ x. (p : Place) → Exported types.old types.new p self.old export.now x) }
         ensures joins { IfOk result (MayJoinExports types.new self.new) }
         ensures opens { IfOk result (λ x. ItemMayOpen types.old self.old.spaces.instances export.now → EntityMayOpen types.new x) }
-        ensures same { OnOk result (marks_aside self.new ≡ marks_aside self.old) }
+        ensures same { OnOk result (self.new ≡ with_uses (exported_values export.now) self.old) }
         ensures spent { OnErr result (self.new.spent ≡ true) }
         ensures err { IfErr result (λ e. (p : Place) → ItemCaused types.old types.new p self.old export.now offset e) }
         ensures keeps { Keeps types.old types.new self.old self.new }
     {
-        match self.exported_entity(export, types, offset) {
-            Ok(entity) => Ok(entity),
+        let entity = match self.exported_entity(export, types, offset) {
+            Ok(entity) => entity,
             Err(error) => {
                 self.spent = true;
-                Err(error)
+                return Err(error);
             }
-        }
+        };
+        self.use_item(export.kind, export.index, offset)?;
+        Ok(entity)
     }
 
     /// Reads an export of that entity: it joins the exports and the space of its sort. Refuses as
@@ -206,11 +182,11 @@ impl ComponentState {
         ensures keeps { Keeps types.old types.new self.old self.new }
         ensures types { is_instance_entity ty ≡ false → types.new ≡ types.old }
     {
-        let new = match open_export(types, ty, offset) {
+        let new = match open_entity(types, ty) {
             Ok(new) => new,
             Err(error) => {
                 self.spent = true;
-                return Err(error);
+                return Err(Error::from(error));
             }
         };
         let joined = self.join_exports(name, &new, types, check_limit, offset);
@@ -230,8 +206,7 @@ impl ComponentState {
     ) -> Result<NewEntity, Error>
         requires stands { StateStands types.old self.now }
         requires opens { ItemMayOpen types.old self.now.spaces.instances export.now }
-        ensures built { OnOk result (is_built_item export.now ≡ true) }
-        ensures ok { IfOk result (λ n. Found types.old types.new n (λ k. exported_checks types.old.core k (context_of types.old self.now) export.now) (λ k. rules.exported k (context_of types.old self.now) export.now)) }
+        ensures ok { IfOk result (λ n. Found types.old types.new n (λ k. found_checks self.now.features types.old.core k (context_of types.old self.now) export.now) (λ k. rules.exported k (context_of types.old self.now) export.now)) }
         ensures grown { Extends types.old types.new }
         ensures err { IfErr result (λ e. (p : Place) → ItemCaused types.old types.new p self.now export.now offset e) }
     {
@@ -266,6 +241,7 @@ impl ComponentState {
                 return Err(error);
             }
         };
+        self.use_item(export.kind, export.index, offset)?;
         let joined = self.join_exports(export.name, &new, types, true, offset);
         drop(new);
         match joined {

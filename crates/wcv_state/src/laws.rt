@@ -15,7 +15,7 @@ ghost use Rattle.wcv_types.specs.Unfold.{at, tree_at};
 ghost use Rattle.wcv_types.specs.declared.ids.ComponentAnyTypeId.{ComponentAnyTypeId};
 ghost use Rattle.wcv_types.specs.declared.shapes.ComponentEntityType.{ComponentEntityType};
 ghost use Rattle.wcv_lower.specs.Context.{exporting};
-ghost use Rattle.wcv_lower.specs.Entries.{extern_name, written};
+ghost use Rattle.wcv_lower.specs.Entries.{extern_name, written, exported_values};
 ghost use Rattle.wcv_types.specs.Tree.{exports, owned};
 ghost use Rattle.wcv_types.specs.declared.ids.ComponentInstanceTypeId.{ComponentInstanceTypeId};
 ghost use Rattle.wcv_types.specs.declared.ids.Part.TheVariants as part;
@@ -29,7 +29,7 @@ ghost use Rattle.wcv_lower.specs.Slots.{slot_reader, to_trees, slot_maker, next_
 ghost use Rattle.wcv_lower.specs.Step.{apply, enters};
 ghost use Rattle.wcv_lower.specs.Trees.{Tree_context, tree_reader, tree_maker, node_tree};
 ghost use Rattle.wcv_lower.specs.Uses.{uses, uses_again, uses_new, uses_node, uses_instance};
-ghost use Rattle.wcv_state.specs.Contents.{Contents, marks_aside, context_of, stack_of, StateStands};
+ghost use Rattle.wcv_state.specs.Contents.{Contents, with_uses, context_of, stack_of, StateStands};
 ghost use Rattle.wcv_state.specs.Promises.{numbers_of, Grew, WrittenEntity, Exported, Entered, ExportDeclared};
 ghost use Rattle.wcv_state.specs.Slots.{slot_stack_of};
 
@@ -57,10 +57,11 @@ pub fn an_arena_makes_what_trees_say()
         (names : GivenNames) × GivesAt (Under p) (numbers_of a) (numbers_of b) names × MakesSame (to_trees b) (SlotStands b) (slot_maker a b) (tree_maker (names_of names) p) (uses_node (Some n)) }
 {}
 
-/// The entity of an exported item, and then its entry, are together the export, whatever was marked as used between.
+/// The entity of an exported item, and then its entry, are together the export, where the item is marked as used between
+/// if it is a value.
 /// So with a written type: together they are a declared export.
 pub fn two_calls_are_an_export()
-    ensures item { (a b c : Arena) (outer : List Tree_context) (p : Place) (s t s' : Contents) (e : ComponentExport) (x : ComponentEntityType) → StateStands a s → Extends a b → Extends b c → Exported a b p s e x → marks_aside t ≡ marks_aside s →
+    ensures item { (a b c : Arena) (outer : List Tree_context) (p : Place) (s t s' : Contents) (e : ComponentExport) (x : ComponentEntityType) → StateStands a s → Extends a b → Extends b c → Exported a b p s e x → t ≡ with_uses (exported_values e) s →
         Entered true b c outer p t s' e.name x → Grew a c outer p s s' (export_item e) }
     ensures entity { (a b c : Arena) (outer : List Tree_context) (p : Place) (s s' : Contents) (r : ComponentTypeRef) (n : ComponentExternName) (x : ComponentEntityType) → StateStands a s → Extends a b → Extends b c → WrittenEntity a b p s r x →
         Entered true b c outer p s s' n x → ExportDeclared a c outer p s s' n r }

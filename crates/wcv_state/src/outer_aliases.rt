@@ -7,7 +7,7 @@ ghost use Rattle.wcv_lower.specs.Aliases.{is_charged, outer_admitted, outer_room
 ghost use Rattle.wcv_lower.specs.Checks.{IsFree, if_found, missing};
 ghost use Rattle.wcv_lower.specs.Context.{is_concrete};
 ghost use Rattle.wcv_lower.specs.Trees.{tree_reader};
-ghost use Rattle.wcv_state.specs.Aliasing.{outer_id, with_aliased, is_built_aliased, is_entity, aliased_tree, AliasedStands, charge_of, crossing_checks, boundary_checks, after_target, charge_in, outer_id_checks, OuterFinds, AliasedOn};
+ghost use Rattle.wcv_state.specs.Aliasing.{outer_id, with_aliased, is_entity, aliased_tree, AliasedStands, charge_of, crossing_checks, boundary_checks, after_target, charge_in, outer_id_checks, OuterFinds, AliasedOn};
 ghost use Rattle.wcv_state.specs.Contents.{kind_of, spent, with_charge};
 ghost use Rattle.wcv_state.specs.Entering.{room_counts};
 ghost use Rattle.wcv_state.specs.Inside.{lists};
@@ -208,7 +208,6 @@ impl ComponentState {
     /// What was aliased joins its space, whatever the number of those there.
     fn push_aliased(&mut self, item: Aliased) -> Result<(), OutOfMemory>
         requires live { self.old.spent ≡ false }
-        requires built { is_built_aliased item ≡ true }
         ensures ok { OnOk result (self.new ≡ with_aliased item self.old) }
         ensures err { OnErr result (self.new ≡ spent self.old) }
     {

@@ -1,9 +1,9 @@
 // One more entry in a space, or one more resource that is defined.
-ghost use Rattle.std.specs.Prelude.{◌≡◌, true, false, OnOk, OnErr};
-ghost use Rattle.wcv_lower.specs.Context.{in_types, in_funcs, in_instances, in_components, core_types, core_funcs, core_tags, core_modules, core_instances, core_memories, core_tables, core_globals};
+ghost use Rattle.std.specs.Prelude.{◌≡◌, false, OnOk, OnErr};
+ghost use Rattle.wcv_lower.specs.Context.{in_types, in_funcs, in_values, in_instances, in_components, core_types, core_funcs, core_tags, core_modules, core_instances, core_memories, core_tables, core_globals};
 ghost use Rattle.wcv_state.specs.Aliasing.{with_entity};
 ghost use Rattle.wcv_state.specs.Contents.{with_id, with_core, with_defined, spent};
-ghost use Rattle.wcv_state.specs.Looking.{has_resource, is_built_entity};
+ghost use Rattle.wcv_state.specs.Looking.{has_resource};
 
 use crate::spaces::append;
 use crate::state::ComponentState;
@@ -11,7 +11,7 @@ use wcv_core::{CoreTypeId, GlobalType, MemoryType, OutOfMemory, TableType, ValTy
 use wcv_types::{
     ComponentAnyTypeId, ComponentCoreInstanceTypeId, ComponentCoreModuleTypeId,
     ComponentCoreTypeId, ComponentEntityType, ComponentFuncTypeId, ComponentInstanceTypeId,
-    ComponentTypeId, ResourceId,
+    ComponentTypeId, ComponentValType, ResourceId,
 };
 
 impl ComponentState {
@@ -166,6 +166,21 @@ impl ComponentState {
         }
     }
 
+    /// Appends a value of that type, whatever the number of values, and whether it counts as used.
+    pub fn push_value(&mut self, ty: ComponentValType, used: bool) -> Result<(), OutOfMemory>
+        requires live { self.old.spent ≡ false }
+        ensures ok { OnOk result (self.new ≡ with_id in_values (ty, used) self.old) }
+        ensures err { OnErr result (self.new ≡ spent self.old) }
+    {
+        match append(&mut self.spaces.values, (ty, used)) {
+            Ok(()) => Ok(()),
+            Err(error) => {
+                self.spent = true;
+                Err(error)
+            }
+        }
+    }
+
     /// Appends an instance of that type, whatever the number of instances.
     pub fn push_instance(&mut self, ty: ComponentInstanceTypeId) -> Result<(), OutOfMemory>
         requires live { self.old.spent ≡ false }
@@ -196,11 +211,10 @@ impl ComponentState {
         }
     }
 
-    /// Appends an entity to the space of its sort, whatever the number of those there: of a type the created one. It
-    /// is no value.
+    /// Appends an entity to the space of its sort, whatever the number of those there: of a type the created one. A
+    /// value is not used yet.
     pub(crate) fn push_entity(&mut self, ty: ComponentEntityType) -> Result<(), OutOfMemory>
         requires live { self.old.spent ≡ false }
-        requires built { is_built_entity ty ≡ true }
         ensures ok { OnOk result (self.new ≡ with_entity ty self.old) }
         ensures err { OnErr result (self.new ≡ spent self.old) }
     {
@@ -210,7 +224,7 @@ impl ComponentState {
             ComponentEntityType::Ty { created, .. } => self.push_type(created),
             ComponentEntityType::Instance(id) => self.push_instance(id),
             ComponentEntityType::Component(id) => self.push_component(id),
-            ComponentEntityType::Value(_) => unreachable!(),
+            ComponentEntityType::Value(ty) => self.push_value(ty, false),
         }
     }
 

@@ -1,9 +1,11 @@
-use Rattle.std.proofs.Common.{◌≡◌, ℕ, ◌-◌, ◌∙◌, List, length, ap, sym, subst, slice_set, slice_index_or, refl, All}
+use Rattle.std.proofs.Common.{◌≡◌, ℕ, ◌-◌, ◌∙◌, List, length, ap, sym, subst, slice_set, slice_index_or, refl, All, not}
 use Rattle.std.proofs.lemmas.Result.{err_from_is_err_and}
 use Rattle.wcv_types.specs.declared.arena.Node.TheVariants as n
 use Rattle.wcv_types.proofs.Grown.{extends_refl}
+use Rattle.wcv_lower.specs.Defined.{is_empty}
 use Rattle.wcv_lower.specs.Ending.{instance_made}
 use Rattle.wcv_lower.specs.Context.{declares_instance}
+use Rattle.wcv_lower.specs.Trees.{Entries}
 use Rattle.wcv_state.specs.Contents.{Contents, context_of, StateStands}
 use Rattle.wcv_state.proofs.Stacks.{around_kept}
 use Rattle.wcv_decls.specs.Declaring.{innermost, around, SameAround, Ends}
@@ -153,4 +155,4 @@ returns-clause-ok c =
     let now : slice_set c.pop_type.new.components.items k t ≡ slice_set ss k t = ap (λ (xs : List Contents). slice_set xs k t) c.pop_type.ensures.left in
     let x = c.in_ok-ty.ty in
     let same = instance_same a (innermost os) c.in_ok-pop_type.field-0 c.in_ok-pop_type.ensures.ok c.requires.declares x c.in_ok-ty.ensures.resources c.in_ok-ty.ensures.exports in
-    subst (Ends declares_instance a b os) (sym now) (type_ends declares_instance a b os c.requires.ready c.requires.inside each (n.Instance x) s t here c.in_ok-store_instance.ensures.ok (instance_made (context_of a (innermost os))) refl same tt k last)
+    subst (Ends declares_instance a b os) (sym now) (type_ends declares_instance a b os c.requires.ready c.requires.inside each (n.Instance x) s t here c.in_ok-store_instance.ensures.ok (instance_made (context_of a (innermost os))) refl same (ap (λ (es : Entries). not (is_empty es)) c.requires.declares.imports, tt) k last)

@@ -1,4 +1,4 @@
-use Rattle.std.proofs.Common.{◌≡◌, suc, length, ap, arith}
+use Rattle.std.proofs.Common.{◌≡◌, suc, length, refl, ap, arith}
 use Rattle.std.proofs.lemmas.Result.{err_from_is_err_and}
 use Rattle.wcv_types.specs.Arena.{Arena}
 use Rattle.wcv_types.specs.declared.arena.Node.TheVariants as node
@@ -15,7 +15,7 @@ returns-in_err-push_component-clause-keeps c =
 pub returns-clause-ok : goal.returns-clause-ok
 returns-clause-ok c =
     stored_in c.args.types.now c.push_ty.new.self c.args.state.now (node.Component c.args.ty) c.in_ok-id.ensures.added c.requires.stands in_components c.push_component.new.self c.in_ok-id.id c.requires.live
-    c.in_ok-id.ensures.stands c.in_ok-id.ensures.tree c.in_ok-push_component.ensures.ok
+    c.in_ok-id.ensures.stands (λ x. refl) c.in_ok-id.ensures.tree c.in_ok-push_component.ensures.ok
 
 pub returns-clause-held : goal.returns-clause-held
 returns-clause-held c =

@@ -11,7 +11,7 @@ use Rattle.wcv_decls.proofs.declarations.add_export.Goals as goal
 pub returns-in_err-entity-clause-err : goal.returns-in_err-entity-clause-err
 returns-in_err-entity-clause-err c =
     let p = err_from_is_err_and c.from_residual.result c.from_residual.ensures.1 in
-    rw (p.1, p.2) (λ q. export_written_caused c.args.types.now c.check_type_ref.new.types q c.args.state.now c.args.ty c.args.name c.args.offset c.in_err-entity.field-0.0 c.requires.built c.in_err-entity.ensures.err.1)
+    rw (p.1, p.2) (λ q. export_written_caused c.args.types.now c.check_type_ref.new.types q c.args.state.now c.args.ty c.args.name c.args.offset c.in_err-entity.field-0.0 c.in_err-entity.ensures.err.1)
 
 pub add_export-requires-clause-live : goal.add_export-requires-clause-live
 add_export-requires-clause-live c = ap (λ (s : Contents). s.spent) c.in_ok-entity.ensures.same ∙ c.requires.live

@@ -29,7 +29,7 @@ returns-clause-ok c =
     let back = kept_back a b ss ys _ c.args.components.now.len c.args.components.now.ok.0 kept in
     let t = c.args.alias in
     subst (λ (zs : List Contents). OnOk c.add_alias.result (ReadsDecl a b ss zs (alias_decl t))) (sym back)
-    (on_ok_weaker c.add_alias.result (λ f. alias_reads a b ss ys c.requires.ready kept t c.requires.built (subst (λ (xs : List Contents). AliasedOn a b xs ys t) same f)) c.add_alias.ensures.ok)
+    (on_ok_weaker c.add_alias.result (λ f. alias_reads a b ss ys c.requires.ready kept t (subst (λ (xs : List Contents). AliasedOn a b xs ys t) same f)) c.add_alias.ensures.ok)
 
 pub returns-clause-ready : goal.returns-clause-ready
 returns-clause-ready c =
@@ -42,7 +42,7 @@ returns-clause-ready c =
     let back = kept_back a b ss ys _ c.args.components.now.len c.args.components.now.ok.0 kept in
     let t = c.args.alias in
     subst (λ (zs : List Contents). OnOk c.add_alias.result (StayReady b ss zs)) (sym back)
-    (on_ok_weaker c.add_alias.result (λ f. alias_stays a b ss ys c.requires.ready kept t c.requires.built (subst (λ (xs : List Contents). AliasedOn a b xs ys t) same f)) c.add_alias.ensures.ok)
+    (on_ok_weaker c.add_alias.result (λ f. alias_stays a b ss ys c.requires.ready kept t (subst (λ (xs : List Contents). AliasedOn a b xs ys t) same f)) c.add_alias.ensures.ok)
 
 pub returns-clause-declares : goal.returns-clause-declares
 returns-clause-declares c =
@@ -55,7 +55,7 @@ returns-clause-declares c =
     let back = kept_back a b ss ys _ c.args.components.now.len c.args.components.now.ok.0 kept in
     let t = c.args.alias in
     subst (λ (zs : List Contents). OnOk c.add_alias.result (DeclaresInstance a ss → DeclaresInstance b zs)) (sym back)
-    (on_ok_weaker c.add_alias.result (λ f. alias_body a b ss ys c.requires.ready kept t c.requires.built (subst (λ (xs : List Contents). AliasedOn a b xs ys t) same f)) c.add_alias.ensures.ok)
+    (on_ok_weaker c.add_alias.result (λ f. alias_body a b ss ys c.requires.ready kept t (subst (λ (xs : List Contents). AliasedOn a b xs ys t) same f)) c.add_alias.ensures.ok)
 
 pub returns-clause-err : goal.returns-clause-err
 returns-clause-err c =
@@ -66,7 +66,7 @@ returns-clause-err c =
     let same : c.as_mut_slice.result.now ≡ ss = c.as_mut_slice.ensures.value in
     let kept : KeepsOn a b ss ys = subst (λ (xs : List Contents). KeepsOn a b xs ys) same c.add_alias.ensures.keeps in
     let t = c.args.alias in
-    IfErr-weaker c.add_alias.result _ _ (λ x f. alias_refuses a b ss ys c.requires.ready kept t c.requires.built c.args.offset x (subst (λ (xs : List Contents). (p : Place) → RefusedOn a b p xs ys (alias_item t) c.args.offset x) same f)) c.add_alias.ensures.err
+    IfErr-weaker c.add_alias.result _ _ (λ x f. alias_refuses a b ss ys c.requires.ready kept t c.args.offset x (subst (λ (xs : List Contents). (p : Place) → RefusedOn a b p xs ys (alias_item t) c.args.offset x) same f)) c.add_alias.ensures.err
 
 pub returns-clause-around : goal.returns-clause-around
 returns-clause-around c =
@@ -79,7 +79,7 @@ returns-clause-around c =
     let back = kept_back a b ss ys _ c.args.components.now.len c.args.components.now.ok.0 kept in
     let t = c.args.alias in
     subst (λ (zs : List Contents). OnErr c.add_alias.result (SameAround ss zs)) (sym back)
-    (marks_where c.add_alias.result _ (SameAround ss ys) (λ x f. alias_marks a b ss ys c.requires.ready kept t c.requires.built c.args.offset x (subst (λ (xs : List Contents). (p : Place) → RefusedOn a b p xs ys (alias_item t) c.args.offset x) same f)) c.add_alias.ensures.err)
+    (marks_where c.add_alias.result _ (SameAround ss ys) (λ x f. alias_marks a b ss ys c.requires.ready kept t c.args.offset x (subst (λ (xs : List Contents). (p : Place) → RefusedOn a b p xs ys (alias_item t) c.args.offset x) same f)) c.add_alias.ensures.err)
 
 pub returns-clause-keeps : goal.returns-clause-keeps
 returns-clause-keeps c =

@@ -49,7 +49,7 @@ returns-clause-ok c =
     let here : s ≡ innermost ss = c.index_mut.ensures.value ∙ indexed ss k s c.requires.ready.some last in
     let w : ChangesLast stay ss (slice_set ss k t) = last_changed ss k s t c.requires.ready.some last here in
     let cs : List Tree_context = contexts_around a (around ss) in
-    on_ok_weaker c.add_import.result (λ f. import_reads a b ss (slice_set ss k t) w c.requires.ready c.add_import.ensures.keeps c.args.import c.requires.built (λ p. f cs p)) c.add_import.ensures.ok
+    on_ok_weaker c.add_import.result (λ f. import_reads a b ss (slice_set ss k t) w c.requires.ready c.add_import.ensures.keeps c.args.import (λ p. f cs p)) c.add_import.ensures.ok
 
 pub returns-clause-ready : goal.returns-clause-ready
 returns-clause-ready c =
@@ -77,7 +77,7 @@ returns-clause-err c =
     let here : s ≡ innermost ss = c.index_mut.ensures.value ∙ indexed ss k s c.requires.ready.some last in
     let w : ChangesLast stay ss (slice_set ss k t) = last_changed ss k s t c.requires.ready.some last here in
     let cs : List Tree_context = contexts_around a (around ss) in
-    IfErr-weaker c.add_import.result _ _ (λ x f. import_refuses a b ss (slice_set ss k t) w c.requires.ready c.args.import c.requires.built c.args.offset x (λ p. (f cs p).1)) c.add_import.ensures.err
+    IfErr-weaker c.add_import.result _ _ (λ x f. import_refuses a b ss (slice_set ss k t) w c.requires.ready c.args.import c.args.offset x (λ p. (f cs p).1)) c.add_import.ensures.err
 
 pub returns-clause-around : goal.returns-clause-around
 returns-clause-around c =

@@ -3,21 +3,19 @@ use Rattle.std.specs.Prelude.{OnOk, IfErr}
 use Rattle.std.specs.Vec.Iter.{into_iter_items}
 use Rattle.std.proofs.lemmas.List.{length-append}
 use Rattle.std.proofs.lemmas.Result.{err_from_is_err_and, on_ok_weaker, on_err_weaker, IfErr-weaker}
-use Rattle.wcv_syntax.specs.Built.{is_built_type, is_built_decl}
-use Rattle.wcv_syntax.specs.Model.{Type_form, Decl, Decls, no_decls, declare, component_type, instance_type, type_decl, alias_decl}
+use Rattle.wcv_syntax.specs.Model.{Type_form, Decl, Decls, no_decls, declare, component_type, instance_type, type_decl}
 use Rattle.wcv_syntax.specs.View.{decls_of, type_view, component_decl_view, instance_decl_view}
 use Rattle.wcv_syntax.specs.declared.component_type.ComponentTypeDeclaration.{ComponentTypeDeclaration}
 use Rattle.wcv_syntax.specs.declared.component_type.InstanceTypeDeclaration.{InstanceTypeDeclaration}
 use Rattle.wcv_syntax.proofs.Views.{type_view-Component, type_view-Instance, component_of_core_type, component_of_type, component_of_alias, component_of_export, component_of_import, instance_of_core_type, instance_of_type, instance_of_alias, instance_of_export}
 use Rattle.wcv_types.proofs.Grown.{extends_refl}
 use Rattle.wcv_lower.specs.Context.{declares_instance, declares_component}
-use Rattle.wcv_lower.proofs.DeclaredDoes.{inside_built}
 use Rattle.wcv_state.specs.Contents.{Contents}
 use Rattle.wcv_state.proofs.Stacks.{around_kept}
 use Rattle.wcv_decls.specs.Declaring.{around, SameAround, MemoryOr, ReadsType, ReadsDecl, RefusesType, RefusesDecl, RefusesDecls}
 use Rattle.wcv_decls.specs.Stack.{all_spent, all_uncharged, KeepsOn}
 use Rattle.wcv_decls.proofs.FormSizes.{type_size, decl_size, decls_size, first_smaller, rest_smaller}
-use Rattle.wcv_decls.proofs.ReadingOn.{SoFar, so_far_start, so_far_next, so_far_all, so_far_refused, built_first, nothing_left, refused_same, kept_both, extends_on, grown_numbers}
+use Rattle.wcv_decls.proofs.ReadingOn.{SoFar, so_far_start, so_far_next, so_far_all, so_far_refused, nothing_left, refused_same, kept_both, extends_on, grown_numbers}
 use Rattle.wcv_decls.proofs.Whole.{component_barred, instance_barred, some_around, marks_further, marks_around, kept_around, whole_stays, whole_declares, component_whole, instance_whole, component_inside_refused, instance_inside_refused, component_end_refused, opened_body}
 use Rattle.wcv_decls.proofs.declared.+declared.Goals as goal
 
@@ -27,7 +25,7 @@ pub declare_type-declare_component_type-requires : goal.declare_type-declare_com
 declare_type-declare_component_type-requires t c =
     let e : type_view c.args.ty ≡ component_type (decls_of (map component_decl_view c.in-Component.decls.items)) = ap type_view c.in-Component.is ∙ type_view-Component c.in-Component.decls in
     let size = ap type_size e in
-    (omega (arith, size, c.decreases), (c.requires.ready, sym (ap is_built_type e) ∙ c.requires.built))
+    (omega (arith, size, c.decreases), c.requires.ready)
 
 pub declare_type-returns-in-Component-clause-ok : goal.declare_type-returns-in-Component-clause-ok
 declare_type-returns-in-Component-clause-ok t c =
@@ -43,7 +41,7 @@ pub declare_type-declare_instance_type-requires : goal.declare_type-declare_inst
 declare_type-declare_instance_type-requires t c =
     let e : type_view c.args.ty ≡ instance_type (decls_of (map instance_decl_view c.in-Instance.decls.items)) = ap type_view c.in-Instance.is ∙ type_view-Instance c.in-Instance.decls in
     let size = ap type_size e in
-    (omega (arith, size, c.decreases), (c.requires.ready, inside_built (decls_of (map instance_decl_view c.in-Instance.decls.items)) (sym (ap is_built_type e) ∙ c.requires.built)))
+    (omega (arith, size, c.decreases), c.requires.ready)
 
 pub declare_type-returns-in-Instance-clause-ok : goal.declare_type-returns-in-Instance-clause-ok
 declare_type-returns-in-Instance-clause-ok t c =
@@ -78,7 +76,7 @@ declare_component_type-returns-in_err-open_type-clause-keeps t c =
 
 pub declare_component_type-read_component_decls-requires : goal.declare_component_type-read_component_decls-requires
 declare_component_type-read_component_decls-requires t c =
-    (omega (arith, c.decreases), (c.in_ok-open_type.ensures.ready, c.requires.built))
+    (omega (arith, c.decreases), c.in_ok-open_type.ensures.ready)
 
 pub declare_component_type-end_component_type-requires-clause-ready : goal.declare_component_type-end_component_type-requires-clause-ready
 declare_component_type-end_component_type-requires-clause-ready t c =
@@ -218,7 +216,7 @@ declare_instance_type-returns-in_err-open_type-clause-keeps t c =
 
 pub declare_instance_type-read_instance_decls-requires : goal.declare_instance_type-read_instance_decls-requires
 declare_instance_type-read_instance_decls-requires t c =
-    (omega (arith, c.decreases), (c.in_ok-open_type.ensures.ready, (opened_body c.args.types.now c.args.components.now.items c.open_type.new.components.items c.in_ok-open_type.ensures.ok, c.requires.built)))
+    (omega (arith, c.decreases), (c.in_ok-open_type.ensures.ready, opened_body c.args.types.now c.args.components.now.items c.open_type.new.components.items c.in_ok-open_type.ensures.ok))
 
 pub declare_instance_type-end_instance_type-requires-clause-ready : goal.declare_instance_type-end_instance_type-requires-clause-ready
 declare_instance_type-end_instance_type-requires-clause-ready t c =
@@ -341,7 +339,7 @@ read_component_decls-loop-decl-init t c =
     let ds : Decls = decls_of (map component_decl_view c.args.decls.items) in
     let items : into_iter_items c.into_iter-decl-iterator.result ≡ c.args.decls.items = c.into_iter-decl-iterator.ensures.into_iter_gives.0 in
     record {
-      far = subst (λ (xs : List ComponentTypeDeclaration). SoFar declares_component a ss ds a ss 0 (decls_of (map component_decl_view xs))) (sym items) (so_far_start declares_component a ss ds c.requires.ready c.requires.built);
+      far = subst (λ (xs : List ComponentTypeDeclaration). SoFar declares_component a ss ds a ss 0 (decls_of (map component_decl_view xs))) (sym items) (so_far_start declares_component a ss ds c.requires.ready);
       left = c.into_iter-decl-iterator.ensures.into_iter_gives.1 ∙ c.args.decls.ok.0 ∙ sym (ap length items);
       small = subst (λ (xs : List ComponentTypeDeclaration). decls_size (decls_of (map component_decl_view xs)) ≤ decls_size ds) (sym items) (omega arith);
     }
@@ -359,7 +357,7 @@ read_component_decls-read_component_decl-requires t c =
     let far : SoFar declares_component a ss ds c.loop-decl.types ts n (declare d rest) = subst (λ (z : Decls). SoFar declares_component a ss ds c.loop-decl.types ts n z) left c.loop-decl.invariant.far in
     let small : decls_size (declare d rest) ≤ decls_size ds = subst (λ (z : Decls). decls_size z ≤ decls_size ds) left c.loop-decl.invariant.small in
     let less = first_smaller d rest ds small in
-    (omega (arith, less, c.decreases), (far.ready.ready, built_first d rest far.built))
+    (omega (arith, less, c.decreases), far.ready.ready)
 
 pub read_component_decls-loop-decl-preserved : goal.read_component_decls-loop-decl-preserved
 read_component_decls-loop-decl-preserved t c =
@@ -435,7 +433,7 @@ read_instance_decls-loop-decl-init t c =
     let ds : Decls = decls_of (map instance_decl_view c.args.decls.items) in
     let items : into_iter_items c.into_iter-decl-iterator.result ≡ c.args.decls.items = c.into_iter-decl-iterator.ensures.into_iter_gives.0 in
     record {
-      far = subst (λ (xs : List InstanceTypeDeclaration). SoFar declares_instance a ss ds a ss 0 (decls_of (map instance_decl_view xs))) (sym items) (so_far_start declares_instance a ss ds c.requires.ready c.requires.built);
+      far = subst (λ (xs : List InstanceTypeDeclaration). SoFar declares_instance a ss ds a ss 0 (decls_of (map instance_decl_view xs))) (sym items) (so_far_start declares_instance a ss ds c.requires.ready);
       declares = c.requires.declares;
       left = c.into_iter-decl-iterator.ensures.into_iter_gives.1 ∙ c.args.decls.ok.0 ∙ sym (ap length items);
       small = subst (λ (xs : List InstanceTypeDeclaration). decls_size (decls_of (map instance_decl_view xs)) ≤ decls_size ds) (sym items) (omega arith);
@@ -454,7 +452,7 @@ read_instance_decls-read_instance_decl-requires t c =
     let far : SoFar declares_instance a ss ds c.loop-decl.types ts n (declare d rest) = subst (λ (z : Decls). SoFar declares_instance a ss ds c.loop-decl.types ts n z) left c.loop-decl.invariant.far in
     let small : decls_size (declare d rest) ≤ decls_size ds = subst (λ (z : Decls). decls_size z ≤ decls_size ds) left c.loop-decl.invariant.small in
     let less = first_smaller d rest ds small in
-    (omega (arith, less, c.decreases), (far.ready.ready, (c.loop-decl.invariant.declares, built_first d rest far.built)))
+    (omega (arith, less, c.decreases), (far.ready.ready, c.loop-decl.invariant.declares))
 
 pub read_instance_decls-loop-decl-preserved : goal.read_instance_decls-loop-decl-preserved
 read_instance_decls-loop-decl-preserved t c =
@@ -534,13 +532,13 @@ pub read_component_decl-declare_type-requires : goal.read_component_decl-declare
 read_component_decl-declare_type-requires t c =
     let e : component_decl_view c.args.decl ≡ type_decl (type_view c.in-Ty.ty) = ap component_decl_view c.in-Ty.is ∙ component_of_type c.in-Ty.ty in
     let size = ap decl_size e in
-    (omega (arith, size, c.decreases), (c.requires.ready, sym (ap is_built_decl e) ∙ c.requires.built))
+    (omega (arith, size, c.decreases), c.requires.ready)
 
 pub read_instance_decl-declare_type-requires : goal.read_instance_decl-declare_type-requires
 read_instance_decl-declare_type-requires t c =
     let e : instance_decl_view c.args.decl ≡ type_decl (type_view c.in-Ty.ty) = ap instance_decl_view c.in-Ty.is ∙ instance_of_type c.in-Ty.ty in
     let size = ap decl_size e in
-    (omega (arith, size, c.decreases), (c.requires.ready, sym (ap is_built_decl e) ∙ c.requires.built))
+    (omega (arith, size, c.decreases), c.requires.ready)
 
 pub read_component_decl-returns-in-CoreType-clause-ok : goal.read_component_decl-returns-in-CoreType-clause-ok
 read_component_decl-returns-in-CoreType-clause-ok t c =
@@ -587,11 +585,6 @@ read_instance_decl-returns-in-Export-clause-ok t c =
     let e = ap instance_decl_view c.in-Export.is ∙ instance_of_export c.in-Export.name c.in-Export.ty in
     subst (λ (d : Decl). OnOk c.declare_export.result (ReadsDecl c.args.types.now c.declare_export.new.types c.args.components.now.items c.declare_export.new.components.items d)) (sym e) c.declare_export.ensures.ok
 
-pub read_component_decl-declare_alias-requires : goal.read_component_decl-declare_alias-requires
-read_component_decl-declare_alias-requires t c =
-    let e : component_decl_view c.args.decl ≡ alias_decl c.in-Alias.alias = ap component_decl_view c.in-Alias.is ∙ component_of_alias c.in-Alias.alias in
-    record { ready = c.requires.ready; built = sym (ap is_built_decl e) ∙ c.requires.built }
-
 pub read_component_decl-returns-in-Alias-clause-ok : goal.read_component_decl-returns-in-Alias-clause-ok
 read_component_decl-returns-in-Alias-clause-ok t c =
     let e = ap component_decl_view c.in-Alias.is ∙ component_of_alias c.in-Alias.alias in
@@ -601,11 +594,6 @@ pub read_component_decl-returns-in-Alias-clause-err : goal.read_component_decl-r
 read_component_decl-returns-in-Alias-clause-err t c =
     let e = ap component_decl_view c.in-Alias.is ∙ component_of_alias c.in-Alias.alias in
     subst (λ (d : Decl). IfErr c.declare_alias.result (MemoryOr (RefusesDecl c.args.types.now c.declare_alias.new.types c.args.components.now.items d) c.args.offset)) (sym e) c.declare_alias.ensures.err
-
-pub read_instance_decl-declare_alias-requires : goal.read_instance_decl-declare_alias-requires
-read_instance_decl-declare_alias-requires t c =
-    let e : instance_decl_view c.args.decl ≡ alias_decl c.in-Alias.alias = ap instance_decl_view c.in-Alias.is ∙ instance_of_alias c.in-Alias.alias in
-    record { ready = c.requires.ready; built = sym (ap is_built_decl e) ∙ c.requires.built }
 
 pub read_instance_decl-returns-in-Alias-clause-ok : goal.read_instance_decl-returns-in-Alias-clause-ok
 read_instance_decl-returns-in-Alias-clause-ok t c =

@@ -10,7 +10,7 @@ use Rattle.wcv_lower.specs.CoreItems.{core_module_left}
 use Rattle.wcv_state.specs.Contents.{context_of}
 use Rattle.wcv_state.specs.Promises.{MemoryOrCausedBy}
 use Rattle.wcv_state.proofs.Keeping.{keeps_grown}
-use Rattle.wcv_link.proofs.Steps.{one_step, item_taken, item_refused, built_refused}
+use Rattle.wcv_link.proofs.Steps.{one_step, item_taken, item_refused, bare_refused}
 use Rattle.wcv_link.proofs.core_items.read_core_module.Goals as goal
 
 pub returns-in_err-check_core_module_limits-clause-err : goal.returns-in_err-check_core_module_limits-clause-err
@@ -18,7 +18,7 @@ returns-in_err-check_core_module_limits-clause-err c =
     let p = err_from_is_err_and c.from_residual.result c.from_residual.ensures.1 in
     let f : Form = core_module_item (map code_decl_view c.args.decls.items) in
     rw p.1
-    (built_refused c.args.types.now c.args.state.now f c.args.offset p.0 (one_step f refl) refl
+    (bare_refused c.args.types.now c.args.state.now f c.args.offset p.0 (one_step f refl)
     (subst (λ (ds : List ModuleDecl). MemoryOrCausedBy (core_module_left (context_of c.args.types.now c.args.state.now) (map code_decl_view ds)) c.args.offset p.0) c.deref.ensures.value
     (caused_same (core_module_left (context_of c.args.types.now c.args.state.now) (map code_decl_view c.deref.result.now)) c.args.offset c.in_err-check_core_module_limits.field-0.0 p.0 p.2.0 p.2.1 c.in_err-check_core_module_limits.ensures.err)))
 
@@ -29,7 +29,7 @@ pub returns-clause-ok : goal.returns-clause-ok
 returns-clause-ok c =
     let f : Form = core_module_item (map code_decl_view c.args.decls.items) in
     on_ok_weaker c.add_core_module_to.result
-    (λ g. item_taken c.args.types.now c.add_core_module_to.new.types c.args.state.now c.add_core_module_to.new.state f (one_step f refl) refl
+    (λ g. item_taken c.args.types.now c.add_core_module_to.new.types c.args.state.now c.add_core_module_to.new.state f (one_step f refl)
     (subst (λ (ds : List ModuleDecl). IsFree (core_module_left (context_of c.args.types.now c.args.state.now) (map code_decl_view ds))) c.deref.ensures.value c.in_ok-check_core_module_limits.ensures.ok)
     g c.add_core_module_to.ensures.keeps)
     c.add_core_module_to.ensures.ok

@@ -11,7 +11,7 @@ use Rattle.wcv_decls.specs.Stack.{IsOpen, GrewOn, RefusedOn, KeepsOn}
 use Rattle.wcv_decls.proofs.Stacks.{unmapped, kept_back}
 use Rattle.wcv_link.specs.Progress.{AcceptsItem}
 use Rattle.wcv_link.proofs.Open.{accepts_one, refuses_one, refuses_left}
-use Rattle.wcv_link.proofs.Steps.{one_step, built_refused}
+use Rattle.wcv_link.proofs.Steps.{one_step, bare_refused}
 use Rattle.wcv_link.proofs.core_items.read_core_type.Goals as goal
 
 pub returns-in_err-check_core_limits-clause-err : goal.returns-in_err-check_core_limits-clause-err
@@ -20,7 +20,7 @@ returns-in_err-check_core_limits-clause-err c =
     let f : Form = core_type_item (core_type_view c.args.ty) in
     rw p.1
     (refuses_left c.args.types.now c.args.components.now.items c.args.offset p.0 f
-    (λ s. built_refused c.args.types.now s f c.args.offset p.0 (one_step f refl) refl
+    (λ s. bare_refused c.args.types.now s f c.args.offset p.0 (one_step f refl)
     (caused_same (core_type_left (core_type_view c.args.ty)) c.args.offset c.in_err-check_core_limits.field-0.0 p.0 p.2.0 p.2.1 c.in_err-check_core_limits.ensures.err)))
 
 pub add_core_type-requires-clause-open : goal.add_core_type-requires-clause-open
@@ -40,7 +40,7 @@ returns-clause-ok c =
     let back = kept_back a b ss ys _ c.args.components.now.len c.args.components.now.ok.0 keeps in
     subst (λ (xs : List Contents). OnOk c.add_core_type.result (AcceptsItem a b ss xs (core_type_item t))) (sym back)
     (on_ok_weaker c.add_core_type.result
-    (λ g. accepts_one a b ss ys c.requires keeps (core_type_item t) (one_step (core_type_item t) refl) (λ s. tt) refl (λ s. c.in_ok-check_core_limits.ensures.ok)
+    (λ g. accepts_one a b ss ys c.requires keeps (core_type_item t) (one_step (core_type_item t) refl) (λ s. tt) (λ s. c.in_ok-check_core_limits.ensures.ok)
     (λ p. subst (λ (xs : List Contents). GrewOn a b p xs ys (core_type_item t)) same (unmapped (λ xs zs. GrewOn a b p xs zs (core_type_item t)) ws ys (g p))))
     c.add_core_type.ensures.ok)
 

@@ -1,32 +1,20 @@
-use Rattle.std.proofs.Common.{◌≡◌, ◌∙◌, refl, sym, true, false}
+use Rattle.std.proofs.Common.{refl}
 use Rattle.std.proofs.lemmas.Result.{err_from_is_err_and, on_ok_weaker, IfErr-weaker}
 use Rattle.wcv_core.proofs.Closing.{caused_same}
-use Rattle.wcv_syntax.specs.Built.{is_plain}
 use Rattle.wcv_syntax.specs.Model.{Form, instance_item}
 use Rattle.wcv_syntax.specs.View.{instance_view}
 use Rattle.wcv_types.proofs.Grown.{extends_refl}
 use Rattle.wcv_lower.specs.Instances.{instance_left}
 use Rattle.wcv_state.proofs.Keeping.{keeps_grown}
-use Rattle.wcv_link.proofs.Steps.{one_step, item_taken, item_refused, built_refused, unbuilt_refused}
+use Rattle.wcv_link.proofs.Steps.{one_step, item_taken, item_refused, bare_refused}
 use Rattle.wcv_link.proofs.core_items.read_instance.Goals as goal
-
-pub returns-in_err-check_form-clause-err : goal.returns-in_err-check_form-clause-err
-returns-in_err-check_form-clause-err c =
-    let p = err_from_is_err_and c.from_residual.result c.from_residual.ensures.1 in
-    let f : Form = instance_item (instance_view c.args.instance) in
-    let not : is_plain f ≡ false = sym c.is_built_instance.ensures ∙ c.in_err-check_form.ensures.not in
-    rw (p.1, p.2) (unbuilt_refused c.args.types.now c.args.state.now f c.args.offset c.in_err-check_form.field-0.0 refl not c.in_err-check_form.ensures.err)
-
-pub returns-in_err-check_form-clause-keeps : goal.returns-in_err-check_form-clause-keeps
-returns-in_err-check_form-clause-keeps c = keeps_grown c.args.types.now c.args.types.now c.args.state.now (extends_refl c.args.types.now) c.requires.open.stands
 
 pub returns-in_err-check_component_instance_limits-clause-err : goal.returns-in_err-check_component_instance_limits-clause-err
 returns-in_err-check_component_instance_limits-clause-err c =
-    let p = err_from_is_err_and c.from_residual-in_err-check_component_instance_limits.result c.from_residual-in_err-check_component_instance_limits.ensures.1 in
+    let p = err_from_is_err_and c.from_residual.result c.from_residual.ensures.1 in
     let f : Form = instance_item (instance_view c.args.instance) in
-    let built : is_plain f ≡ true = sym c.is_built_instance.ensures ∙ c.in_ok-check_form.ensures.ok in
     rw p.1
-    (built_refused c.args.types.now c.args.state.now f c.args.offset p.0 (one_step f refl) built
+    (bare_refused c.args.types.now c.args.state.now f c.args.offset p.0 (one_step f refl)
     (caused_same (instance_left (instance_view c.args.instance)) c.args.offset c.in_err-check_component_instance_limits.field-0.0 p.0 p.2.0 p.2.1 c.in_err-check_component_instance_limits.ensures.err))
 
 pub returns-in_err-check_component_instance_limits-clause-keeps : goal.returns-in_err-check_component_instance_limits-clause-keeps
@@ -35,9 +23,8 @@ returns-in_err-check_component_instance_limits-clause-keeps c = keeps_grown c.ar
 pub returns-clause-ok : goal.returns-clause-ok
 returns-clause-ok c =
     let f : Form = instance_item (instance_view c.args.instance) in
-    let built : is_plain f ≡ true = sym c.is_built_instance.ensures ∙ c.in_ok-check_form.ensures.ok in
     on_ok_weaker c.add_instance.result
-    (λ g. item_taken c.args.types.now c.add_instance.new.types c.args.state.now c.add_instance.new.self f (one_step f refl) built c.in_ok-check_component_instance_limits.ensures.ok
+    (λ g. item_taken c.args.types.now c.add_instance.new.types c.args.state.now c.add_instance.new.self f (one_step f refl) c.in_ok-check_component_instance_limits.ensures.ok
     g c.add_instance.ensures.keeps)
     c.add_instance.ensures.ok
 

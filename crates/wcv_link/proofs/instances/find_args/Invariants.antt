@@ -6,6 +6,6 @@ use Rattle.wcv_link.proofs.instances.find_args.Given as goal
 
 abbrev pub invariant-loop-arg : goal.invariant-loop-arg
 invariant-loop-arg l = record {
-  looked : Looked (IsArg l.state.spaces) (arg_checks l.state.spaces) l.fn.args.items (into_iter_items l.arg-iterator) l.found.items;
+  looked : Looked (IsArg l.state.spaces) (arg_checks l.state.features l.state.spaces) l.fn.args.items (into_iter_items l.arg-iterator) l.found.items;
   left : into_iter_len l.arg-iterator ≡ length (into_iter_items l.arg-iterator);
 }

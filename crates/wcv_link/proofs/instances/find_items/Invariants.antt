@@ -6,6 +6,6 @@ use Rattle.wcv_link.proofs.instances.find_items.Given as goal
 
 abbrev pub invariant-loop-export : goal.invariant-loop-export
 invariant-loop-export l = record {
-  looked : Looked (IsListed l.state.spaces) (item_checks l.state.spaces) l.fn.exports.items (into_iter_items l.export-iterator) l.found.items;
+  looked : Looked (IsListed l.state.spaces) (item_checks l.types l.state.features l.state.spaces) l.fn.exports.items (into_iter_items l.export-iterator) l.found.items;
   left : into_iter_len l.export-iterator ≡ length (into_iter_items l.export-iterator);
 }

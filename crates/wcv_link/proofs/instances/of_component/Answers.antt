@@ -33,7 +33,7 @@ Found = List (Text × ComponentEntityType)
 pub returns-in_err-id-clause-err : goal.returns-in_err-id-clause-err
 returns-in_err-id-clause-err c =
     let q = err_from_is_err_and c.from_residual.result c.from_residual.ensures.1 in
-    rw q.1 (no_component c.args.types.now c.args.state.now c.requires.stands c.args.component_index c.args.args.items c.requires.built c.args.types.now c.args.offset q.0
+    rw q.1 (no_component c.args.types.now c.args.state.now c.requires.stands c.args.component_index c.args.args.items c.args.types.now c.args.offset q.0
     (caused_same (missing (slice_get c.args.state.now.spaces.components c.args.component_index)) c.args.offset c.in_err-id.field-0.0 q.0 q.2.0 q.2.1 (inr c.in_err-id.ensures.err)))
 
 pub returns-in_err-id-clause-grown : goal.returns-in_err-id-clause-grown
@@ -42,7 +42,7 @@ returns-in_err-id-clause-grown c = extends_refl _
 pub returns-in_err-found-clause-err : goal.returns-in_err-found-clause-err
 returns-in_err-found-clause-err c =
     let q = err_from_is_err_and c.from_residual-in_err-found.result c.from_residual-in_err-found.ensures.1 in
-    rw (q.1, q.2) (no_arg c.args.types.now c.args.state.now c.requires.stands c.args.component_index c.args.args.items c.requires.built c.args.types.now c.args.offset c.in_err-found.field-0.0 c.in_err-found.ensures.err)
+    rw (q.1, q.2) (no_arg c.args.types.now c.args.state.now c.requires.stands c.args.component_index c.args.args.items c.args.types.now c.args.offset c.in_err-found.field-0.0 c.in_err-found.ensures.err)
 
 pub returns-in_err-found-clause-grown : goal.returns-in_err-found-clause-grown
 returns-in_err-found-clause-grown c = extends_refl _
@@ -50,7 +50,7 @@ returns-in_err-found-clause-grown c = extends_refl _
 pub returns-in_err-check_differ-clause-err : goal.returns-in_err-check_differ-clause-err
 returns-in_err-check_differ-clause-err c =
     let q = err_from_is_err_and c.from_residual-in_err-check_differ.result c.from_residual-in_err-check_differ.ensures.1 in
-    rw (q.1, q.2) (arg_twice c.args.types.now c.args.state.now c.requires.stands c.args.component_index c.args.args.items c.requires.built c.args.types.now c.args.offset c.in_err-check_differ.field-0.0 c.in_ok-found.found.items c.in_ok-found.ensures.ok
+    rw (q.1, q.2) (arg_twice c.args.types.now c.args.state.now c.requires.stands c.args.component_index c.args.args.items c.args.types.now c.args.offset c.in_err-check_differ.field-0.0 c.in_ok-found.found.items c.in_ok-found.ensures.ok
     (subst (λ (xs : Found). MemoryOrCausedBy ((kind.Conflict, has_repeat (texts_in xs)) ∷ []) c.args.offset c.in_err-check_differ.field-0.0) c.as_slice-list.ensures.value c.in_err-check_differ.ensures.err))
 
 pub returns-in_err-check_differ-clause-grown : goal.returns-in_err-check_differ-clause-grown
@@ -59,7 +59,7 @@ returns-in_err-check_differ-clause-grown c = extends_refl _
 pub returns-in_err-check_room-clause-err : goal.returns-in_err-check_room-clause-err
 returns-in_err-check_room-clause-err c =
     let q = err_from_is_err_and c.from_residual-in_err-check_room.result c.from_residual-in_err-check_room.ensures.1 in
-    rw q.1 (full_here c.args.types.now c.args.state.now c.requires.stands c.args.component_index c.args.args.items c.requires.built c.args.types.now c.args.offset q.0
+    rw q.1 (full_here c.args.types.now c.args.state.now c.requires.stands c.args.component_index c.args.args.items c.args.types.now c.args.offset q.0
     (caused_same (no_room (counts (context_of c.args.types.now c.args.state.now)) is_instance) c.args.offset c.in_err-check_room.field-0.0 q.0 q.2.0 q.2.1 c.in_err-check_room.ensures.err))
 
 pub returns-in_err-check_room-clause-grown : goal.returns-in_err-check_room-clause-grown
@@ -74,7 +74,7 @@ pub returns-in_err-map-clause-grown : goal.returns-in_err-map-clause-grown
 returns-in_err-map-clause-grown c = extends_refl _
 
 pub instance_of_component-requires-clause-stands : goal.instance_of_component-requires-clause-stands
-instance_of_component-requires-clause-stands c = component_stands c.args.types.now c.args.state.now c.requires.stands c.args.component_index c.args.args.items c.requires.built c.in_ok-id.id c.in_ok-id.ensures.ok
+instance_of_component-requires-clause-stands c = component_stands c.args.types.now c.args.state.now c.requires.stands c.args.component_index c.args.args.items c.in_ok-id.id c.in_ok-id.ensures.ok
 
 pub instance_of_component-requires-clause-args : goal.instance_of_component-requires-clause-args
 instance_of_component-requires-clause-args c =
@@ -83,13 +83,13 @@ instance_of_component-requires-clause-args c =
 pub instance_of_component-requires-clause-may : goal.instance_of_component-requires-clause-may
 instance_of_component-requires-clause-may c =
     subst (λ (xs : Found). MayInstantiate (named_args c.args.types.now xs) (tree_at c.args.types.now (p.Component c.in_ok-id.id))) (sym c.in_ok-map.ensures)
-    (may_be_made c.args.types.now c.args.state.now c.requires.stands c.args.component_index c.args.args.items c.requires.built c.in_ok-id.id c.in_ok-found.found.items c.in_ok-id.ensures.ok c.in_ok-found.ensures.ok c.requires.opens)
+    (may_be_made c.args.types.now c.args.state.now c.requires.stands c.args.component_index c.args.args.items c.in_ok-id.id c.in_ok-found.found.items c.in_ok-id.ensures.ok c.in_ok-found.ensures.ok c.requires.opens)
 
 pub returns-in_err-made-clause-err : goal.returns-in_err-made-clause-err
 returns-in_err-made-clause-err c =
     let q = err_from_is_err_and c.from_residual-in_err-made.result c.from_residual-in_err-made.ensures.1 in
     let table : IsTable c.args.types.now.core = record { closed = subst (AreClosed 0) c.core_types.ensures c.len-count.ensures.closed; distinct = subst AreDistinct c.core_types.ensures c.len-count.ensures.distinct } in
-    rw (q.1, q.2) (not_opened c.args.types.now c.args.state.now c.requires.stands c.args.component_index c.args.args.items c.requires.built c.instance_of_component.new.types c.args.offset c.in_err-made.field-0.0 c.nodes_fit.ensures.all table c.in_ok-id.id c.in_ok-found.found.items c.in_ok-id.ensures.ok c.in_ok-found.ensures.ok
+    rw (q.1, q.2) (not_opened c.args.types.now c.args.state.now c.requires.stands c.args.component_index c.args.args.items c.instance_of_component.new.types c.args.offset c.in_err-made.field-0.0 c.nodes_fit.ensures.all table c.in_ok-id.id c.in_ok-found.found.items c.in_ok-id.ensures.ok c.in_ok-found.ensures.ok
     (subst (λ (xs : Found). MemoryOrMismatch c.args.offset ((u : Name → Name) × Opens c.args.types.now.core u (named_args c.args.types.now xs) (tree_at c.args.types.now (p.Component c.in_ok-id.id))) c.in_err-made.field-0.0) c.in_ok-map.ensures c.in_err-made.ensures.err))
 
 pub check_size-requires : goal.check_size-requires
@@ -103,7 +103,7 @@ returns-in_err-check_size-clause-err c =
     let table : IsTable a.core = record { closed = subst (AreClosed 0) c.core_types.ensures c.len-count.ensures.closed; distinct = subst AreDistinct c.core_types.ensures c.len-count.ensures.distinct } in
     let made : ComponentInstanceMade a b c.in_ok-found.found.items c.in_ok-id.id c.in_ok-made.made = subst (λ (xs : Found). ComponentInstanceMade a b xs c.in_ok-id.id c.in_ok-made.made) c.in_ok-map.ensures c.in_ok-made.ensures.ok in
     let ok = subst (λ (xs : Found). (u : Name → Name) × Opens a.core u (named_args a xs) (tree_at a (p.Component c.in_ok-id.id))) c.in_ok-map.ensures c.in_ok-made.ensures.opens in
-    rw q.1 (too_large a c.args.state.now c.requires.stands c.args.component_index c.args.args.items c.requires.built c.in_ok-id.id c.in_ok-found.found.items c.in_ok-id.ensures.ok c.in_ok-found.ensures.ok c.nodes_fit.ensures.all table ok b c.in_ok-made.made made c.args.offset q.0
+    rw q.1 (too_large a c.args.state.now c.requires.stands c.args.component_index c.args.args.items c.in_ok-id.id c.in_ok-found.found.items c.in_ok-id.ensures.ok c.in_ok-found.ensures.ok c.nodes_fit.ensures.all table ok b c.in_ok-made.made made c.args.offset q.0
     (caused_same (size_checks (tree_at b (p.Instance c.in_ok-made.made.ty))) c.args.offset c.in_err-check_size.field-0.0 q.0 q.2.0 q.2.1 c.in_err-check_size.ensures.err))
 
 pub returns-clause-ok : goal.returns-clause-ok
@@ -113,5 +113,5 @@ returns-clause-ok c =
     let table : IsTable a.core = record { closed = subst (AreClosed 0) c.core_types.ensures c.len-count.ensures.closed; distinct = subst AreDistinct c.core_types.ensures c.len-count.ensures.distinct } in
     let made : ComponentInstanceMade a b c.in_ok-found.found.items c.in_ok-id.id c.in_ok-made.made = subst (λ (xs : Found). ComponentInstanceMade a b xs c.in_ok-id.id c.in_ok-made.made) c.in_ok-map.ensures c.in_ok-made.ensures.ok in
     let ok = subst (λ (xs : Found). (u : Name → Name) × Opens a.core u (named_args a xs) (tree_at a (p.Component c.in_ok-id.id))) c.in_ok-map.ensures c.in_ok-made.ensures.opens in
-    component_instance a c.args.state.now c.requires.stands c.args.component_index c.args.args.items c.requires.built c.in_ok-id.id c.in_ok-found.found.items c.in_ok-id.ensures.ok c.in_ok-found.ensures.ok c.nodes_fit.ensures.all table ok b c.in_ok-made.made made c.in_ok-found.ensures.free
+    component_instance a c.args.state.now c.requires.stands c.args.component_index c.args.args.items c.in_ok-id.id c.in_ok-found.found.items c.in_ok-id.ensures.ok c.in_ok-found.ensures.ok c.nodes_fit.ensures.all table ok b c.in_ok-made.made made c.in_ok-found.ensures.free
     (subst (λ (xs : Found). IsFree ((kind.Conflict, has_repeat (texts_in xs)) ∷ [])) c.as_slice-list.ensures.value c.in_ok-check_differ.ensures.ok) c.in_ok-check_room.ensures.ok c.in_ok-check_size.ensures.ok

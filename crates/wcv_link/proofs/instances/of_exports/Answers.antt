@@ -25,7 +25,7 @@ use Rattle.wcv_link.proofs.instances.of_exports.Goals as goal
 pub returns-in_err-found-clause-err : goal.returns-in_err-found-clause-err
 returns-in_err-found-clause-err c =
     let q = err_from_is_err_and c.from_residual.result c.from_residual.ensures.1 in
-    rw (q.1, q.2) (item_refused c.args.types.now c.args.state.now c.requires.stands c.args.exports.items c.requires.built c.args.types.now c.args.offset c.in_err-found.field-0.0 c.in_err-found.ensures.err)
+    rw (q.1, q.2) (item_refused c.args.types.now c.args.state.now c.requires.stands c.args.exports.items c.args.types.now c.args.offset c.in_err-found.field-0.0 c.in_err-found.ensures.err)
 
 pub returns-in_err-found-clause-grown : goal.returns-in_err-found-clause-grown
 returns-in_err-found-clause-grown c = extends_refl _
@@ -33,7 +33,7 @@ returns-in_err-found-clause-grown c = extends_refl _
 pub returns-in_err-check_room-clause-err : goal.returns-in_err-check_room-clause-err
 returns-in_err-check_room-clause-err c =
     let q = err_from_is_err_and c.from_residual-in_err-check_room.result c.from_residual-in_err-check_room.ensures.1 in
-    rw q.1 (room_refused c.args.types.now c.args.state.now c.requires.stands c.args.exports.items c.requires.built c.args.types.now c.args.offset q.0
+    rw q.1 (room_refused c.args.types.now c.args.state.now c.requires.stands c.args.exports.items c.args.types.now c.args.offset q.0
     (caused_same (no_room (counts (context_of c.args.types.now c.args.state.now)) is_instance) c.args.offset c.in_err-check_room.field-0.0 q.0 q.2.0 q.2.1 c.in_err-check_room.ensures.err))
 
 pub returns-in_err-check_room-clause-grown : goal.returns-in_err-check_room-clause-grown
@@ -46,7 +46,7 @@ list_items-requires c =
 pub returns-in_err-items-clause-err : goal.returns-in_err-items-clause-err
 returns-in_err-items-clause-err c =
     let q = err_from_is_err_and c.from_residual-in_err-items.result c.from_residual-in_err-items.ensures.1 in
-    rw (q.1, q.2) (list_refused c.args.types.now c.args.state.now c.requires.stands c.args.exports.items c.requires.built c.list_items.new.types c.args.offset c.in_err-items.field-0.0 c.in_ok-found.found.items c.in_ok-found.ensures.ok
+    rw (q.1, q.2) (list_refused c.args.types.now c.args.state.now c.requires.stands c.args.exports.items c.list_items.new.types c.args.offset c.in_err-items.field-0.0 c.in_ok-found.found.items c.in_ok-found.ensures.ok
     (subst (λ (fs : WasmFeatures). MemoryOrCausedBy (list_checks fs (entry_trees (trees c.args.types.now.nodes) (as_entries c.in_ok-found.found.items))) c.args.offset c.in_err-items.field-0.0) c.features.ensures
     (subst (λ (xs : Found). MemoryOrCausedBy (list_checks c.features.result.now (entry_trees (trees c.args.types.now.nodes) (as_entries xs))) c.args.offset c.in_err-items.field-0.0) c.as_slice.ensures.value c.in_err-items.ensures.err)))
 
@@ -77,7 +77,7 @@ returns-clause-ok c =
     let pushed : InstancePushed c.args.types.now c.push_instance.new.types (as_entries found) c.in_ok-ty.ty =
     subst (λ (xs : List (Text × ComponentItem)). InstancePushed c.args.types.now c.push_instance.new.types xs c.in_ok-ty.ty) es
     (subst (λ (a : Arena). InstancePushed a c.push_instance.new.types c.in_ok-items.items c.in_ok-ty.ty) c.list_items.ensures.types c.in_ok-ty.ensures.ok) in
-    listed_instance c.args.types.now c.args.state.now c.requires.stands c.args.exports.items c.requires.built found c.in_ok-found.ensures.ok c.push_instance.new.types c.in_ok-ty.ty c.new.result pushed c.new.ensures c.in_ok-found.ensures.free c.in_ok-check_room.ensures.ok
+    listed_instance c.args.types.now c.args.state.now c.requires.stands c.args.exports.items found c.in_ok-found.ensures.ok c.push_instance.new.types c.in_ok-ty.ty c.new.result pushed c.new.ensures c.in_ok-found.ensures.free c.in_ok-check_room.ensures.ok
     (subst (λ (fs : WasmFeatures). IsFree (list_checks fs (entry_trees (trees c.args.types.now.nodes) (as_entries found)))) c.features.ensures
     (subst (λ (xs : Found). IsFree (list_checks c.features.result.now (entry_trees (trees c.args.types.now.nodes) (as_entries xs)))) c.as_slice.ensures.value c.in_ok-items.ensures.free))
 

@@ -3,4 +3,4 @@ use Rattle.wcv_lower.proofs.EntryLaws.{written_is_matched}
 use Rattle.wcv_lower.proofs.laws.an_exported_item_matches_its_written_type.Goals as goal
 
 pub returns : goal.returns
-returns c fs n p s e r q t h = written_is_matched tree_reader fs (tree_maker n p) s e r q t h
+returns c fs n p s e r q h = written_is_matched tree_reader fs (tree_maker n p) s e r q h

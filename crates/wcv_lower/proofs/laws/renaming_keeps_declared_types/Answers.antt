@@ -7,5 +7,5 @@ pub returns : goal.returns
 returns c = record {
   growth = λ w n m p r fs s t. read_type-renamed w n m fs p r s t;
   causes = λ w n m p r fs limited s t. declared_checks-renamed w n m fs p r limited s t;
-  free = λ n p fs limited s t b h. type_there tree_reader fs (tree_maker n) limited p s t b h;
+  free = λ n p fs limited s t h. type_there tree_reader fs (tree_maker n) limited p s t h;
 }

@@ -4,4 +4,4 @@ use Rattle.wcv_lower.proofs.GrowthLaws.{grows}
 use Rattle.wcv_lower.proofs.laws.renaming_keeps_growth_and_causes.Goals as goal
 
 pub returns : goal.returns
-returns c = record { growth = grow-renamed; causes = checks-renamed; free = λ n p fs s f h. grows fs (tree_maker n p) s f h }
+returns c = record { growth = grow-renamed; causes = checks-renamed; free = λ n p fs s f b h. grows fs (tree_maker n p) s f b h }

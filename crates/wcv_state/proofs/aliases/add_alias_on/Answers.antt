@@ -1,16 +1,9 @@
 use Rattle.std.proofs.Common.{◌≡◌, ℕ, ◌-◌, length, slice_index_or, refl}
 use Rattle.std.proofs.lemmas.Result.{on_ok_weaker, IfErr-weaker}
-use Rattle.wcv_types.proofs.Grown.{extends_refl}
 use Rattle.wcv_state.specs.Contents.{Contents}
-use Rattle.wcv_state.proofs.OuterCalls.{states_stayed, inside_aliases, inside_refused, outer_refused}
-use Rattle.wcv_state.proofs.Stacks.{around_kept, last_becomes, kept_on}
+use Rattle.wcv_state.proofs.OuterCalls.{inside_aliases, inside_refused, outer_refused}
+use Rattle.wcv_state.proofs.Stacks.{last_becomes, kept_on}
 use Rattle.wcv_state.proofs.aliases.add_alias_on.Goals as goal
-
-pub returns-then-not-is_built_alias-clause-last : goal.returns-then-not-is_built_alias-clause-last
-returns-then-not-is_built_alias-clause-last c = states_stayed c.args.components.now c.requires.some
-
-pub returns-then-not-is_built_alias-clause-keeps : goal.returns-then-not-is_built_alias-clause-keeps
-returns-then-not-is_built_alias-clause-keeps c = around_kept c.args.types.now c.args.types.now (extends_refl c.args.types.now) c.args.components.now c.requires.open
 
 pub returns-in-Outer-clause-err : goal.returns-in-Outer-clause-err
 returns-in-Outer-clause-err c =

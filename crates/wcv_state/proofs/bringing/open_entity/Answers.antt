@@ -7,7 +7,7 @@ use Rattle.wcv_state.proofs.bringing.open_entity.Goals as goal
 
 pub returns-in_ok-new-in_default : goal.returns-in_ok-new-in_default
 returns-in_ok-new-in_default c = record {
-  ok = bare_opened c.args.types.now c.args.ty c.requires.built c.requires.stands c.in_ok-new-in_default.new (λ e. absurd (false≢true (sym (not_instance c.args.ty c.in_default.not-Instance) ∙ e))) c.in_ok-new-in_default.ensures.ty c.in_ok-new-in_default.ensures.resources;
+  ok = bare_opened c.args.types.now c.args.ty c.requires.stands c.in_ok-new-in_default.new (λ e. absurd (false≢true (sym (not_instance c.args.ty c.in_default.not-Instance) ∙ e))) c.in_ok-new-in_default.ensures.ty c.in_ok-new-in_default.ensures.resources;
   grown = extends_refl c.args.types.now;
   same = λ e. refl;
 }

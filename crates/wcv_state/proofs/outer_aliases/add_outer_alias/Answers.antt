@@ -1,10 +1,9 @@
-use Rattle.std.proofs.Common.{◌≡◌, ℕ, suc, ◌-◌, List, length, slice_index_or, slice_set, refl, true, ap, sym, subst, arith}
+use Rattle.std.proofs.Common.{◌≡◌, ℕ, suc, ◌-◌, length, slice_index_or, slice_set, refl, true, sym, subst, arith}
 use Rattle.std.proofs.lemmas.Result.{err_from_is_err_and}
-use Rattle.std.specs.Prelude.{OnErr}
 use Rattle.wcv_types.proofs.Grown.{extends_refl}
-use Rattle.wcv_state.specs.Contents.{Contents, StateStands}
+use Rattle.wcv_state.specs.Contents.{Contents}
 use Rattle.wcv_state.specs.Promises.{Keeps}
-use Rattle.wcv_state.specs.Stack.{IsOpen, stay, ChangesLast}
+use Rattle.wcv_state.specs.Stack.{IsOpen}
 use Rattle.wcv_state.proofs.Keeping.{keeps_marked}
 use Rattle.wcv_state.proofs.OuterCalls.{push_keeps, push_aliases, charge_fits, charge_keeps, charge_aliases}
 use Rattle.wcv_state.proofs.Stacks.{around_kept, last_becomes, kept_on}

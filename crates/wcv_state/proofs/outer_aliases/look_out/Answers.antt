@@ -1,5 +1,4 @@
-use Rattle.std.proofs.Common.{◌≡◌, ◌∙◌, [], ◌∷◌, ◌-◌, length, slice_index_or, ap, not, ◌&&◌, Some, None, sym, subst, refl, rules, arith, inr}
-use Rattle.std.specs.Prelude.{Option}
+use Rattle.std.proofs.Common.{◌≡◌, ◌∙◌, [], ◌∷◌, ◌-◌, length, not, ◌&&◌, Some, None, sym, subst, refl, rules, arith, inr}
 use Rattle.std.proofs.lemmas.Result.{err_from_is_err_and}
 use Rattle.wcv_core.specs.declared.error.ErrorKind.TheVariants as kind
 use Rattle.wcv_core.proofs.Closing.{caused_same}
@@ -12,7 +11,7 @@ use Rattle.wcv_state.specs.Entering.{room_counts}
 use Rattle.wcv_state.specs.Promises.{CausedBy, MemoryOrCausedBy}
 use Rattle.wcv_state.specs.Stack.{innermost}
 use Rattle.wcv_state.specs.declared.outer_aliases.Aliased.{Aliased}
-use Rattle.wcv_state.proofs.OuterCalls.{outer_stands, outer_built, found_there, beyond, out_free, scope_caused, none_caused, crossing_caused, room_caused}
+use Rattle.wcv_state.proofs.OuterCalls.{outer_stands, found_there, beyond, out_free, scope_caused, none_caused, crossing_caused, room_caused}
 use Rattle.wcv_state.proofs.Stacks.{indexed}
 use Rattle.wcv_state.proofs.outer_aliases.look_out.Goals as goal
 
@@ -77,7 +76,6 @@ returns-clause-ok c =
       charge = c.in_ok-size.ensures.ok;
       fits = c.in_ok-size.ensures.fits;
       stands = outer_stands c.args.types.now t (subst (StateStands c.args.types.now) (sym c.index-components-last-2.is) (c.requires.open (length ss - 1 - c.args.count) t (omega arith)).stands) c.args.kind c.args.index c.in_ok-item.item c.in_ok-item.ensures.ok;
-      built = outer_built c.args.kind t.spaces c.args.index c.in_ok-item.item c.in_ok-item.ensures.ok;
     }
 
 pub returns-clause-free : goal.returns-clause-free

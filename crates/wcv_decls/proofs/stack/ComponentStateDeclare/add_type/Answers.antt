@@ -10,43 +10,43 @@ use Rattle.wcv_decls.proofs.Stacks.{written_back, both_mapped}
 use Rattle.wcv_decls.proofs.TypesOn.{states_ready, declares_on, refuses_on}
 use Rattle.wcv_decls.proofs.stack.ComponentStateDeclare.add_type.Goals as goal
 
-pub declare_item-requires : goal.declare_item-requires
-declare_item-requires c = states_ready c.args.types.now c.args.components.now.items c.requires.some c.requires.open c.requires.calm
+pub declare_type-requires : goal.declare_type-requires
+declare_type-requires c = record { ready = states_ready c.args.types.now c.args.components.now.items c.requires.some c.requires.open c.requires.calm }
 
 pub returns-in-Ok-clause-ok : goal.returns-in-Ok-clause-ok
 returns-in-Ok-clause-ok c =
     let a = c.args.types.now in
-    let b = c.declare_item.new.types in
+    let b = c.declare_type.new.types in
     let ss : List Contents = c.args.components.now.items in
-    let ts : List Contents = c.declare_item.new.components.items in
+    let ts : List Contents = c.declare_type.new.components.items in
     let ready : AreReady a ss = states_ready a ss c.requires.some c.requires.open c.requires.calm in
     λ p. both_mapped (λ xs ys. DeclaresOn c.args.check_limit a b p xs ys (type_view c.args.ty)) ss ts
-    (declares_on c.args.check_limit a b p ss ts (type_view c.args.ty) ready c.in-Ok.ensures.built c.in-Ok.ensures.ok c.in-Ok.ensures.ready)
+    (declares_on c.args.check_limit a b p ss ts (type_view c.args.ty) ready c.in-Ok.ensures.ok c.in-Ok.ensures.ready)
 
 pub returns-in-Ok-clause-calm : goal.returns-in-Ok-clause-calm
 returns-in-Ok-clause-calm c =
-    let ts : List Contents = c.declare_item.new.components.items in
-    subst (AreCalm c.declare_item.new.types) (sym (map-id ts)) (calm_all c.declare_item.new.types ts c.in-Ok.ensures.ready.ready.calm)
+    let ts : List Contents = c.declare_type.new.components.items in
+    subst (AreCalm c.declare_type.new.types) (sym (map-id ts)) (calm_all c.declare_type.new.types ts c.in-Ok.ensures.ready.ready.calm)
 
 pub returns-in-Ok-clause-keeps : goal.returns-in-Ok-clause-keeps
-returns-in-Ok-clause-keeps c = both_mapped (KeepsOn c.args.types.now c.declare_item.new.types) c.args.components.now.items c.declare_item.new.components.items c.declare_item.ensures.keeps
+returns-in-Ok-clause-keeps c = both_mapped (KeepsOn c.args.types.now c.declare_type.new.types) c.args.components.now.items c.declare_type.new.components.items c.declare_type.ensures.keeps
 
 pub returns-in-Err-clause-err : goal.returns-in-Err-clause-err
 returns-in-Err-clause-err c =
     let a = c.args.types.now in
-    let b = c.declare_item.new.types in
+    let b = c.declare_type.new.types in
     let ss : List Contents = c.args.components.now.items in
-    let ts : List Contents = c.declare_item.new.components.items in
-    let back = written_back ts c.mark_all_spent.new.components c.as_mut_slice.result.now _ c.declare_item.new.components.len c.declare_item.new.components.ok.0 c.as_mut_slice.ensures.value c.mark_all_spent.ensures in
+    let ts : List Contents = c.declare_type.new.components.items in
+    let back = written_back ts c.mark_all_spent.new.components c.as_mut_slice.result.now _ c.declare_type.new.components.len c.declare_type.new.components.ok.0 c.as_mut_slice.ensures.value c.mark_all_spent.ensures in
     let ready : AreReady a ss = states_ready a ss c.requires.some c.requires.open c.requires.calm in
     λ p. both_mapped (λ xs ys. RefusesOn c.args.check_limit a b p xs ys (type_view c.args.ty) c.args.offset c.in-Err.error) ss _
-    (refuses_on c.args.check_limit a b p ss ts _ (type_view c.args.ty) c.args.offset c.in-Err.error ready c.in-Err.ensures.around c.declare_item.ensures.keeps c.in-Err.ensures.err back)
+    (refuses_on c.args.check_limit a b p ss ts _ (type_view c.args.ty) c.args.offset c.in-Err.error ready c.in-Err.ensures.around c.declare_type.ensures.keeps c.in-Err.ensures.err back)
 
 pub returns-in-Err-clause-keeps : goal.returns-in-Err-clause-keeps
 returns-in-Err-clause-keeps c =
     let a = c.args.types.now in
-    let b = c.declare_item.new.types in
+    let b = c.declare_type.new.types in
     let ss : List Contents = c.args.components.now.items in
-    let ts : List Contents = c.declare_item.new.components.items in
-    let back = written_back ts c.mark_all_spent.new.components c.as_mut_slice.result.now _ c.declare_item.new.components.len c.declare_item.new.components.ok.0 c.as_mut_slice.ensures.value c.mark_all_spent.ensures in
-    both_mapped (KeepsOn a b) ss _ (subst (KeepsOn a b ss) (sym back) (kept_marked a b ss ts c.declare_item.ensures.keeps))
+    let ts : List Contents = c.declare_type.new.components.items in
+    let back = written_back ts c.mark_all_spent.new.components c.as_mut_slice.result.now _ c.declare_type.new.components.len c.declare_type.new.components.ok.0 c.as_mut_slice.ensures.value c.mark_all_spent.ensures in
+    both_mapped (KeepsOn a b) ss _ (subst (KeepsOn a b ss) (sym back) (kept_marked a b ss ts c.declare_type.ensures.keeps))

@@ -1,6 +1,5 @@
 use Rattle.std.proofs.Common.{refl, subst, sym, true}
 use Rattle.wcv_types.proofs.Grown.{extends_refl}
-use Rattle.wcv_state.specs.Contents.{Contents}
 use Rattle.wcv_state.specs.Promises.{Keeps}
 use Rattle.wcv_state.proofs.CoreAliases.{alias_grew}
 use Rattle.wcv_state.proofs.CoreItems.{item_keeps}

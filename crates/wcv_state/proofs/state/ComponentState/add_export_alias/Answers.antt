@@ -1,12 +1,8 @@
 use Rattle.std.proofs.Common.{refl, subst, sym, true}
 use Rattle.std.proofs.lemmas.Result.{err_from_is_err_and}
-use Rattle.wcv_syntax.specs.Built.{is_built_sort}
 use Rattle.wcv_types.proofs.Grown.{extends_refl}
-use Rattle.wcv_lower.specs.Aliases.{export_alias_checks}
-use Rattle.wcv_state.specs.Contents.{context_of}
 use Rattle.wcv_state.specs.Promises.{Keeps}
-use Rattle.wcv_state.proofs.ExportAliases.{entity_keeps, export_grew, kind_built}
-use Rattle.wcv_state.proofs.Calls.{built_caused}
+use Rattle.wcv_state.proofs.ExportAliases.{entity_keeps, export_grew}
 use Rattle.wcv_state.proofs.Keeping.{keeps_grown, keeps_marked}
 use Rattle.wcv_state.proofs.state.ComponentState.add_export_alias.Goals as goal
 
@@ -14,13 +10,10 @@ pub returns-in_err-item-clause-err : goal.returns-in_err-item-clause-err
 returns-in_err-item-clause-err c =
     let q = err_from_is_err_and c.from_residual.result c.from_residual.ensures.1 in
     rw (q.1, q.2)
-    (λ outer n p. built_caused (is_built_sort c.args.kind) (export_alias_checks (context_of c.args.types.now c.args.self.now) c.args.kind c.args.index c.args.name) c.args.offset c.in_err-item.field-0.0 c.requires.built c.in_err-item.ensures.err)
+    (λ outer n p. c.in_err-item.ensures.err)
 
 pub returns-in_err-item-clause-keeps : goal.returns-in_err-item-clause-keeps
 returns-in_err-item-clause-keeps c = keeps_grown c.args.types.now c.args.types.now c.args.self.now (extends_refl c.args.types.now) c.requires.stands
-
-pub push_entity-requires-clause-built : goal.push_entity-requires-clause-built
-push_entity-requires-clause-built c = kind_built c.args.kind c.in_ok-item.item c.requires.built c.in_ok-item.ensures.ok.sort
 
 pub returns-in_err-push_entity-clause-keeps : goal.returns-in_err-push_entity-clause-keeps
 returns-in_err-push_entity-clause-keeps c =
@@ -28,9 +21,9 @@ returns-in_err-push_entity-clause-keeps c =
 
 pub returns-clause-ok : goal.returns-clause-ok
 returns-clause-ok c =
-    export_grew c.args.types.now c.args.self.now c.push_entity.new.self c.requires.stands c.requires.live c.args.kind c.requires.built c.args.index c.args.name c.in_ok-item.item c.in_ok-item.ensures.ok c.in_ok-push_entity.ensures.ok c.in_ok-item.ensures.free
+    export_grew c.args.types.now c.args.self.now c.push_entity.new.self c.requires.stands c.requires.live c.args.kind c.args.index c.args.name c.in_ok-item.item c.in_ok-item.ensures.ok c.in_ok-push_entity.ensures.ok c.in_ok-item.ensures.free
 
 pub returns-clause-keeps : goal.returns-clause-keeps
 returns-clause-keeps c =
     subst (Keeps c.args.types.now c.args.types.now c.args.self.now) (sym c.in_ok-push_entity.ensures.ok)
-    (entity_keeps c.args.types.now c.args.self.now c.requires.stands c.in_ok-item.item (kind_built c.args.kind c.in_ok-item.item c.requires.built c.in_ok-item.ensures.ok.sort) c.in_ok-item.ensures.ok.stands)
+    (entity_keeps c.args.types.now c.args.self.now c.requires.stands c.in_ok-item.item c.in_ok-item.ensures.ok.stands)

@@ -1,4 +1,4 @@
-use Rattle.std.proofs.Common.{◌++◌, ◌∙◌, refl, sym, ap, subst, true, inl, inr, length}
+use Rattle.std.proofs.Common.{◌++◌, ◌∙◌, refl, sym, ap, subst, true, false, inl, inr, length}
 use Rattle.std.specs.Prelude.{All}
 use Rattle.std.proofs.lemmas.Result.{err_from_is_err_and}
 use Rattle.wcv_types.specs.Entities.{EntryStands}
@@ -30,14 +30,11 @@ returns-in_err-name_entry-clause-err c =
 
 pub returns-in_err-name_entry-clause-keeps : goal.returns-in_err-name_entry-clause-keeps
 returns-in_err-name_entry-clause-keeps c =
-    keeps_entry c.args.types.now c.args.self.now (contents_of c.self.inside) _ (entry_of c.args.name c.args.new.now.ty) c.self.view_is c.requires.stands c.requires.may_join.built c.requires.may_join.stands (inl refl)
+    keeps_entry c.args.types.now false c.args.self.now (contents_of c.self.inside) _ (entry_of c.args.name c.args.new.now.ty) c.self.view_is c.requires.stands c.requires.may_join.stands (inl refl)
     (each_side _ (inl refl) (inl refl)) (λ k. same_imported c.args.types.now (contents_of c.self.inside) k _ _ (entry_of c.args.name c.args.new.now.ty) refl (inl refl)) (λ k. same_defined c.args.types.now (contents_of c.self.inside) k _ refl) (λ k d. (c.in_err-name_entry.ensures.grew.more d, c.in_err-name_entry.ensures.grew.stand d)) (λ k. same_sized (trees c.args.types.now.nodes) (contents_of c.self.inside) _ refl (each_side _ refl refl) k) refl refl refl
 
 pub enter-requires-clause-entity : goal.enter-requires-clause-entity
 enter-requires-clause-entity c = c.requires.may_join.stands
-
-pub enter-requires-clause-built : goal.enter-requires-clause-built
-enter-requires-clause-built c = c.requires.may_join.built
 
 pub enter-requires-clause-entries : goal.enter-requires-clause-entries
 enter-requires-clause-entries c = subst (λ (z : Contents). All (EntryStands c.args.types.now) z.imports) (sym c.self.view_is) (c.requires.stands.side importing)
@@ -52,7 +49,7 @@ returns-in_err-enter-clause-err c =
 
 pub returns-in_err-enter-clause-keeps : goal.returns-in_err-enter-clause-keeps
 returns-in_err-enter-clause-keeps c =
-    rw c.in_err-enter.ensures.types (keeps_entry c.args.types.now c.args.self.now (contents_of c.self.inside) _ (entry_of c.args.name c.args.new.now.ty) c.self.view_is c.requires.stands c.requires.may_join.built c.requires.may_join.stands c.in_err-enter.ensures.kept
+    rw c.in_err-enter.ensures.types (keeps_entry c.args.types.now false c.args.self.now (contents_of c.self.inside) _ (entry_of c.args.name c.args.new.now.ty) c.self.view_is c.requires.stands c.requires.may_join.stands c.in_err-enter.ensures.kept
     (each_side _ (inl c.in_err-enter.ensures.items) (inl refl)) (λ k. same_imported c.args.types.now (contents_of c.self.inside) k _ _ (entry_of c.args.name c.args.new.now.ty) refl (inl c.in_err-enter.ensures.items)) (λ k. same_defined c.args.types.now (contents_of c.self.inside) k _ refl) (λ k d. (c.in_ok-name_entry.ensures.grew.more d, c.in_ok-name_entry.ensures.grew.stand d)) (λ k. same_sized (trees c.args.types.now.nodes) (contents_of c.self.inside) _ c.in_err-enter.ensures.info (each_side _ c.in_err-enter.ensures.items refl) k) refl refl refl)
 
 pub import_resources-requires : goal.import_resources-requires
@@ -60,12 +57,12 @@ import_resources-requires c = subst (λ (z : Contents). AreNewIn z.imported_reso
 
 pub returns-in_err-import_resources-clause-keeps : goal.returns-in_err-import_resources-clause-keeps
 returns-in_err-import_resources-clause-keeps c =
-    rw c.in_ok-enter.ensures.types (keeps_entry c.args.types.now c.args.self.now (contents_of c.self.inside) _ (entry_of c.args.name c.args.new.now.ty) c.self.view_is c.requires.stands c.requires.may_join.built c.requires.may_join.stands (inr c.in_ok-enter.ensures.joined.spaces)
+    rw c.in_ok-enter.ensures.types (keeps_entry c.args.types.now false c.args.self.now (contents_of c.self.inside) _ (entry_of c.args.name c.args.new.now.ty) c.self.view_is c.requires.stands c.requires.may_join.stands (inr c.in_ok-enter.ensures.joined.spaces)
     (each_side _ (inr c.in_ok-enter.ensures.joined.items) (inl refl)) (λ k. brought_imported c.args.types.now (contents_of c.self.inside) k (entry_of c.args.name c.args.new.now.ty) c.args.new.now.resources c.requires.may_join.resources _ _ c.in_err-import_resources.ensures.err.0 _ c.requires.may_join.lead c.in_err-import_resources.ensures.err.1 c.in_ok-enter.ensures.joined.items c.len-position.ensures) (λ k. same_defined c.args.types.now (contents_of c.self.inside) k _ refl) (λ k d. (c.in_ok-name_entry.ensures.grew.more d, c.in_ok-name_entry.ensures.grew.stand d)) (λ k. joined_sized (trees c.args.types.now.nodes) (contents_of c.self.inside) (entry_of c.args.name c.args.new.now.ty) importing _ c.in_ok-enter.ensures.joined.info (each_side _ c.in_ok-enter.ensures.joined.items refl) k) refl refl refl)
 
 pub returns-clause-keeps : goal.returns-clause-keeps
 returns-clause-keeps c =
-    rw c.in_ok-enter.ensures.types (keeps_entry c.args.types.now c.args.self.now (contents_of c.self.inside) _ (entry_of c.args.name c.args.new.now.ty) c.self.view_is c.requires.stands c.requires.may_join.built c.requires.may_join.stands (inr c.in_ok-enter.ensures.joined.spaces)
+    rw c.in_ok-enter.ensures.types (keeps_entry c.args.types.now false c.args.self.now (contents_of c.self.inside) _ (entry_of c.args.name c.args.new.now.ty) c.self.view_is c.requires.stands c.requires.may_join.stands (inr c.in_ok-enter.ensures.joined.spaces)
     (each_side _ (inr c.in_ok-enter.ensures.joined.items) (inl refl)) (λ k. brought_imported c.args.types.now (contents_of c.self.inside) k (entry_of c.args.name c.args.new.now.ty) c.args.new.now.resources c.requires.may_join.resources _ _ (length c.args.new.now.resources) _ c.requires.may_join.lead (c.in_ok-import_resources.ensures.ok ∙ ap (λ (l : Paths). c.self.inside.imported_resources ++ placed c.len-position.result l) (all_taken c.args.new.now.resources)) c.in_ok-enter.ensures.joined.items c.len-position.ensures) (λ k. same_defined c.args.types.now (contents_of c.self.inside) k _ refl) (λ k d. (c.in_ok-name_entry.ensures.grew.more d, c.in_ok-name_entry.ensures.grew.stand d)) (λ k. joined_sized (trees c.args.types.now.nodes) (contents_of c.self.inside) (entry_of c.args.name c.args.new.now.ty) importing _ c.in_ok-enter.ensures.joined.info (each_side _ c.in_ok-enter.ensures.joined.items refl) k) refl refl refl)
 
 pub returns-clause-ok : goal.returns-clause-ok
@@ -75,6 +72,7 @@ returns-clause-ok c =
       kinds = refl;
       aliased = refl;
       slots = refl;
+      started = refl;
       spaces = c.in_ok-enter.ensures.joined.spaces;
       info = c.in_ok-enter.ensures.joined.info;
       listed = (each_side _ c.in_ok-enter.ensures.joined.items refl);

@@ -2,15 +2,14 @@ use Rattle.std.proofs.Common.{sym, ap, subst, inl}
 use Rattle.std.specs.Prelude.{All}
 use Rattle.std.proofs.lemmas.Result.{err_from_is_err_and}
 use Rattle.wcv_core.proofs.Closing.{caused_same}
-use Rattle.wcv_syntax.specs.Built.{is_built_ref}
 use Rattle.wcv_types.specs.Standing.{Extends}
 use Rattle.wcv_types.proofs.Grown.{extends_refl, extends_trans}
 use Rattle.wcv_lower.specs.Context.{in_types}
 use Rattle.wcv_state.specs.Contents.{Contents, IdStands}
+use Rattle.wcv_state.specs.Inside.{contents_of}
 use Rattle.wcv_state.specs.Looking.{written_id_checks, GivesWritten}
-use Rattle.wcv_state.specs.Promises.{MemoryOrCausedBy, if_built}
-use Rattle.wcv_state.proofs.Calls.{built_either}
-use Rattle.wcv_state.proofs.ItemCalls.{ref_looked, ref_caused, written_opens}
+use Rattle.wcv_state.specs.Promises.{MemoryOrCausedBy}
+use Rattle.wcv_state.proofs.ItemCalls.{ref_looked_in, ref_caused, written_opens}
 use Rattle.wcv_state.proofs.Opened.{opened_found}
 use Rattle.wcv_state.proofs.state.ComponentState.read_import.Goals as goal
 
@@ -20,23 +19,15 @@ written-requires c = subst (All (IdStands c.args.types.now in_types)) (sym (ap (
 pub returns-in_err-entity-clause-err : goal.returns-in_err-entity-clause-err
 returns-in_err-entity-clause-err c =
     let p = err_from_is_err_and c.from_residual.result c.from_residual.ensures.1 in
-    rw p.1 (caused_same _ c.args.offset c.in_err-entity.field-0.0 p.0 p.2.0 p.2.1 (built_either (is_built_ref c.args.ty.now) _ _ c.args.offset c.in_err-entity.field-0.0
-    (λ b t. ref_caused c.args.types.now c.args.self.now c.requires.stands c.args.ty.now c.args.offset c.in_err-entity.field-0.0 t)
-    (subst (λ (z : Contents). MemoryOrCausedBy (if_built (is_built_ref c.args.ty.now) (written_id_checks z.spaces c.args.ty.now)) c.args.offset c.in_err-entity.field-0.0) c.self.view_is c.in_err-entity.ensures.err)))
+    rw p.1 (caused_same _ c.args.offset c.in_err-entity.field-0.0 p.0 p.2.0 p.2.1 (ref_caused c.args.types.now c.args.self.now c.requires.stands c.args.ty.now c.args.offset c.in_err-entity.field-0.0
+    (subst (λ (z : Contents). MemoryOrCausedBy (written_id_checks z.features z.spaces c.args.ty.now) c.args.offset c.in_err-entity.field-0.0) c.self.view_is c.in_err-entity.ensures.err)))
 
 pub returns-in_err-entity-clause-grown : goal.returns-in_err-entity-clause-grown
 returns-in_err-entity-clause-grown c = subst (Extends c.args.types.now) (sym c.in_err-entity.ensures.same) (extends_refl c.args.types.now)
 
-pub open_entity-requires-clause-built : goal.open_entity-requires-clause-built
-open_entity-requires-clause-built c =
-    let w = (ref_looked c.args.types.now c.args.self.now c.requires.stands c.written.new.types c.args.ty.now c.in_ok-entity.entity
-    (subst (λ (z : Contents). GivesWritten c.args.types.now c.written.new.types z.spaces c.args.ty.now c.in_ok-entity.entity) c.self.view_is c.in_ok-entity.ensures.ok)) in
-    w.built
-
 pub open_entity-requires-clause-stands : goal.open_entity-requires-clause-stands
 open_entity-requires-clause-stands c =
-    let w = (ref_looked c.args.types.now c.args.self.now c.requires.stands c.written.new.types c.args.ty.now c.in_ok-entity.entity
-    (subst (λ (z : Contents). GivesWritten c.args.types.now c.written.new.types z.spaces c.args.ty.now c.in_ok-entity.entity) c.self.view_is c.in_ok-entity.ensures.ok)) in
+    let w = ref_looked_in c.args.types.now c.written.new.types c.args.self.now (contents_of c.self.inside) c.args.ty.now c.in_ok-entity.entity c.self.view_is c.requires.stands c.in_ok-entity.ensures.ok c.in_ok-entity.ensures.free in
     w.stands
 
 pub open_entity-requires-clause-opens : goal.open_entity-requires-clause-opens
@@ -51,18 +42,15 @@ returns-in_err-new-clause-err c =
 
 pub returns-in_err-new-clause-grown : goal.returns-in_err-new-clause-grown
 returns-in_err-new-clause-grown c =
-    let w = (ref_looked c.args.types.now c.args.self.now c.requires.stands c.written.new.types c.args.ty.now c.in_ok-entity.entity
-    (subst (λ (z : Contents). GivesWritten c.args.types.now c.written.new.types z.spaces c.args.ty.now c.in_ok-entity.entity) c.self.view_is c.in_ok-entity.ensures.ok)) in
+    let w = ref_looked_in c.args.types.now c.written.new.types c.args.self.now (contents_of c.self.inside) c.args.ty.now c.in_ok-entity.entity c.self.view_is c.requires.stands c.in_ok-entity.ensures.ok c.in_ok-entity.ensures.free in
     extends_trans c.args.types.now c.written.new.types c.open_entity.new.types w.grown c.in_err-new.ensures.grown
 
 pub returns-clause-ok : goal.returns-clause-ok
 returns-clause-ok c =
     opened_found c.args.types.now c.written.new.types c.open_entity.new.types c.in_ok-entity.entity c.in_ok-new.new _ _
-    (ref_looked c.args.types.now c.args.self.now c.requires.stands c.written.new.types c.args.ty.now c.in_ok-entity.entity
-    (subst (λ (z : Contents). GivesWritten c.args.types.now c.written.new.types z.spaces c.args.ty.now c.in_ok-entity.entity) c.self.view_is c.in_ok-entity.ensures.ok)) c.in_ok-new.ensures.ok
+    (ref_looked_in c.args.types.now c.written.new.types c.args.self.now (contents_of c.self.inside) c.args.ty.now c.in_ok-entity.entity c.self.view_is c.requires.stands c.in_ok-entity.ensures.ok c.in_ok-entity.ensures.free) c.in_ok-new.ensures.ok
 
 pub returns-clause-grown : goal.returns-clause-grown
 returns-clause-grown c =
-    let w = (ref_looked c.args.types.now c.args.self.now c.requires.stands c.written.new.types c.args.ty.now c.in_ok-entity.entity
-    (subst (λ (z : Contents). GivesWritten c.args.types.now c.written.new.types z.spaces c.args.ty.now c.in_ok-entity.entity) c.self.view_is c.in_ok-entity.ensures.ok)) in
+    let w = ref_looked_in c.args.types.now c.written.new.types c.args.self.now (contents_of c.self.inside) c.args.ty.now c.in_ok-entity.entity c.self.view_is c.requires.stands c.in_ok-entity.ensures.ok c.in_ok-entity.ensures.free in
     extends_trans c.args.types.now c.written.new.types c.open_entity.new.types w.grown c.in_ok-new.ensures.grown
