@@ -42,7 +42,7 @@ use Rattle.wcv_decls.specs.Items.{entry_in, Stored}
 use Rattle.wcv_decls.specs.Stack.{IsOpen, stay, ChangesLast, contexts_around}
 use Rattle.wcv_decls.proofs.InnermostStates.{stack_after, stays, last_changed, body_stays}
 use Rattle.wcv_decls.proofs.Looking.{refs_of}
-use Rattle.wcv_decls.proofs.Naming.{node_names, node_given_there, joins_under, node_reached}
+use Rattle.wcv_decls.proofs.Naming.{node_names, node_given_there, node_name, joins_under, node_reached}
 use Rattle.wcv_decls.proofs.Plain.{SameSides, same_body}
 use Rattle.wcv_decls.proofs.ReadingOn.{grown_numbers}
 
@@ -167,6 +167,7 @@ module _ (k : Kind) (a b : Arena) (ss : List Contents) (h : AreReady a ss) (some
   type_ends = record {
     names = names_at;
     given = λ p. node_given_there a b p w.nodes;
+    named = λ p. node_name a b p w.nodes;
     ended = λ p. ended_at p ∙ ap Some (sym reached);
     free = free;
     ready = stays a b (around ss) after change each w.keeps w.live calm_after;

@@ -1,7 +1,7 @@
 -- Types that are read over the states that are open, declaration by declaration, and how a component comes and leaves.
 use Rattle.std.specs.Prelude.{ℕ, List, [], ◌++◌, Bool, All, length, ◌≡◌, ◌<◌, ◌⊎◌, Some}
 use Rattle.wcv_core.specs.Limits.{max_list}
-use Rattle.wcv_core.specs.Names.{Place}
+use Rattle.wcv_core.specs.Names.{Place, number}
 use Rattle.wcv_core.specs.Refusal.{error_kind, error_offset}
 use Rattle.wcv_core.specs.declared.error.Error.{Error}
 use Rattle.wcv_core.specs.declared.error.ErrorKind.{ErrorKind}
@@ -18,14 +18,14 @@ use Rattle.wcv_lower.specs.Declared.{full_stack, ended, decl_checks}
 use Rattle.wcv_lower.specs.DeclaredCalls.{TypeRead, TypeRefused, DeclRead, DeclsRead, DeclsRefused}
 use Rattle.wcv_lower.specs.Ending.{declared_end_checks}
 use Rattle.wcv_lower.specs.Given.{GivenNames, names_of, GivesAt}
-use Rattle.wcv_lower.specs.Names.{Under}
+use Rattle.wcv_lower.specs.Names.{Under, introduced}
 use Rattle.wcv_lower.specs.Owned.{IsCalm, IsLed}
 use Rattle.wcv_lower.specs.Readers.{Reader}
 use Rattle.wcv_lower.specs.Trees.{Tree_context, Tree_stack, tree_reader, tree_maker}
 use Rattle.wcv_state.specs.Contents.{Contents}
 use Rattle.wcv_state.specs.Promises.{numbers_of, Finished}
 pub use Rattle.wcv_state.specs.Stack.{innermost, around}
-use Rattle.wcv_decls.specs.Items.{HoldsComponent}
+use Rattle.wcv_decls.specs.Items.{AddsComponent}
 use Rattle.wcv_decls.specs.Stack.{IsOpen, stack_on, all_spent, all_uncharged}
 
 -- ## The states
@@ -112,14 +112,16 @@ RefusesDecls k a b ss ds p e = DeclsRefused (features_in ss) p 0 k (stack_in a s
 pub record Ends (k : Kind) (a b : Arena) (ss ss' : List Contents) : Type 0 where
   pub names : Place → GivenNames
   pub given : (p : Place) → GivesAt (λ q. q ≡ p) (numbers_of a) (numbers_of b) (names p)
+  -- which is that of the arena's next node
+  pub named : (p : Place) → (names_of (names p)).identity (introduced p) ≡ number (length a.nodes)
   pub ended : (p : Place) → ended k (tree_maker (names_of (names p)) p) (stack_in a ss) ≡ Some (stack_in b ss')
   pub free : IsFree (declared_end_checks k (top_in a ss))
   -- those around that stay
   pub ready : StayReady b (around ss) ss'
   pub declares : DeclaresInstance a (around ss) → DeclaresInstance b ss'
 
--- the type of what the state read is the arena's node of that id
+-- the type of what the state read is the arena's next node, of that id
 pub record TypeKept (a b : Arena) (s : Contents) (id : ComponentTypeId) : Type 0 where
   pub ty : ComponentType
   pub finished : Finished a s ty
-  pub held : HoldsComponent b ty id
+  pub added : AddsComponent a b ty id

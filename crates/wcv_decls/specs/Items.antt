@@ -1,9 +1,10 @@
 -- What a type item does to a state, and the type of a component at its end.
-use Rattle.std.specs.Prelude.{ℕ, suc, List, Bool, false, Some, length, slice_get, ◌≡◌}
+use Rattle.std.specs.Prelude.{ℕ, suc, List, Bool, false, Some, length, ◌≡◌}
 use Rattle.wcv_core.specs.Names.{Place, number}
 use Rattle.wcv_core.specs.declared.error.Error.{Error}
 use Rattle.wcv_syntax.specs.Model.{Type_form, type_item}
 use Rattle.wcv_types.specs.Arena.{Arena}
+use Rattle.wcv_types.specs.Standing.{with_node}
 use Rattle.wcv_types.specs.Unfold.{Type_tree, tree_of, trees}
 use Rattle.wcv_types.specs.declared.arena.Node.{Node}
 use Rattle.wcv_types.specs.declared.arena.Node.TheVariants as n
@@ -34,9 +35,9 @@ pub record Stored (k : Space) (a b : Arena) (s s' : Contents) (x : Node) : Type 
   pub live : s'.spent ≡ false
   pub keeps : Keeps a b s s'
 
--- the component type is the node of that id
-abbrev pub HoldsComponent : Arena → ComponentType → ComponentTypeId → Type 0
-HoldsComponent a ty id = slice_get a.nodes id.index ≡ Some (n.Component ty)
+-- the component type is the arena's next node, of that id
+abbrev pub AddsComponent : Arena → Arena → ComponentType → ComponentTypeId → Type 0
+AddsComponent a b ty id = (b ≡ with_node a (n.Component ty)) × (id.index ≡ length a.nodes)
 
 -- so of the node of a type item
 pub record Added (a b : Arena) (s s' : Contents) (t : Type_form) : Type 0 where

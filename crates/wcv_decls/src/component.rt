@@ -10,7 +10,7 @@ ghost use Rattle.wcv_lower.specs.Marks.{unused_checks};
 ghost use Rattle.wcv_state.specs.Contents.{StateStands};
 ghost use Rattle.wcv_state.specs.Promises.{MemoryOrCausedBy, Keeps, Finished};
 ghost use Rattle.wcv_decls.specs.Declaring.{innermost, around, stack_in, top_in, component_room, AreReady, SameAround, Opened, TypeKept, Ends};
-ghost use Rattle.wcv_decls.specs.Items.{HoldsComponent, Stored};
+ghost use Rattle.wcv_decls.specs.Items.{AddsComponent, Stored};
 ghost use Rattle.wcv_decls.specs.Stack.{KeepsOn};
 
 use crate::close::{leave, look_at, pop_type};
@@ -71,7 +71,7 @@ fn add_component(
     requires stands { StateStands types.old state.old }
     requires fits { Fits types.old (node.Component ty) }
     ensures ok { OnOk result (Stored in_components types.old types.new state.old state.new (node.Component ty)) }
-    ensures held { IfOk result (HoldsComponent types.new ty) }
+    ensures added { IfOk result (AddsComponent types.old types.new ty) }
     ensures keeps { OnErr result (Keeps types.old types.new state.old state.new) }
 {
     let id: ComponentTypeId = types.push_ty(ty)?;

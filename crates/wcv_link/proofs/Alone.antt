@@ -1,7 +1,9 @@
 -- How a root is read, whose state alone is open.
 use Rattle.std.proofs.Common.{◌≡◌, List, [], ◌∷◌, ◌++◌, length, refl, sym, ◌∙◌, ap, subst, arith, slice_set, slice_index_or, All, ◌⊎◌}
 use Rattle.std.specs.Prelude.{ℕ, Result, IfOk, OnOk, Ok, Err}
+use Rattle.std.specs.List.{AllZip}
 use Rattle.std.proofs.lemmas.List.Elements.{All-nil, All-cons, All-head}
+use Rattle.wcv_core.specs.Names.{Place}
 use Rattle.wcv_core.specs.Refusal.{error_kind, error_offset}
 use Rattle.wcv_core.specs.declared.error.Error.{Error}
 use Rattle.wcv_core.specs.declared.error.ErrorKind.TheVariants as kind
@@ -25,8 +27,12 @@ use Rattle.wcv_decls.specs.Stack.{IsOpen, all_uncharged, stack_on}
 use Rattle.wcv_decls.proofs.InnermostStates.{parted, calm_all}
 use Rattle.wcv_link.specs.Accepts.{AcceptsWith}
 use Rattle.wcv_link.specs.ItemCalls.{ItemsRead, ItemsRefused}
+use Rattle.wcv_link.specs.Nested.{Nested_types}
 use Rattle.wcv_link.specs.Progress.{IsReady, AcceptsItems, RefusesItems, MemoryOrRefused}
+use Rattle.wcv_link.specs.Told.{Told, Ended}
 use Rattle.wcv_link.specs.Valid.{start}
+use Rattle.wcv_link.specs.declared.nesting.Nested.{Nested}
+use Rattle.wcv_link.specs.declared.nesting.Nesting.{Nesting}
 use Rattle.wcv_link.proofs.Leading.{root_read, refused_root, refused_end, read_all}
 use Rattle.wcv_link.proofs.Reaching.{empty_stack}
 
@@ -74,7 +80,7 @@ module _ (a : Arena) (features : WasmFeatures) (none : a.core ≡ []) (ss : List
         (from_start (λ fs s. (error_kind x ≡ kind.OutOfMemory) ⊎ ItemsRefused fs [] 0 s is end (error_kind x) (error_offset x) (numbers_of a) (numbers_of b)) (w.refused [] end))
 
     -- they were read
-    module _ (ts : List Contents) (w : AcceptsItems a b ss ts is) where
+    module _ (ts : List Contents) (nested : Place → Nested_types) (w : AcceptsItems a b ss ts is nested) where
       still_alone : ts ≡ innermost ts ∷ []
       still_alone =
           let none_there : around ts ≡ [] = none_around (around ts) (w.goes_on.around ∙ ap (λ (xs : List Contents). all_uncharged (around xs)) alone) in
@@ -91,20 +97,23 @@ module _ (a : Arena) (features : WasmFeatures) (none : a.core ≡ []) (ss : List
         pub alone_open : IsOpen b s
         alone_open = All-head (IsOpen b) s [] (subst (All (IsOpen b)) first_alone w.goes_on.ready.usable)
 
-        alone_read : ItemsRead features [] 0 start is (stack_of b s []) (numbers_of a) (numbers_of b)
+        alone_read : ItemsRead features [] 0 start is (stack_of b s []) (numbers_of a) (numbers_of b) (nested [])
         alone_read =
-            subst (λ (xs : List Contents). ItemsRead features [] 0 start is (stack_in b xs) (numbers_of a) (numbers_of b)) first_alone
-            (from_start (λ fs t. ItemsRead fs [] 0 t is (stack_in b ts) (numbers_of a) (numbers_of b)) (w.reads []))
+            subst (λ (xs : List Contents). ItemsRead features [] 0 start is (stack_in b xs) (numbers_of a) (numbers_of b) (nested [])) first_alone
+            (from_start (λ fs t. ItemsRead fs [] 0 t is (stack_in b ts) (numbers_of a) (numbers_of b) (nested [])) (w.reads []))
 
         -- the end was refused
         pub stops_at_end : {M : Type 0} (end : ℕ) (x : Error M) → MemoryOrCausedBy (component_end_checks (context_of b s)) end x → MemoryOrRefused features is end x
-        stops_at_end end x h = refused_end a b features is end x s alone_read h
+        stops_at_end end x h = refused_end a b features is end x s (nested []) alone_read h
 
-        -- the type was taken
-        pub ends : IsFree (unused_checks (context_of b s)) → (s' t : Contents) (ty : ComponentType) → slice_set ts 0 s' ≡ t ∷ [] → s' ≡ finished s → Finished b s ty → AcceptsWith features is b t ty
-        ends used s' t ty set g h = λ x types state type nested.
+        -- the type was taken, and those of components inside others are told
+        pub ends : IsFree (unused_checks (context_of b s)) → (old new : Nesting) → old.place.items ≡ [] → old.ended.items ≡ [] → Ended b old new (nested old.place.items) → (s' t : Contents) (ty : ComponentType) → slice_set ts 0 s' ≡ t ∷ [] → s' ≡ finished s → Finished b s ty →
+            AcceptsWith features is b t ty new.ended.items
+        ends used old new place none n s' t ty set g h = λ x types state type those.
             let same : t ≡ s' = sym (only s' t (ap (λ (xs : List Contents). slice_set xs 0 s') (sym first_alone) ∙ set)) in
-            read_all a b s features is (root_read a b s features is w.goes_on.arena alone_read) alone_open.stands used x types (state ∙ same ∙ g) (subst (Finished b s) (sym type) h) nested
+            let more : x.nested.items ≡ n.more = those ∙ n.ended ∙ ap (λ (xs : List Nested). xs ++ n.more) none in
+            read_all a b s features is (nested []) (root_read a b s features is (nested []) w.goes_on.arena alone_read) alone_open.stands used x types (state ∙ same ∙ g) (subst (Finished b s) (sym type) h)
+            (subst (λ (xs : List Nested). AllZip (Told b) xs (nested [])) (sym more) (subst (λ (p : Place). AllZip (Told b) n.more (nested p)) place n.told))
 
         pub still_one : (s' : Contents) → length (slice_set ts 0 s') ≡ 1
         still_one s' = ap (λ (xs : List Contents). length (slice_set xs 0 s')) first_alone

@@ -14,12 +14,13 @@ use Rattle.wcv_lower.specs.Context.{concrete}
 use Rattle.wcv_lower.specs.Given.{GivenNames, names_of, none_given, both_given, Numbers, no_numbers, AtMost, GivesAt}
 use Rattle.wcv_lower.specs.Items.{component_checks}
 use Rattle.wcv_lower.specs.Mapped.{map_stack}
-use Rattle.wcv_lower.specs.Names.{Names, Under, AreRenamed, SameNames}
+use Rattle.wcv_lower.specs.Names.{Names, names_by_place, Under, AreRenamed, SameNames}
 use Rattle.wcv_lower.specs.Renamed.{Renaming, renaming}
 use Rattle.wcv_lower.specs.Trees.{Tree_stack}
 use Rattle.wcv_lower.proofs.DeclaredGlued.{first_same, second_same}
 use Rattle.wcv_lower.proofs.Given.{gives_both, gives_wider}
 use Rattle.wcv_lower.proofs.ItemLaws.{read_item-agrees, read_item-renamed, item_causes-renamed}
+use Rattle.wcv_lower.proofs.Naming.{to_places, renamed_places}
 use Rattle.wcv_state.specs.Contents.{names, Contents, stack_of, ids, core_ids, sides, id_tree, core_tree, empty_state}
 use Rattle.wcv_state.specs.Promises.{numbers_of}
 use Rattle.wcv_state.specs.declared.kind.ComponentKind.TheVariants.{Component}
@@ -90,7 +91,7 @@ module _ (fs : WasmFeatures) (names other : Names) where
 
   -- and so are renamed ones
   module _ (v : Renaming) (renamed : (p : Place) → AreRenamed (Under p) v.resources.to v.identities.to names other) where
-    pub reached-renamed : (w : Place) (k : ℕ) (s : Tree_stack) → Reached fs names w k s → Reached fs other w k (map_stack (renaming v) s)
+    reached-renamed : (w : Place) (k : ℕ) (s : Tree_stack) → Reached fs names w k s → Reached fs other w k (map_stack (renaming v) s)
     reached-renamed _ _ _ at_start = at_start
     reached-renamed _ _ _ (behind w k s u f r x e) =
         behind w k (map_stack (renaming v) s) (map_stack (renaming v) u) f (reached-renamed w k s r) (valid_item-renamed v fs names other renamed (deeper w k) s f x)
@@ -139,6 +140,15 @@ module _ (a b : Arena) (ss ss' : List Contents) (f : Form) (h : IsReached a ss) 
         (valid_item-agrees (features_in ss) (names_of read.0) (names_of all) (deeper w k) (stack_in a ss) f here_same read.2)
         (read_item-agrees (names_of read.0) (names_of all) (deeper w k) here_same (features_in ss) (stack_in a ss) f ∙ read.3));
   }
+
+-- so by places
+module _ (a : Arena) (ss : List Contents) (h : IsReached a ss) where
+  abbrev pub places : Renaming
+  places = to_places (Earlier h.place h.position) no_numbers (numbers_of a) h.names h.given
+
+  pub reached_places : Reached (features_in ss) names_by_place h.place h.position (map_stack (renaming places) (stack_in a ss))
+  reached_places =
+      reached-renamed (features_in ss) (names_of h.names) names_by_place places (λ p. renamed_places (Earlier h.place h.position) no_numbers (numbers_of a) h.names h.given (Under p)) h.place h.position (stack_in a ss) h.reached
 
 -- inside a component
 pub reached_within : (a : Arena) (ss ts : List Contents) (is : Items) → 0 < length ss → IsReached a ss → Opened concrete a ss ts → IsFree (component_checks (stack_in a ss) is) → IsReached a ts

@@ -44,13 +44,13 @@ module _ (fs : WasmFeatures) (names other : Names) where
   pub weaker : (P Q : Place → Type 0) → ((p : Place) → Q p → P p) → SameNames P names other → SameNames Q names other
   weaker P Q f h = record { resource = λ o u. h.resource o (f (place_of o) u); identity = λ o u. h.identity o (f (place_of o) u) }
 
-  same_inside : (p : Place) → SameNames (Under p) names other → SameNames (FromDecl p 0) names other
+  pub same_inside : (p : Place) → SameNames (Under p) names other → SameNames (FromDecl p 0) names other
   same_inside p h = weaker (Under p) (FromDecl p 0) (λ q x. under-deeper p x.0 q x.2) h
 
-  same_first : (p : Place) (n : ℕ) → SameNames (FromDecl p n) names other → SameNames (Under (deeper p n)) names other
+  pub same_first : (p : Place) (n : ℕ) → SameNames (FromDecl p n) names other → SameNames (Under (deeper p n)) names other
   same_first p n h = weaker (FromDecl p n) (Under (deeper p n)) (λ q u. (n, omega arith, u)) h
 
-  same_rest : (p : Place) (n : ℕ) → SameNames (FromDecl p n) names other → SameNames (FromDecl p (suc n)) names other
+  pub same_rest : (p : Place) (n : ℕ) → SameNames (FromDecl p n) names other → SameNames (FromDecl p (suc n)) names other
   same_rest p n h = weaker (FromDecl p n) (FromDecl p (suc n)) (λ q x. let y = x.1 in (x.0, omega (arith, y), x.2)) h
 
   module _ (p : Place) (same : SameNames (Under p) names other) (s : Tree_stack) (f : Form) where

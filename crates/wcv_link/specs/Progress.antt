@@ -20,8 +20,12 @@ use Rattle.wcv_state.specs.Promises.{numbers_of, Keeps}
 use Rattle.wcv_decls.specs.Declaring.{innermost, around, features_in, stack_in}
 use Rattle.wcv_decls.specs.Stack.{IsOpen, AreCalm, all_uncharged}
 use Rattle.wcv_link.specs.Instances.{AllMayInstantiate}
-use Rattle.wcv_link.specs.ItemCalls.{ItemRead, ItemsRead, ItemRefused, ItemsRefused}
+use Rattle.wcv_link.specs.ItemCalls.{ItemRead, ItemTells, ItemsRead, ItemRefused, ItemsRefused}
+use Rattle.wcv_link.specs.Nested.{Nested_types}
+use Rattle.wcv_link.specs.Reached.{IsReached}
+use Rattle.wcv_link.specs.Told.{Ended}
 use Rattle.wcv_link.specs.Valid.{ValidItem, RefusedItem, Refused}
+use Rattle.wcv_link.specs.declared.nesting.Nesting.{Nesting}
 
 -- the states that are open may be used, the innermost last, their ids stand in the arena, and what stands in them owns apart
 pub record IsReady (a : Arena) (ss : List Contents) : Type 0 where
@@ -88,6 +92,13 @@ pub record AcceptsItem (a b : Arena) (ss ss' : List Contents) (f : Form) : Type 
   pub reads : (p : Place) → ItemRead (features_in ss) p (stack_in a ss) f (stack_in b ss') (numbers_of a) (numbers_of b)
   pub goes_on : GoesOn a b ss ss'
 
+-- so where components of those types end in it, which ended too, at the place where it was read
+pub record TellsItem (a b : Arena) (n n' : Nesting) (ss ss' : List Contents) (f : Form) : Type 0 where
+  pub nested : Place → Nested_types
+  pub reads : (p : Place) → ItemTells (features_in ss) p (stack_in a ss) f (stack_in b ss') (numbers_of a) (numbers_of b) (nested p)
+  pub goes_on : GoesOn a b ss ss'
+  pub ended : Ended b n n' (nested n.place.items)
+
 -- it was refused, at whatever place; it stands at that offset
 pub record RefusesItem {M : Type 0} (a b : Arena) (ss : List Contents) (f : Form) (offset : ℕ) (e : Error M) : Type 0 where
   pub refused : (p : Place) → (error_kind e ≡ kind.OutOfMemory) ⊎ ItemRefused (features_in ss) p (stack_in a ss) offset f (error_kind e) (error_offset e) (numbers_of a) (numbers_of b)
@@ -95,10 +106,17 @@ pub record RefusesItem {M : Type 0} (a b : Arena) (ss : List Contents) (f : Form
 
 -- ## A list of items
 
--- they were read, one after another
-pub record AcceptsItems (a b : Arena) (ss ss' : List Contents) (is : Items) : Type 0 where
-  pub reads : (w : Place) → ItemsRead (features_in ss) w 0 (stack_in a ss) is (stack_in b ss') (numbers_of a) (numbers_of b)
+-- they were read, one after another, at whatever place, where components of those types end in them
+pub record AcceptsItems (a b : Arena) (ss ss' : List Contents) (is : Items) (nested : Place → Nested_types) : Type 0 where
+  pub reads : (w : Place) → ItemsRead (features_in ss) w 0 (stack_in a ss) is (stack_in b ss') (numbers_of a) (numbers_of b) (nested w)
   pub goes_on : GoesOn a b ss ss'
+  pub reached : IsReached b ss'
+
+-- these ended too, at the place where they were read
+pub record TellsItems (a b : Arena) (n n' : Nesting) (ss ss' : List Contents) (is : Items) : Type 0 where
+  pub nested : Place → Nested_types
+  pub accepts : AcceptsItems a b ss ss' is nested
+  pub ended : Ended b n n' (nested n.place.items)
 
 -- one of them was refused, whatever the offset of their end
 pub record RefusesItems {M : Type 0} (a b : Arena) (ss : List Contents) (is : Items) (e : Error M) : Type 0 where

@@ -1,8 +1,6 @@
-use Rattle.std.proofs.Common.{◌≡◌, suc, length, refl, ap, arith}
+use Rattle.std.proofs.Common.{◌≡◌, suc, length, refl, arith}
 use Rattle.std.proofs.lemmas.Result.{err_from_is_err_and}
-use Rattle.wcv_types.specs.Arena.{Arena}
 use Rattle.wcv_types.specs.declared.arena.Node.TheVariants as node
-use Rattle.wcv_types.proofs.Grown.{is_last}
 use Rattle.wcv_lower.specs.Context.{in_components}
 use Rattle.wcv_decls.proofs.Storing.{spent_keeps, stored_in}
 use Rattle.wcv_decls.proofs.component.add_component.Goals as goal
@@ -17,7 +15,7 @@ returns-clause-ok c =
     stored_in c.args.types.now c.push_ty.new.self c.args.state.now (node.Component c.args.ty) c.in_ok-id.ensures.added c.requires.stands in_components c.push_component.new.self c.in_ok-id.id c.requires.live
     c.in_ok-id.ensures.stands (λ x. refl) c.in_ok-id.ensures.tree c.in_ok-push_component.ensures.ok
 
-pub returns-clause-held : goal.returns-clause-held
-returns-clause-held c =
+pub returns-clause-added : goal.returns-clause-added
+returns-clause-added c =
     let last : suc c.in_ok-id.id.index ≡ suc (length c.args.types.now.nodes) = c.in_ok-id.ensures.last in
-    is_last c.args.types.now.nodes c.push_ty.new.self.nodes (node.Component c.args.ty) c.in_ok-id.id.index (ap (λ (y : Arena). y.nodes) c.in_ok-id.ensures.added) (omega (arith, last))
+    (c.in_ok-id.ensures.added, omega (arith, last))

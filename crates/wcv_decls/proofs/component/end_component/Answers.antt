@@ -126,4 +126,4 @@ returns-clause-keeps c =
     subst (KeepsOn a b ss) (sym now) (kept a b ss (slice_set ss k t) w each c.in_ok-id.ensures.ok.keeps)
 
 pub returns-clause-kept : goal.returns-clause-kept
-returns-clause-kept c = record { ty = c.in_ok-ty.ty; finished = c.in_ok-ty.ensures.ok; held = c.in_ok-id.ensures.held }
+returns-clause-kept c = record { ty = c.in_ok-ty.ty; finished = c.in_ok-ty.ensures.ok; added = c.in_ok-id.ensures.added }

@@ -31,7 +31,7 @@ returns-in_err-check_used-clause-err c =
     let p = err_from_is_err_and c.from_residual-in_err-check_used.result c.from_residual-in_err-check_used.ensures.1 in
     let top : Tree_context = context_of c.read_items.new.types c.index.result.now in
     rw p.1
-    (stops_at_end c.args.types.now c.args.features c.requires.types c.args.components.now.items c.requires.state c.read_items.new.types (items_view c.args.items.items) c.read_items.new.components.items c.in_ok-read_items.ensures.ok
+    (stops_at_end c.args.types.now c.args.features c.requires.types c.args.components.now.items c.requires.state c.read_items.new.types (items_view c.args.items.items) c.read_items.new.components.items c.in_ok-read_items.ensures.ok.nested c.in_ok-read_items.ensures.ok.accepts
     c.index.result.now c.index.ensures c.args.end p.0
     (caused_more (unused_checks top) (component_end_checks top) c.args.end p.0 (cause_left (unused_checks top) (end_checks top) (error_kind p.0))
     (caused_same (unused_checks top) c.args.end c.in_err-check_used.field-0.0 p.0 p.2.0 p.2.1 c.in_err-check_used.ensures.err)))
@@ -39,28 +39,28 @@ returns-in_err-check_used-clause-err c =
 pub take_type-requires : goal.take_type-requires
 take_type-requires c =
     let o =
-    alone_open c.args.types.now c.args.features c.requires.types c.args.components.now.items c.requires.state c.read_items.new.types (items_view c.args.items.items) c.read_items.new.components.items c.in_ok-read_items.ensures.ok
+    alone_open c.args.types.now c.args.features c.requires.types c.args.components.now.items c.requires.state c.read_items.new.types (items_view c.args.items.items) c.read_items.new.components.items c.in_ok-read_items.ensures.ok.nested c.in_ok-read_items.ensures.ok.accepts
     c.index_mut.result.now c.index_mut.ensures.value in
     record { live = o.live; stands = o.stands }
 
 pub returns-clause-ok : goal.returns-clause-ok
 returns-clause-ok c =
     let same : c.index.result.now ≡ c.index_mut.result.now =
-    looked_up c.args.types.now c.args.features c.requires.types c.args.components.now.items c.requires.state c.read_items.new.types (items_view c.args.items.items) c.read_items.new.components.items c.in_ok-read_items.ensures.ok
+    looked_up c.args.types.now c.args.features c.requires.types c.args.components.now.items c.requires.state c.read_items.new.types (items_view c.args.items.items) c.read_items.new.components.items c.in_ok-read_items.ensures.ok.nested c.in_ok-read_items.ensures.ok.accepts
     c.index.result.now c.index.ensures ∙
-    sym (looked_up c.args.types.now c.args.features c.requires.types c.args.components.now.items c.requires.state c.read_items.new.types (items_view c.args.items.items) c.read_items.new.components.items c.in_ok-read_items.ensures.ok c.index_mut.result.now c.index_mut.ensures.value) in
+    sym (looked_up c.args.types.now c.args.features c.requires.types c.args.components.now.items c.requires.state c.read_items.new.types (items_view c.args.items.items) c.read_items.new.components.items c.in_ok-read_items.ensures.ok.nested c.in_ok-read_items.ensures.ok.accepts c.index_mut.result.now c.index_mut.ensures.value) in
     let used : IsFree (unused_checks (context_of c.read_items.new.types c.index_mut.result.now)) = subst (λ (s : Contents). IsFree (unused_checks (context_of c.read_items.new.types s))) same c.in_ok-check_used.ensures.ok in
     ok_and c.take_type.result
     (λ ty w after t e.
-    ends c.args.types.now c.args.features c.requires.types c.args.components.now.items c.requires.state c.read_items.new.types (items_view c.args.items.items) c.read_items.new.components.items c.in_ok-read_items.ensures.ok
-    c.index_mut.result.now c.index_mut.ensures.value used c.take_type.new.self t ty e after w)
+    ends c.args.types.now c.args.features c.requires.types c.args.components.now.items c.requires.state c.read_items.new.types (items_view c.args.items.items) c.read_items.new.components.items c.in_ok-read_items.ensures.ok.nested c.in_ok-read_items.ensures.ok.accepts
+    c.index_mut.result.now c.index_mut.ensures.value used c.args.nesting.now c.read_items.new.nesting c.requires.place c.requires.ended c.in_ok-read_items.ensures.ok.ended c.take_type.new.self t ty e after w)
     c.take_type.ensures.ok c.take_type.ensures.after
 
 pub returns-clause-one : goal.returns-clause-one
 returns-clause-one c =
     on_ok_weaker c.take_type.result
     (λ e.
-    still_one c.args.types.now c.args.features c.requires.types c.args.components.now.items c.requires.state c.read_items.new.types (items_view c.args.items.items) c.read_items.new.components.items c.in_ok-read_items.ensures.ok
+    still_one c.args.types.now c.args.features c.requires.types c.args.components.now.items c.requires.state c.read_items.new.types (items_view c.args.items.items) c.read_items.new.components.items c.in_ok-read_items.ensures.ok.nested c.in_ok-read_items.ensures.ok.accepts
     c.index_mut.result.now c.index_mut.ensures.value c.take_type.new.self)
     c.take_type.ensures.after
 
@@ -69,6 +69,6 @@ returns-clause-err c =
     let top : Tree_context = context_of c.read_items.new.types c.index_mut.result.now in
     IfErr-weaker c.take_type.result _ _
     (λ e w.
-    stops_at_end c.args.types.now c.args.features c.requires.types c.args.components.now.items c.requires.state c.read_items.new.types (items_view c.args.items.items) c.read_items.new.components.items c.in_ok-read_items.ensures.ok
+    stops_at_end c.args.types.now c.args.features c.requires.types c.args.components.now.items c.requires.state c.read_items.new.types (items_view c.args.items.items) c.read_items.new.components.items c.in_ok-read_items.ensures.ok.nested c.in_ok-read_items.ensures.ok.accepts
     c.index_mut.result.now c.index_mut.ensures.value c.args.end e (caused_more (end_checks top) (component_end_checks top) c.args.end e (cause_right (unused_checks top) (end_checks top) (error_kind e)) w.1))
     c.take_type.ensures.err
