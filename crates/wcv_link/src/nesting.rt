@@ -47,7 +47,10 @@ impl Nesting {
         ensures place { (w : names.Place) (k : ℕ) → self.old.place.items ≡ deeper w k → self.new.place.items ≡ w }
         ensures ended { self.new.ended.items ≡ self.old.ended.items }
     {
-        self.place.pop();
+        match self.place.pop() {
+            Some(_position) => (),
+            None => (),
+        }
     }
 
     /// A component ended at the place.
