@@ -22,13 +22,14 @@ use Rattle.wcv_lower.proofs.EndingLaws.{has_type}
 use Rattle.wcv_link.specs.Valid.{ValidTo, Refused}
 use Rattle.wcv_link.proofs.Decided.{valid_or_refused}
 use Rattle.wcv_link.proofs.Ended.{valid_lists}
+use Rattle.wcv_link.proofs.NestedListed.{nested_list}
 use Rattle.wcv_main.specs.Pump.{AppendsPrefix}
 use Rattle.wcv_main.specs.Answers.{IsAnswer, MayStandIn, Answers, Cuts, Finishes}
 use Rattle.wcv_main.proofs.Known.{appends_nothing}
 
 -- the report of a valid root is due
 pub reported : (features : WasmFeatures) (is : Items) (d : Tree_stack) (t : Type_tree) → ValidTo features is d → type_at_end (node_tree (base [])) d.top ≡ Some t → IsReport features is status.Done (accepted_text d t)
-reported features is d t v e = record { context = d; ty = t; valid = v; typed = e; listed = valid_lists features is d (base []) t v e; status_is = refl; text_is = refl }
+reported features is d t v e = record { context = d; ty = t; valid = v; typed = e; listed = valid_lists features is d (base []) t v e; inside = nested_list features is d v; status_is = refl; text_is = refl }
 
 -- so is the summary of a valid one that is made for a number
 pub summed : (n : ℕ) (d : Tree_stack) → ValidTo default_features (generated n) d → IsSummary n status.Done (made_text n d)

@@ -1,11 +1,11 @@
 -- What is due for the words and the bytes of a run, where nothing fails.
 use Rattle.wcv_core.specs.Limits.{max_listing}
-use Rattle.std.specs.Prelude.{ℕ, ◌≡◌, ◌⊎◌, ◌+◌, ◌*◌, List, [], ◌++◌, length, nat_lt, if◌then◌else◌, codes, Option, Some, None}
+use Rattle.std.specs.Prelude.{ℕ, ◌≡◌, ◌⊎◌, ◌+◌, ◌*◌, List, [], ◌++◌, All, length, nat_lt, if◌then◌else◌, codes, Option, Some, None}
 use Rattle.std.specs.Option.{option_map}
 use Rattle.std.specs.Fmt.{decimal}
 use Rattle.wcv_core.specs.Features.{default_features}
 use Rattle.wcv_core.specs.Kinds.{kind_name}
-use Rattle.wcv_core.specs.Names.{base}
+use Rattle.wcv_core.specs.Names.{Place, base}
 use Rattle.wcv_core.specs.declared.error.ErrorKind.{ErrorKind}
 use Rattle.wcv_core.specs.declared.features.WasmFeatures.{WasmFeatures}
 use Rattle.wcv_syntax.specs.Model.{Items}
@@ -19,6 +19,7 @@ use Rattle.wcv_lower.specs.Context.{lengths}
 use Rattle.wcv_lower.specs.Ending.{type_at_end}
 use Rattle.wcv_lower.specs.Trees.{Type_tree, Tree_stack, node_tree}
 use Rattle.wcv_link.specs.Listed.{ListsResources}
+use Rattle.wcv_link.specs.Nested.{nested_types}
 use Rattle.wcv_link.specs.Valid.{ValidTo, Refused}
 use Rattle.wcv_main.specs.Commands.{is_validate, made_number}
 use Rattle.wcv_main.specs.Report.{line, report}
@@ -77,7 +78,8 @@ refusal_text kind offset message = line (codes "refused " ++ kind_name kind ++ c
 abbrev pub IsRefusalText : ErrorKind → ℕ → List ℕ → Type 0
 IsRefusalText kind offset text = (message : List ℕ) × (text ≡ refusal_text kind offset message)
 
--- the root is valid: its report, of a type that lists each free resource as imported or defined, never both, at a path that leads to it
+-- the root is valid: its report, of a type that lists each free resource as imported or defined, never both, at a path that leads to it,
+-- as the type of each component inside it does
 pub record IsReport (features : WasmFeatures) (is : Items) (s : Status) (text : List ℕ) : Type 0 where
   -- the stack at the root's end, and the type there
   pub context : Tree_stack
@@ -85,6 +87,7 @@ pub record IsReport (features : WasmFeatures) (is : Items) (s : Status) (text : 
   pub valid : ValidTo features is context
   pub typed : type_at_end (node_tree (base [])) context.top ≡ Some ty
   pub listed : ListsResources ty
+  pub inside : All (λ (x : Place × Type_tree). ListsResources x.1) (nested_types features is)
   pub status_is : s ≡ status.Done
   pub text_is : text ≡ accepted_text context ty
 
