@@ -1,6 +1,5 @@
 // What is asked of an arena: one function owns it.
 use crate::core_types::a_function_type_is_interned;
-use crate::externs::names_are_for_their_sorts;
 use crate::matching::items_match;
 use crate::sort_calls::{
     a_component_has_its_part, a_reference_stays, a_value_has_its_text, value_types_are_equal,
@@ -16,7 +15,6 @@ pub enum Asked {
     CoreTypes,
     Items,
     Parts,
-    Names,
     Text,
     Reference,
     Equal,
@@ -28,7 +26,6 @@ fn holds(alloc: Global, asked: Asked, types: &mut TypeAlloc) -> bool {
         Asked::CoreTypes => a_function_type_is_interned(alloc, types),
         Asked::Items => items_match(types),
         Asked::Parts => a_component_has_its_part(types),
-        Asked::Names => names_are_for_their_sorts(types),
         Asked::Text => a_value_has_its_text(types),
         Asked::Reference => a_reference_stays(types),
         Asked::Equal => value_types_are_equal(types),

@@ -9,7 +9,7 @@ mod base;
 #[cfg(test)]
 mod core_types;
 #[cfg(test)]
-mod externs;
+mod depth;
 #[cfg(test)]
 mod items;
 #[cfg(test)]

@@ -1,20 +1,16 @@
 // Calls of the arena over a component, a value and a reference to a resource.
-ghost use Rattle.std.specs.Prelude.{All, ◌≡◌, ◌<◌};
-ghost use Rattle.wcv_types.specs.Entities.{any_part, EntryStands, SlotStands};
+ghost use Rattle.std.specs.Prelude.{All};
+ghost use Rattle.wcv_types.specs.Entities.{any_part, EntryStands};
 ghost use Rattle.wcv_types.specs.Standing.{Stands};
-ghost use Rattle.wcv_types.specs.Unfold.{value_slot};
 ghost use Rattle.wcv_types.specs.declared.ids.Part.TheVariants as part;
 
 use crate::sorts::{U32, add_component, one_entry};
 use bitflags::Flags;
-use std::marker::Brand;
-use std::sync::ledger::{Blank, Ledger};
 use wcv_core::{PrimitiveValType, WasmFeatures};
-use wcv_subtype::component_val_type;
 use wcv_text::push_type;
 use wcv_types::{
     ComponentAnyTypeId, ComponentEntityType, ComponentType, ComponentTypeId, ComponentValType,
-    ItemMap, NodeSort, NodeStore, Part, Paths, ResourceSet, Steps, TypeAlloc, TypeInfo, TypeSort,
+    ItemMap, NodeSort, NodeStore, Part, Paths, ResourceSet, TypeAlloc, TypeInfo, TypeSort,
 };
 
 /// Whether the one part of a component is an instance.
@@ -90,26 +86,8 @@ pub fn a_value_has_its_text(types: &mut TypeAlloc) -> bool {
 
 const U8: ComponentValType = ComponentValType::Primitive(PrimitiveValType::U8);
 
-/// Whether a value type may stand where it is expected, with the steps counted.
-fn matches_by<L: Ledger>(types: &TypeAlloc, ty: &ComponentValType, blank: Blank) -> bool
-    requires stands { SlotStands types.now (value_slot ty.now) }
-    requires name { blank.name ≡ L.name }
-    requires parts { blank.parts ≡ L.parts }
-    requires some { 0 < blank.parts }
-{
-    let mut steps: Steps<L> = Steps::new(blank);
-    component_val_type(types, ty, ty, 0, &mut steps).is_ok()
-}
-
-/// Whether it may.
-fn matches_itself(types: &TypeAlloc, ty: &ComponentValType) -> bool
-    requires { SlotStands types.now (value_slot ty.now) }
-{
-    matches_by::<Brand>(types, ty, Blank::new(1))
-}
-
-/// A value type equals itself and no other one, and may stand where it is expected.
+/// A value type equals itself and no other one.
 pub fn value_types_are_equal(types: &mut TypeAlloc) -> bool {
     let equal = [types.val_type_eq(&U32, &U32), types.val_type_eq(&U32, &U8)];
-    equal == [Ok(true), Ok(false)] && matches_itself(types, &U32)
+    equal == [Ok(true), Ok(false)]
 }

@@ -18,26 +18,13 @@ use wcv_types::{
 
 pub const U32: ComponentValType = ComponentValType::Primitive(PrimitiveValType::U32);
 
-// The text behind a key, where it is that key.
-fn beside(alloc: Global, words: &str, key: &str) -> Result<Option<Text>, OutOfMemory> {
-    for word in words.split(' ') {
-        if let Some((found, text)) = word.split_once('=') {
-            if found == key {
-                return Ok(Some(Text::new(alloc, text)?));
-            }
-        }
-    }
-    Ok(None)
-}
-
-// A whole name: the name, and maybe texts beside it.
-fn whole_name(alloc: Global, words: &str) -> Result<ComponentExternName, OutOfMemory> {
-    let (name, _) = words.split_once(' ').unwrap_or((words, ""));
+// A name with nothing beside it.
+fn bare_name(alloc: Global, name: &str) -> Result<ComponentExternName, OutOfMemory> {
     Ok(ComponentExternName {
         name: Text::new(alloc, name)?,
-        implements: beside(alloc, words, "implements")?,
-        version_suffix: beside(alloc, words, "suffix")?,
-        external_id: beside(alloc, words, "id")?,
+        implements: None,
+        version_suffix: None,
+        external_id: None,
     })
 }
 
@@ -75,9 +62,9 @@ fn join(
     }
 }
 
-/// A list with one entity under a whole name.
+/// A list with one entity under a name.
 pub fn one_entry(
-    words: &str,
+    name: &str,
     ty: ComponentEntityType,
     features: &WasmFeatures,
     types: &mut TypeAlloc,
@@ -87,7 +74,7 @@ pub fn one_entry(
     ensures apart { IfOk result (λ es. NamesDiffer es) }
     ensures types { types.new ≡ types.old }
 {
-    match whole_name(types.allocator(), words) {
+    match bare_name(types.allocator(), name) {
         Ok(name) => join(&name, ty, features, types),
         Err(error) => Err(Error::from(error)),
     }

@@ -3,9 +3,10 @@ ghost use Rattle.std.specs.Prelude.{IfOk};
 ghost use Rattle.wcv_decls.specs.Declaring.{AreReady};
 ghost use Rattle.wcv_types.specs.Arena.{Arena};
 
+use crate::depth::a_hundred_are_open;
 use crate::joining::types_are_laid_out;
 use crate::modules::a_module_is_exported;
-use crate::state::what_is_pushed_stands;
+use crate::state::a_state_begins_empty;
 use bitflags::Flags;
 use std::alloc::Global;
 use wcv_core::{OutOfMemory, WasmFeatures};
@@ -24,7 +25,8 @@ fn alone(alloc: Global) -> Result<Vec<ComponentState>, OutOfMemory>
 /// What is asked.
 #[derive(Clone, Copy)]
 pub enum Question {
-    Pushed,
+    Empty,
+    Depth,
     Module,
     Layout,
 }
@@ -40,7 +42,8 @@ fn answers(
     requires { AreReady types.old states.old.items }
 {
     match question {
-        Question::Pushed => what_is_pushed_stands(&mut states[0]),
+        Question::Depth => a_hundred_are_open(states, types),
+        Question::Empty => a_state_begins_empty(&states[0]),
         Question::Module => a_module_is_exported(alloc, &mut states[0], types),
         Question::Layout => types_are_laid_out(alloc, line, states, types),
     }

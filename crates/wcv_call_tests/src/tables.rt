@@ -24,11 +24,11 @@ fn cases(alloc: Global) -> [bool; 18] {
         holds_of_arena(alloc, Asked::CoreTypes),
         holds_of_arena(alloc, Asked::Items),
         holds_of_arena(alloc, Asked::Parts),
-        holds_of_arena(alloc, Asked::Names),
         holds_of_arena(alloc, Asked::Text),
         holds_of_arena(alloc, Asked::Reference),
         holds_of_arena(alloc, Asked::Equal),
-        holds(alloc, Question::Pushed, ""),
+        holds(alloc, Question::Empty, ""),
+        holds(alloc, Question::Depth, ""),
         holds(alloc, Question::Module, ""),
     ]
 }
