@@ -1,8 +1,9 @@
 use Rattle.std.proofs.Common.{◌≡◌, refl, ℕ, suc, List, [], ◌∷◌, ◌++◌, length, sym, ◌∙◌, ap, subst, arith, ◌≤◌, rules}
 use Rattle.std.specs.Vec.Iter.{into_iter_items}
-use Rattle.std.proofs.lemmas.List.{length-append}
+use Rattle.std.specs.Prelude.{OnOk}
+use Rattle.std.proofs.lemmas.List.{length-append, nil_from_length}
 use Rattle.std.proofs.lemmas.Result.{err_from_is_err_and, on_ok_weaker}
-use Rattle.wcv_syntax.specs.Model.{Form, core_type_item, type_item, alias_item, Items, next_item}
+use Rattle.wcv_syntax.specs.Model.{Form, core_type_item, type_item, alias_item, Items, no_items, next_item}
 use Rattle.wcv_syntax.specs.View.{core_type_view, type_view, section_view, item_view, items_view}
 use Rattle.wcv_syntax.specs.declared.item.Item.{Item}
 use Rattle.wcv_syntax.specs.declared.item.Section.{the_lemmas}
@@ -13,10 +14,11 @@ use Rattle.wcv_lower.specs.Items.{item_count, component_checks}
 use Rattle.wcv_state.specs.Contents.{Contents}
 use Rattle.wcv_state.specs.Promises.{MemoryOrCausedBy}
 use Rattle.wcv_decls.specs.Declaring.{stack_in, component_room}
+use Rattle.wcv_link.specs.Progress.{TellsItem}
 use Rattle.wcv_link.specs.Told.{Ended}
 use Rattle.wcv_link.proofs.Component.{barred, inside_refused, end_refused, later, memory_refused, whole}
 use Rattle.wcv_link.proofs.ItemSizes.{items_size, rest_smaller, counted}
-use Rattle.wcv_link.proofs.ItemsOn.{none_ends, plain_tells, so_far_memory, so_far_refused, ToldSoFar, told_start, told_next}
+use Rattle.wcv_link.proofs.ItemsOn.{none_ends, plain_tells, so_far_memory, so_far_refused, ToldSoFar, told_start, told_next, told_all}
 use Rattle.wcv_link.proofs.Making.{last_may}
 use Rattle.wcv_link.proofs.NestedEnds.{told_at_end}
 use Rattle.wcv_link.proofs.Open.{ready_here, ready_then}
@@ -31,20 +33,28 @@ read_item-read_in_last-requires t c = record { ready = c.requires.ready; makes =
 
 pub read_item-returns-in-CoreType-clause-ok : goal.read_item-returns-in-CoreType-clause-ok
 read_item-returns-in-CoreType-clause-ok t c =
-    on_ok_weaker c.read_core_type.result (plain_tells c.args.types.now c.read_core_type.new.types c.args.nesting.now c.args.components.now.items c.read_core_type.new.components.items (core_type_item (core_type_view c.in-CoreType.ty)) (λ fs names p s. refl)) c.read_core_type.ensures.ok
+    let same : (item_view c.args.item).form ≡ core_type_item (core_type_view c.in-CoreType.ty) = search (rules, the_lemmas) in
+    subst (λ (f : Form). OnOk c.read_core_type.result (TellsItem c.args.types.now c.read_core_type.new.types c.args.nesting.now c.args.nesting.now c.args.components.now.items c.read_core_type.new.components.items f)) (sym same)
+    (on_ok_weaker c.read_core_type.result (plain_tells c.args.types.now c.read_core_type.new.types c.args.nesting.now c.args.components.now.items c.read_core_type.new.components.items (core_type_item (core_type_view c.in-CoreType.ty)) (λ fs names p s. refl)) c.read_core_type.ensures.ok)
 
 pub read_item-returns-in-Ty-clause-ok : goal.read_item-returns-in-Ty-clause-ok
 read_item-returns-in-Ty-clause-ok t c =
-    on_ok_weaker c.read_type.result (plain_tells c.args.types.now c.read_type.new.types c.args.nesting.now c.args.components.now.items c.read_type.new.components.items (type_item (type_view c.in-Ty.ty)) (λ fs names p s. refl)) c.read_type.ensures.ok
+    let same : (item_view c.args.item).form ≡ type_item (type_view c.in-Ty.ty) = search (rules, the_lemmas) in
+    subst (λ (f : Form). OnOk c.read_type.result (TellsItem c.args.types.now c.read_type.new.types c.args.nesting.now c.args.nesting.now c.args.components.now.items c.read_type.new.components.items f)) (sym same)
+    (on_ok_weaker c.read_type.result (plain_tells c.args.types.now c.read_type.new.types c.args.nesting.now c.args.components.now.items c.read_type.new.components.items (type_item (type_view c.in-Ty.ty)) (λ fs names p s. refl)) c.read_type.ensures.ok)
 
 pub read_item-returns-in-Alias-clause-ok : goal.read_item-returns-in-Alias-clause-ok
 read_item-returns-in-Alias-clause-ok t c =
-    on_ok_weaker c.read_alias.result (plain_tells c.args.types.now c.read_alias.new.types c.args.nesting.now c.args.components.now.items c.read_alias.new.components.items (alias_item c.in-Alias.alias) (λ fs names p s. refl)) c.read_alias.ensures.ok
+    let same : (item_view c.args.item).form ≡ alias_item c.in-Alias.alias = search (rules, the_lemmas) in
+    subst (λ (f : Form). OnOk c.read_alias.result (TellsItem c.args.types.now c.read_alias.new.types c.args.nesting.now c.args.nesting.now c.args.components.now.items c.read_alias.new.components.items f)) (sym same)
+    (on_ok_weaker c.read_alias.result (plain_tells c.args.types.now c.read_alias.new.types c.args.nesting.now c.args.components.now.items c.read_alias.new.components.items (alias_item c.in-Alias.alias) (λ fs names p s. refl)) c.read_alias.ensures.ok)
 
 pub read_item-returns-in_default-clause-ok : goal.read_item-returns-in_default-clause-ok
 read_item-returns-in_default-clause-ok t c =
-    let f : Form = section_view c.in_default.other in
-    on_ok_weaker c.read_in_last.result (plain_tells c.args.types.now c.read_in_last.new.types c.args.nesting.now c.args.components.now.items c.read_in_last.new.components.items f (none_ends f (search (rules, the_lemmas)))) c.read_in_last.ensures.ok
+    let f : Form = section_view c.args.item.section in
+    let same : (item_view c.args.item).form ≡ f = search (rules, the_lemmas) in
+    subst (λ (g : Form). OnOk c.read_in_last.result (TellsItem c.args.types.now c.read_in_last.new.types c.args.nesting.now c.args.nesting.now c.args.components.now.items c.read_in_last.new.components.items g)) (sym same)
+    (on_ok_weaker c.read_in_last.result (plain_tells c.args.types.now c.read_in_last.new.types c.args.nesting.now c.args.components.now.items c.read_in_last.new.components.items f (none_ends f (search (rules, the_lemmas)))) c.read_in_last.ensures.ok)
 
 -- ## A component
 
@@ -147,7 +157,7 @@ read_items-loop-item-init t c =
     record {
       far = subst (λ (xs : List Item). ToldSoFar a c.args.nesting.now ss is a c.args.nesting.now ss 0 (items_view xs)) (sym items) (told_start a c.args.nesting.now ss is c.requires.ready c.requires.reached);
       position = refl;
-      count = ap length items;
+      count = omega (arith, ap length items);
       left = c.into_iter-item-iterator.ensures.into_iter_gives.1 ∙ c.args.items.ok.0 ∙ sym (ap length items);
       small = subst (λ (xs : List Item). items_size (items_view xs) ≤ items_size is) (sym items) (omega arith);
     }
@@ -170,12 +180,22 @@ read_items-loop-item-preserved t c =
     record {
       far = subst (λ (j : ℕ). ToldSoFar a c.args.nesting.now ss is b c.leave.new.self us j rest) more
           (told_next a c.args.nesting.now ss is c.loop-item.types c.loop-item.nesting ts k x.offset x.form rest b us c.enter.new.self c.read_item.new.nesting c.leave.new.self far (c.in_ok-enter.ensures.place ∙ ap (deeper c.loop-item.nesting.place.items) c.loop-item.invariant.position) c.enter.ensures.ended c.in-Ok.ensures.ok c.leave.ensures.place c.leave.ensures.ended);
-      position = let next = c.saturating_add.ensures in let before = c.loop-item.invariant.position in let all = c.loop-item.invariant.count in let short = ap length c.in-Some.ensures.steps.0 in let fits = c.args.items.ok in let small = c.args.items.small in
+      position = let next = c.saturating_add-position.ensures in let before = c.loop-item.invariant.position in let all = c.loop-item.invariant.count in let short = ap length c.in-Some.ensures.steps.0 in let fits = c.args.items.ok in let small = c.args.items.small in
           omega (arith, next, before, all, short, fits.0, fits.1, small, more);
       count = let short = ap length c.in-Some.ensures.steps.0 in let before = c.loop-item.invariant.count in omega (arith, short, before, more);
       left = let gone = c.in-Some.ensures.steps.1 in let short = ap length c.in-Some.ensures.steps.0 in let before = c.loop-item.invariant.left in omega (arith, gone, short, before);
       small = rest_smaller x.offset x.form rest is small;
     }
+
+pub read_items-returns-clause-ok : goal.read_items-returns-clause-ok
+read_items-returns-clause-ok t c =
+    let a = c.args.types.now in
+    let ss : List Contents = c.args.components.now.items in
+    let is : Items = items_view c.args.items.items in
+    let none = c.in-None.ensures.steps in
+    let empty : into_iter_items c.loop-item.item-iterator ≡ [] = nil_from_length _ (sym c.loop-item.invariant.left ∙ none.0) in
+    let z : items_view (into_iter_items c.loop-item.item-iterator) ≡ no_items = ap items_view empty in
+    told_all a c.args.nesting.now ss is c.loop-item.types c.loop-item.nesting c.loop-item.components.items (length c.loop-item.yielded) _ z c.loop-item.invariant.far
 
 pub read_items-returns-in-Err-clause-err : goal.read_items-returns-in-Err-clause-err
 read_items-returns-in-Err-clause-err t c =

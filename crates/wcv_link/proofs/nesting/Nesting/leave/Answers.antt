@@ -1,6 +1,5 @@
-use Rattle.std.proofs.Common.{ℕ, List, [], ◌∷◌, ◌++◌, ◌≡◌, ⊥, sym, ◌∙◌}
+use Rattle.std.proofs.Common.{◌∙◌, sym}
 use Rattle.std.proofs.lemmas.List.{same_from_push}
-use Rattle.wcv_core.specs.Names.{Place, deeper}
 use Rattle.wcv_link.proofs.nesting.Nesting.leave.Goals as goal
 
 pub returns-in-Some-clause-place : goal.returns-in-Some-clause-place
