@@ -1,5 +1,5 @@
 -- An instance that lists items: what is looked up by ids is what the rules say of the trees, and what is made is the node that lists them.
-use Rattle.std.proofs.Common.{◌≡◌, ℕ, List, [], ◌∷◌, ◌++◌, ◌<◌, ◌≤◌, map, refl, sym, ◌∙◌, ap, subst, Bool, true, false, not, ◌&&◌, cond, Some, None, All, inl, inr, ⊎_elim}
+use Rattle.std.proofs.Common.{◌≡◌, ℕ, List, [], ◌∷◌, ◌++◌, ◌<◌, ◌≤◌, map, refl, sym, ◌∙◌, ap, subst, Bool, true, not, ◌&&◌, cond, Some, None, All, inl, inr, ⊎_elim}
 use Rattle.std.specs.Prelude.{Option, is_some}
 use Rattle.std.specs.List.{AllZip, IsDistinct, list_all}
 use Rattle.std.specs.Option.{option_map}
@@ -24,7 +24,6 @@ use Rattle.wcv_types.specs.Sets.{same_resource}
 use Rattle.wcv_types.specs.Tree.{firsts, instance_type, is_instance, owned}
 use Rattle.wcv_types.specs.Unfold.{Type_tree, trees}
 use Rattle.wcv_types.specs.declared.ids.ComponentInstanceTypeId.{ComponentInstanceTypeId}
-use Rattle.wcv_types.specs.declared.ids.Part.TheVariants as p
 use Rattle.wcv_types.specs.declared.ids.ResourceId.{ResourceId}
 use Rattle.wcv_types.specs.declared.shapes.ComponentEntityType.{ComponentEntityType}
 use Rattle.wcv_matching.specs.ModuleItems.{before}

@@ -1,11 +1,10 @@
 -- The end of a component inside another: what is told of its type.
-use Rattle.std.proofs.Common.{◌≡◌, suc, List, length, refl, sym, ◌∙◌, ap, subst}
+use Rattle.std.proofs.Common.{suc, List, length, refl, sym, ◌∙◌, ap, subst}
 use Rattle.wcv_core.specs.Names.{Name, Place, number}
 use Rattle.wcv_types.specs.Arena.{Arena}
 use Rattle.wcv_types.specs.ComponentTrees.{root_tree}
 use Rattle.wcv_types.specs.Standing.{Extends}
 use Rattle.wcv_types.specs.declared.arena.Node.TheVariants as n
-use Rattle.wcv_types.specs.declared.component_type.ComponentType.{ComponentType}
 use Rattle.wcv_types.specs.declared.ids.ComponentTypeId.{ComponentTypeId}
 use Rattle.wcv_types.specs.declared.ids.Part.TheVariants as p
 use Rattle.wcv_types.proofs.Grown.{extends_push, is_last, tree_at_last}
