@@ -1,5 +1,6 @@
 pub mod Tree
 pub mod ByName
+pub mod Exported
 pub mod Identity
 pub mod Positions
 pub mod Measure

@@ -1,7 +1,9 @@
 // The arena of types.
-ghost use Rattle.std.specs.Prelude.{◌≡◌, ℕ, suc, ◌+◌, ◌<◌, List, [], ◌∷◌, length, slice_get, take, Some, All, OnOk, OnErr, IfOk};
+ghost use Rattle.std.specs.Map.{lookup};
+ghost use Rattle.std.specs.Prelude.{◌≡◌, ℕ, suc, ◌+◌, ◌<◌, List, [], ◌∷◌, length, slice_get, option_copied, bytes_eq, take, Some, All, OnOk, OnErr, IfOk};
 ghost use Rattle.wcv_types.specs.Abi.{IsAbiOf};
 ghost use Rattle.wcv_types.specs.Entities.{SlotStands};
+ghost use Rattle.wcv_types.specs.Exported.{exports_at, module_exports_at, listed_at};
 ghost use Rattle.wcv_types.specs.Facts.{IsFactsOf};
 ghost use Rattle.wcv_types.specs.Given.{AllNamesGiven};
 ghost use Rattle.wcv_types.specs.Open.{open_flat, listed};
@@ -9,21 +11,27 @@ ghost use Rattle.wcv_types.specs.Renewed.{NodeAgain, with_stamp};
 ghost use Rattle.wcv_types.specs.Resources.{mentions};
 ghost use Rattle.wcv_types.specs.Unfold.{option_slot, place, rank, parts_of, slot_tree, tree_at, tree_in, tree_of, trees, unfolded, value_slot};
 ghost use Rattle.wcv_types.specs.Standing.{AllFit, Stands, StandsBefore, Fits, KeepsTrees, with_node};
+ghost use Rattle.wcv_types.specs.declared.ids.Part.TheVariants as p;
 
 use crate::abi::AbiInfo;
 use crate::component_type::ComponentType;
 use crate::core_shapes::{InstanceType, ModuleType};
 use crate::defined_facts::value_facts;
 use crate::facts::Facts;
-use crate::ids::{AliasableResourceId, ResourceId};
+use crate::ids::{
+    AliasableResourceId, ComponentCoreInstanceTypeId, ComponentCoreModuleTypeId,
+    ComponentInstanceTypeId, ResourceId,
+};
+use crate::indexed_node::IndexedNode;
 use crate::instance_type::ComponentInstanceType;
+use crate::item_map::ComponentItem;
 use crate::lowered_types::LoweredTypes;
 use crate::nodes::Nodes;
 use crate::shapes::{ComponentDefinedType, ComponentFuncType, ComponentValType};
 use crate::sorts::NodeSort;
 use std::alloc::Global;
 use std::marker::Model;
-use wcv_core::{CoreTypes, OutOfMemory, WasmFeatures};
+use wcv_core::{CoreTypes, EntityType, OutOfMemory, Text, WasmFeatures};
 
 /// A node of the arena.
 #[derive(Drop)]
@@ -129,6 +137,7 @@ impl TypeAlloc {
         ensures last { IfOk result (λ place. place ≡ length self.old.nodes) }
         ensures err { OnErr result (self.new ≡ self.old) }
     {
+        let node = IndexedNode::new(self.alloc, node)?;
         let place = self.nodes.len();
         self.nodes.push(node, facts)?;
         Ok(place as u64)
@@ -179,6 +188,38 @@ impl TypeAlloc {
         ensures { listed result ≡ take 17 (open_flat (slot_tree (trees self.now.nodes) (option_slot ty))) }
     {
         value_facts(self, ty).flat
+    }
+
+    /// What the instance exports under the name. However much it exports, it takes the time of one look-up.
+    pub fn export_of(&self, id: ComponentInstanceTypeId, name: &Text) -> Option<&ComponentItem>
+        requires { Stands self.now (p.Instance id) }
+        ensures { option_copied result ≡ lookup (bytes_eq name.now) (exports_at self.now id) }
+    {
+        self.nodes.known(id.index as usize).node.export(name)
+    }
+
+    /// So of a core module.
+    pub fn module_export_of(
+        &self,
+        id: ComponentCoreModuleTypeId,
+        name: &Text,
+    ) -> Option<&EntityType>
+        requires { Stands self.now (p.Module id) }
+        ensures { option_copied result ≡ lookup (bytes_eq name.now) (module_exports_at self.now id) }
+    {
+        self.nodes.known(id.index as usize).node.core_export(name)
+    }
+
+    /// So of what a core instance lists.
+    pub fn listed_export_of(
+        &self,
+        id: ComponentCoreInstanceTypeId,
+        name: &Text,
+    ) -> Option<&EntityType>
+        requires { Stands self.now (p.CoreInstance id) }
+        ensures { option_copied result ≡ lookup (bytes_eq name.now) (listed_at self.now id) }
+    {
+        self.nodes.known(id.index as usize).node.core_export(name)
     }
 
     /// The node.

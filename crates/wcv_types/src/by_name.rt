@@ -20,7 +20,7 @@ fn place_at(places: &[usize], k: usize) -> Option<usize>
 
 /// The texts of a list, each once, and where each stands first.
 #[derive(Drop)]
-struct Firsts {
+pub(crate) struct Firsts {
     texts: TextSet,
     places: Vec<usize>,
 }
@@ -39,7 +39,7 @@ impl Firsts {
     }
 
     /// Where the text stands first.
-    fn find(&self, text: &str) -> Option<usize>
+    pub(crate) fn find(&self, text: &str) -> Option<usize>
         ensures { (us : List Bytes) → AreFirsts self.now.texts self.now.places.items us → result ≡ first_place text.now us }
     {
         match self.texts.find(text) {
@@ -50,7 +50,7 @@ impl Firsts {
 }
 
 /// The texts of the pairs, and where each stands first.
-fn firsts_of<V>(alloc: Global, entries: &[(Text, V)]) -> Result<Firsts, OutOfMemory>
+pub(crate) fn firsts_of<V>(alloc: Global, entries: &[(Text, V)]) -> Result<Firsts, OutOfMemory>
     ensures { IfOk result (λ f. AreFirsts f.texts f.places.items (texts_in entries.now)) }
 {
     let mut firsts = Firsts {
@@ -65,7 +65,7 @@ fn firsts_of<V>(alloc: Global, entries: &[(Text, V)]) -> Result<Firsts, OutOfMem
 
 /// The value of the first pair with this text, by a walk through the list.
 #[tactic(auto, using(crate::proofs::FirstPlaces::next_entry, crate::proofs::FirstPlaces::no_entry))]
-pub fn walk<'a, V>(entries: &'a [(Text, V)], key: &Text) -> Option<&'a V>
+pub(crate) fn walk<'a, V>(entries: &'a [(Text, V)], key: &Text) -> Option<&'a V>
     ensures { option_copied result ≡ lookup (bytes_eq key.now) entries.now }
 {
     for entry in entries {
@@ -77,7 +77,7 @@ pub fn walk<'a, V>(entries: &'a [(Text, V)], key: &Text) -> Option<&'a V>
 }
 
 /// The value of the pair at this position, where there is one.
-fn value_at<V>(entries: &[(Text, V)], place: Option<usize>) -> Option<&V>
+pub(crate) fn value_at<V>(entries: &[(Text, V)], place: Option<usize>) -> Option<&V>
     ensures { option_copied result ≡ value_in entries.now place }
 {
     match place {

@@ -134,6 +134,13 @@ impl ExportMap {
         self.entries.get(k)
     }
 
+    /// All pairs, lent.
+    pub(crate) fn as_slice(&self) -> &[(Text, EntityType)]
+        ensures { result.now ≡ self.now }
+    {
+        self.entries.as_slice()
+    }
+
     /// The same pairs, by their names. Who will ask for many names asks there.
     pub fn by_name(&self, alloc: Global) -> Result<ByName<'_, EntityType>, OutOfMemory>
         ensures { IfOk result (λ m. m ≡ self.now) }

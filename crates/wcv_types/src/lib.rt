@@ -25,6 +25,7 @@ mod free_variables;
 mod func_facts;
 mod func_sort;
 mod ids;
+mod indexed_node;
 mod info;
 mod instance_sort;
 mod instance_type;

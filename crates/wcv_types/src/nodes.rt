@@ -8,6 +8,7 @@ ghost use Rattle.wcv_types.specs.declared.arena.Node.{Node};
 
 use crate::arena::Node;
 use crate::facts::Facts;
+use crate::indexed_node::IndexedNode;
 use crate::shape_numbers::ShapeNumbers;
 use std::alloc::Global;
 use std::marker::Model;
@@ -17,7 +18,7 @@ use wcv_core::OutOfMemory;
 /// What a node is made of, and what is kept of it. Equal nodes share it.
 #[derive(Drop)]
 pub struct Known {
-    pub node: Node,
+    pub node: IndexedNode,
     pub facts: Facts,
 }
 
@@ -64,7 +65,7 @@ impl Nodes {
     }
 
     /// One more, behind all others. Out of memory they stay as they were.
-    pub fn push(&mut self, node: Node, facts: Facts) -> Result<(), OutOfMemory>
+    pub fn push(&mut self, node: IndexedNode, facts: Facts) -> Result<(), OutOfMemory>
         requires { IsFactsOf facts (tree_of (trees self.old) node) }
         ensures ok { OnOk result (self.new ≡ self.old ++ node ∷ []) }
         ensures err { OnErr result (self.new ≡ self.old) }
@@ -92,7 +93,7 @@ impl Nodes {
     }
 
     /// What is known of the node at that place, and the node.
-    fn known(&self, place: usize) -> &Known
+    pub fn known(&self, place: usize) -> &Known
         requires { place < length self.now }
         ensures node { slice_get self.now place ≡ Some result.now.node }
         ensures facts { IsFactsOf result.now.facts (tree_in (trees self.now) place) }
@@ -105,7 +106,7 @@ impl Nodes {
         requires { place < length self.now }
         ensures { slice_get self.now place ≡ Some result.now }
     {
-        &self.known(place).node
+        self.known(place).node.node()
     }
 
     /// What is kept of it.

@@ -1,0 +1,127 @@
+// Nodes with the places of the names that they export.
+ghost use Rattle.std.specs.Prelude.{◌≡◌, option_copied, bytes_eq, IfOk, IfSome};
+ghost use Rattle.std.specs.Map.{lookup};
+ghost use Rattle.wcv_types.specs.ByName.{AreFirsts, texts_in};
+ghost use Rattle.wcv_types.specs.Exported.{items_of, core_exports_of, names_of};
+
+use crate::arena::Node;
+use crate::by_name::{Firsts, firsts_of, value_at, walk};
+use crate::core_shapes::CoreInstanceTypeKind;
+use crate::item_map::ComponentItem;
+use std::alloc::Global;
+use std::marker::Model;
+use wcv_core::{EntityType, OutOfMemory, Text};
+
+/// Of up to so many exports a name is looked up by a walk. That takes about as long as a look-up in a set, and most
+/// types export no more, so they keep no copy of their names.
+const MAX_WALKED: usize = 32;
+
+/// The places of the names, where they are many.
+fn firsts_of_many<V>(
+    alloc: Global,
+    entries: &[(Text, V)],
+) -> Result<Option<Box<Firsts>>, OutOfMemory>
+    ensures { IfOk result (λ o. IfSome o (λ f. AreFirsts f.value.texts f.value.places.items (texts_in entries.now))) }
+{
+    if entries.len() <= MAX_WALKED {
+        return Ok(None);
+    }
+    let firsts = Box::new(alloc, firsts_of(alloc, entries)?)?;
+    Ok(Some(firsts))
+}
+
+/// The places of the names that the node exports, where they are many.
+fn firsts_in(alloc: Global, node: &Node) -> Result<Option<Box<Firsts>>, OutOfMemory>
+    ensures { IfOk result (λ o. IfSome o (λ f. AreFirsts f.value.texts f.value.places.items (names_of node.now))) }
+{
+    match node {
+        Node::Instance(shape) => firsts_of_many(alloc, shape.exports.as_slice()),
+        Node::Module(shape) => firsts_of_many(alloc, shape.exports.as_slice()),
+        Node::CoreInstance(shape) => match &shape.kind {
+            CoreInstanceTypeKind::Exports(exports) => firsts_of_many(alloc, exports.as_slice()),
+            CoreInstanceTypeKind::Instantiated(_) => Ok(None),
+        },
+        _ => Ok(None),
+    }
+}
+
+/// The value of the first pair with this text.
+#[tactic(auto, using(crate::proofs::FirstPlaces::found))]
+fn look_up<'a, V>(
+    firsts: &Option<Box<Firsts>>,
+    entries: &'a [(Text, V)],
+    key: &Text,
+) -> Option<&'a V>
+    requires { IfSome firsts.now (λ f. AreFirsts f.value.texts f.value.places.items (texts_in entries.now)) }
+    ensures { option_copied result ≡ lookup (bytes_eq key.now) entries.now }
+{
+    match firsts {
+        Some(firsts) => value_at(entries, firsts.find(key.as_str())),
+        None => walk(entries, key),
+    }
+}
+
+/// A node and, where it exports many names, their places. Contracts see it as the node.
+///
+/// The places stand apart, since most nodes have none.
+#[derive(Drop)]
+pub struct IndexedNode {
+    node: Node,
+    firsts: Option<Box<Firsts>>,
+}
+
+impl Model for IndexedNode {
+    ghost use Rattle.std.specs.Prelude.{IfSome};
+    ghost use Rattle.wcv_types.specs.ByName.{AreFirsts};
+    ghost use Rattle.wcv_types.specs.Exported.{names_of};
+    ghost use Rattle.wcv_types.specs.declared.arena.Node.{Node};
+
+    ghost Value = { Node };
+
+    ghost view = { λ x. x.node };
+
+    ghost invariant = { λ x. IfSome x.firsts (λ f. AreFirsts f.value.texts f.value.places.items (names_of x.node)) };
+}
+
+impl IndexedNode {
+    /// The node with the places of its names.
+    pub fn new(alloc: Global, node: Node) -> Result<IndexedNode, OutOfMemory>
+        ensures { IfOk result (λ x. x ≡ node) }
+    {
+        let firsts = firsts_in(alloc, &node)?;
+        Ok(IndexedNode { node, firsts })
+    }
+
+    /// The node.
+    pub fn node(&self) -> &Node
+        ensures { result.now ≡ self.now }
+    {
+        &self.node
+    }
+
+    /// What an instance type exports under the name.
+    pub fn export(&self, name: &Text) -> Option<&ComponentItem>
+        ensures { option_copied result ≡ lookup (bytes_eq name.now) (items_of self.now) }
+    {
+        match &self.node {
+            Node::Instance(shape) => look_up(&self.firsts, shape.exports.as_slice(), name),
+            _ => None,
+        }
+    }
+
+    /// What a core module exports under the name, or what a core instance lists under it.
+    pub fn core_export(&self, name: &Text) -> Option<&EntityType>
+        ensures { option_copied result ≡ lookup (bytes_eq name.now) (core_exports_of self.now) }
+    {
+        match &self.node {
+            Node::Module(shape) => look_up(&self.firsts, shape.exports.as_slice(), name),
+            Node::CoreInstance(shape) => match &shape.kind {
+                CoreInstanceTypeKind::Exports(exports) => {
+                    look_up(&self.firsts, exports.as_slice(), name)
+                }
+                CoreInstanceTypeKind::Instantiated(_) => None,
+            },
+            _ => None,
+        }
+    }
+}
