@@ -1,5 +1,5 @@
 // Whether core instances serve the imports of a core module.
-ghost use Rattle.std.specs.Prelude.{◌≡◌, All, IfOk, IfErr, IfSome, OnOk, bytes_eq};
+ghost use Rattle.std.specs.Prelude.{◌≡◌, All, IfOk, IfErr, IfSome, OnOk, bytes_eq, option_copied};
 ghost use Rattle.std.specs.Map.{lookup};
 ghost use Rattle.wcv_core.specs.CoreGroups.{total};
 ghost use Rattle.wcv_core.specs.CoreSizes.{IsEntityWithin};
@@ -24,7 +24,7 @@ use wcv_types::{
 };
 
 /// What a core instance exports: what its module does, or what it lists.
-pub fn core_exports(types: &TypeAlloc, id: ComponentCoreInstanceTypeId) -> &ExportMap
+fn core_exports(types: &TypeAlloc, id: ComponentCoreInstanceTypeId) -> &ExportMap
     requires { Stands types.now (p.CoreInstance id) }
     ensures exports { result.now ≡ instance_exports (tree_at types.now (p.CoreInstance id)) }
     ensures within { All (λ e. IsEntityWithin (total types.now.core) e.1) result.now }
@@ -33,6 +33,26 @@ pub fn core_exports(types: &TypeAlloc, id: ComponentCoreInstanceTypeId) -> &Expo
     match &types.get(id).kind {
         CoreInstanceTypeKind::Exports(exports) => exports,
         CoreInstanceTypeKind::Instantiated(module) => &types.get(*module).exports,
+    }
+}
+
+/// What a core instance exports under the name. However much it exports, it takes the time of one look-up.
+pub fn core_export_of<'a>(
+    types: &'a TypeAlloc,
+    id: ComponentCoreInstanceTypeId,
+    name: &Text,
+) -> Option<&'a EntityType>
+    requires { Stands types.now (p.CoreInstance id) }
+    ensures export { option_copied result ≡ lookup (bytes_eq name.now) (instance_exports (tree_at types.now (p.CoreInstance id))) }
+    ensures within { IfSome (option_copied result) (IsEntityWithin (total types.now.core)) }
+{
+    types.modules_within();
+    match &types.get(id).kind {
+        CoreInstanceTypeKind::Exports(_) => types.listed_export_of(id, name),
+        CoreInstanceTypeKind::Instantiated(module) => {
+            let _ = types.get(*module);
+            types.module_export_of(*module, name)
+        }
     }
 }
 

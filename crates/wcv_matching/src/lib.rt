@@ -7,7 +7,7 @@ mod core_items;
 mod laws;
 mod modules;
 
-pub use core_args::{core_arguments, core_exports};
+pub use core_args::{core_arguments, core_export_of};
 pub use core_items::{entity_type, memory_type, same_val, table_type};
 pub use laws::{
     a_type_matches_itself, at_most_one_substitution_opens, groups_behind_change_no_matching,

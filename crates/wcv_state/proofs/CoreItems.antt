@@ -1,9 +1,7 @@
 -- Core items by their sort: what stands in a state stands in its context, and one more joins both.
-use Rattle.std.proofs.Common.{◌≡◌, ℕ, List, [], ◌∷◌, All, bytes_eq, cond, refl, sym, ◌∙◌, ap, subst, arith, Bool, true, false, Some, None, min}
+use Rattle.std.proofs.Common.{◌≡◌, ℕ, [], ◌∷◌, refl, sym, ◌∙◌, ap, subst, arith, true, Some, None, min}
 use Rattle.std.specs.Prelude.{Option, slice_get, nat_le}
-use Rattle.std.specs.Map.{lookup}
 use Rattle.std.specs.Option.{option_map}
-use Rattle.std.proofs.lemmas.List.Elements.{All-head, All-tail}
 use Rattle.std.proofs.lemmas.Bool.{false≢true}
 use Rattle.std.proofs.lemmas.Bool.Decides.{nat_tests}
 use Rattle.std.proofs.lemmas.Option.{slice_get-map}
@@ -16,7 +14,7 @@ use Rattle.wcv_core.specs.declared.error.ErrorKind.TheVariants as error
 use Rattle.wcv_syntax.specs.declared.core_section.ExternalKind.{ExternalKind}
 use Rattle.wcv_syntax.specs.declared.core_section.ExternalKind.TheVariants as kind
 use Rattle.wcv_types.specs.Arena.{Arena}
-use Rattle.wcv_types.specs.Tree.{Text, core_item, node, none}
+use Rattle.wcv_types.specs.Tree.{core_item, node, none}
 use Rattle.wcv_types.specs.Unfold.{Type_tree, trees}
 use Rattle.wcv_types.proofs.Lists.{some-inj}
 use Rattle.wcv_lower.specs.Checks.{Counts, full, missing}
@@ -45,15 +43,6 @@ item_tree e = node (core_item e) none
 mapped-twice : {A B C : Type 0} (f : B → C) (g : A → B) (o : Option A) → option_map f (option_map g o) ≡ option_map (λ x. f (g x)) o
 mapped-twice f g None = refl
 mapped-twice f g (Some x) = refl
-
--- what is found by a name is one of the list
-pub lookup_within : (W : EntityType → Type 0) (n : Text) (es : List (Text × EntityType)) (x : EntityType) → All (λ (e : Text × EntityType). W e.1) es → lookup (bytes_eq n) es ≡ Some x → W x
-lookup_within W n [] x h e = absurd (cc)
-lookup_within W n (y ∷ es) x h e = go (bytes_eq n y.0) e (lookup_within W n es x (All-tail (λ (e : Text × EntityType). W e.1) y es h))
-  where
-    go : (b : Bool) → cond b (Some y.1) (lookup (bytes_eq n) es) ≡ Some x → (lookup (bytes_eq n) es ≡ Some x → W x) → W x
-    go true f later = subst W (some-inj f) (All-head (λ (e : Text × EntityType). W e.1) y es h)
-    go false f later = later f
 
 -- ## What stands at an index
 

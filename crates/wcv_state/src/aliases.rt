@@ -29,7 +29,7 @@ use crate::marks::mark_all_spent;
 use crate::outer_aliases::add_outer_alias;
 use crate::state::ComponentState;
 use wcv_core::{EntityType, Error, ErrorKind, Refusal, Text, Why};
-use wcv_matching::core_exports;
+use wcv_matching::core_export_of;
 use wcv_syntax::{ComponentAlias, ExternalKind};
 use wcv_types::{ComponentCoreInstanceTypeId, TypeAlloc};
 
@@ -62,7 +62,7 @@ fn core_export(
     ensures within { IfOk result (IsEntityWithin (total types.now.core)) }
     ensures err { IfErr result (CausedBy (export_checks kind (lookup (bytes_eq name.now) (instance_exports (tree_at types.now (part.CoreInstance id))))) offset) }
 {
-    match core_exports(types, id).get(name) {
+    match core_export_of(types, id, name) {
         Some(item) => {
             if is_of(kind, item) {
                 return Ok(*item);

@@ -4,6 +4,7 @@ ghost use Rattle.wcv_core.specs.Names.{Place};
 ghost use Rattle.wcv_core.specs.declared.error.ErrorKind.TheVariants as kinds;
 ghost use Rattle.wcv_syntax.specs.Model.{alias_item};
 ghost use Rattle.wcv_types.specs.Entities.{entry_trees, EntryStands};
+ghost use Rattle.wcv_types.specs.Exported.{exports_at};
 ghost use Rattle.wcv_types.specs.Standing.{Stands};
 ghost use Rattle.wcv_types.specs.Tree.{exports};
 ghost use Rattle.wcv_types.specs.Unfold.{tree_at, trees};
@@ -162,25 +163,28 @@ impl fmt::Display for Others<'_> {
 /// What the instance exports.
 fn exports_of(types: &TypeAlloc, id: ComponentInstanceTypeId) -> &ItemMap
     requires { Stands types.now (part.Instance id) }
-    ensures trees { exports (tree_at types.now (part.Instance id)) ≡ entry_trees (trees types.now.nodes) result.now }
-    ensures stand { All (EntryStands types.now) result.now }
+    ensures is { result.now ≡ exports_at types.now id }
+    ensures trees { exports (tree_at types.now (part.Instance id)) ≡ entry_trees (trees types.now.nodes) (exports_at types.now id) }
+    ensures stand { All (EntryStands types.now) (exports_at types.now id) }
 {
     &types.get(id).exports
 }
 
 /// What is exported under the name, which is to be of the sort.
 fn named_export(
-    exports: &ItemMap,
+    types: &TypeAlloc,
+    id: ComponentInstanceTypeId,
     kind: ComponentExternalKind,
     name: &Text,
     offset: u64,
 ) -> Result<ComponentEntityType, Error>
-    ensures ok { IfOk result (λ x. export_id exports.now name.now ≡ Some x) }
+    requires { Stands types.now (part.Instance id) }
+    ensures ok { IfOk result (λ x. export_id (exports_at types.now id) name.now ≡ Some x) }
     ensures sort { IfOk result (λ x. aliasing.is_kind kind x ≡ true) }
-    ensures err { IfErr result (CausedBy (export_id_checks kind (export_id exports.now name.now)) offset) }
+    ensures err { IfErr result (CausedBy (export_id_checks kind (export_id (exports_at types.now id) name.now)) offset) }
 {
     let named = Excerpt(name.as_str());
-    match exports.get(name) {
+    match types.export_of(id, name) {
         Some(item) => {
             if is_kind(kind, &item.ty) {
                 return Ok(item.ty);
@@ -194,7 +198,7 @@ fn named_export(
         }
         None => {
             let others = Others {
-                exports,
+                exports: exports_of(types, id),
                 name: name.as_str(),
             };
             Err(Error::told(
@@ -224,7 +228,8 @@ impl ComponentState {
         check_kind(&self.features, kind, offset)?;
         check_sort(self.kind, kind, offset)?;
         let id = self.instance_at(index, offset)?;
-        let item = named_export(exports_of(types, id), kind, name, offset)?;
+        let _ = exports_of(types, id);
+        let item = named_export(types, id, kind, name, offset)?;
         check_sort_room(&self.spaces, kind, offset)?;
         Ok(item)
     }

@@ -1,8 +1,7 @@
 // Imports and exports of a core module by name.
-ghost use Rattle.std.specs.Prelude.{◌≡◌, List, [], ◌∷◌, ◌++◌, length, take, slice_get, option_copied, bytes_eq, IfOk, OnOk, OnErr};
-ghost use Rattle.std.specs.Map.{lookup};
+ghost use Rattle.std.specs.Prelude.{◌≡◌, List, [], ◌∷◌, ◌++◌, length, take, slice_get, option_copied, IfOk, OnOk, OnErr};
 
-use crate::by_name::{ByName, walk};
+use crate::by_name::ByName;
 use std::alloc::Global;
 use std::marker::Model;
 use wcv_core::{EntityType, OutOfMemory, Text};
@@ -146,13 +145,6 @@ impl ExportMap {
         ensures { IfOk result (λ m. m ≡ self.now) }
     {
         ByName::new(alloc, self.entries.as_slice())
-    }
-
-    /// What the first pair with this name exports, by a walk through the list.
-    pub fn get(&self, key: &Text) -> Option<&EntityType>
-        ensures { option_copied result ≡ lookup (bytes_eq key.now) self.now }
-    {
-        walk(self.entries.as_slice(), key)
     }
 
     /// An equal map.

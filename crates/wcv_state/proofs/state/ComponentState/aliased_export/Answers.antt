@@ -5,6 +5,7 @@ use Rattle.std.proofs.lemmas.Result.{err_from_is_err_and}
 use Rattle.wcv_core.specs.declared.error.ErrorKind.TheVariants as kind
 use Rattle.wcv_core.proofs.Closing.{caused_same}
 use Rattle.wcv_types.specs.Entities.{entity_tree}
+use Rattle.wcv_types.specs.Exported.{exports_at}
 use Rattle.wcv_types.specs.Unfold.{trees}
 use Rattle.wcv_types.specs.declared.shapes.ComponentEntityType.{ComponentEntityType}
 use Rattle.wcv_lower.specs.Aliases.{is_admitted, sort_named}
@@ -19,6 +20,9 @@ use Rattle.wcv_state.proofs.state.ComponentState.aliased_export.Goals as goal
 
 pub exports_of-requires : goal.exports_of-requires
 exports_of-requires c = instance_stands c.args.types.now c.args.self.now c.requires c.args.kind c.args.index c.args.name.now c.in_ok-id.id c.in_ok-id.ensures.ok
+
+pub named_export-requires : goal.named_export-requires
+named_export-requires c = instance_stands c.args.types.now c.args.self.now c.requires c.args.kind c.args.index c.args.name.now c.in_ok-id.id c.in_ok-id.ensures.ok
 
 pub returns-in_err-check_kind-clause-err : goal.returns-in_err-check_kind-clause-err
 returns-in_err-check_kind-clause-err c =
@@ -41,7 +45,7 @@ pub returns-in_err-item-clause-err : goal.returns-in_err-item-clause-err
 returns-in_err-item-clause-err c =
     let q = err_from_is_err_and c.from_residual-in_err-item.result c.from_residual-in_err-item.ensures.1 in
     rw (q.1, q.2)
-    (name_caused c.args.types.now c.args.self.now c.requires c.args.kind c.args.index c.args.name.now c.args.offset c.in_err-item.field-0.0 c.in_ok-id.id c.in_ok-id.ensures.ok c.exports_of.result.now c.exports_of.ensures.trees c.exports_of.ensures.stand
+    (name_caused c.args.types.now c.args.self.now c.requires c.args.kind c.args.index c.args.name.now c.args.offset c.in_err-item.field-0.0 c.in_ok-id.id c.in_ok-id.ensures.ok (exports_at c.args.types.now c.in_ok-id.id) c.exports_of.ensures.trees c.exports_of.ensures.stand
     (inr c.in_err-item.ensures.err))
 
 pub returns-in_err-check_sort_room-clause-err : goal.returns-in_err-check_sort_room-clause-err
@@ -54,9 +58,9 @@ pub returns-clause-ok : goal.returns-clause-ok
 returns-clause-ok c = record {
   instance = c.in_ok-id.id;
   at = c.in_ok-id.ensures.ok;
-  export = export_same c.args.types.now c.in_ok-id.id c.args.name.now c.exports_of.result.now c.exports_of.ensures.trees ∙ ap (λ (o : Option ComponentEntityType). option_map (entity_tree (trees c.args.types.now.nodes)) o) c.in_ok-item.ensures.ok;
+  export = export_same c.args.types.now c.in_ok-id.id c.args.name.now (exports_at c.args.types.now c.in_ok-id.id) c.exports_of.ensures.trees ∙ ap (λ (o : Option ComponentEntityType). option_map (entity_tree (trees c.args.types.now.nodes)) o) c.in_ok-item.ensures.ok;
   sort = c.in_ok-item.ensures.sort;
-  stands = export_stands c.args.types.now c.args.name.now c.exports_of.result.now c.exports_of.ensures.stand c.in_ok-item.item c.in_ok-item.ensures.ok;
+  stands = export_stands c.args.types.now c.args.name.now (exports_at c.args.types.now c.in_ok-id.id) c.exports_of.ensures.stand c.in_ok-item.item c.in_ok-item.ensures.ok;
 }
 
 pub returns-clause-free : goal.returns-clause-free
