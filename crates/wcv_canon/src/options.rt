@@ -141,7 +141,7 @@ fn realloc_form(pointer: ValType) -> &'static str {
     }
 }
 
-/// The refusal of an option that no feature brings yet.
+/// The refusal of an option that no feature brings.
 fn unsupported(option: CanonicalOption, offset: u64) -> Error
     ensures kind { error_kind result ≡ ErrorKind.Feature }
     ensures offset { error_offset result ≡ offset }

@@ -1,8 +1,7 @@
 -- Declared types: what is read and its causes under a map of entries.
-use Rattle.std.proofs.Common.{◌≡◌, ℕ, suc, List, [], ◌∷◌, ◌++◌, refl, sym, ◌∙◌, ap, subst, Bool, true, false, Some, None}
+use Rattle.std.proofs.Common.{◌≡◌, ℕ, suc, List, [], ◌∷◌, ◌++◌, refl, ◌∙◌, ap, subst, Bool, true, Some, None}
 use Rattle.std.specs.Prelude.{Option}
 use Rattle.std.specs.Option.{option_map, option_and_then}
-use Rattle.std.proofs.lemmas.Bool.{false≢true}
 use Rattle.wcv_core.specs.Limits.{max_open}
 use Rattle.wcv_core.specs.Names.{Place, deeper}
 use Rattle.wcv_core.specs.declared.features.WasmFeatures.{WasmFeatures}
@@ -11,15 +10,14 @@ use Rattle.wcv_syntax.specs.declared.component_type.ComponentTypeRef.{ComponentT
 use Rattle.wcv_syntax.specs.declared.name.ComponentExternName.{ComponentExternName}
 use Rattle.wcv_lower.specs.Aliases.{alias_step}
 use Rattle.wcv_lower.specs.Checks.{Checks, too_many, no_type_room}
-use Rattle.wcv_lower.specs.Context.{Kind, concrete, declares_instance, declares_component, is_concrete, in_components, Context, Stack, exporting}
+use Rattle.wcv_lower.specs.Context.{Kind, concrete, declares_instance, declares_component, in_components, Context, Stack, exporting}
 use Rattle.wcv_lower.specs.Declared.{Makers, inside, around, closed_as, ended, full_stack, applied, declared_export_step, declared_export_checks, read_type, read_decl, read_decls, on_read, declared_checks, decl_checks, decls_checks}
 use Rattle.wcv_lower.specs.DeclaredMaps.{TypeAlike, DeclAlike, DeclsAlike}
 use Rattle.wcv_lower.specs.Ending.{declared_made}
 use Rattle.wcv_lower.specs.Entries.{extern_name, written, written_checks}
 use Rattle.wcv_lower.specs.Mapped.{Map, Commutes, IsKnown, MakesSame, map_context, map_stack, map_step, map_node}
-use Rattle.wcv_lower.specs.Readers.{Reader, Maker, New_node}
+use Rattle.wcv_lower.specs.Readers.{Reader, New_node}
 use Rattle.wcv_lower.specs.Step.{appends, Step, apply, joins_types}
-use Rattle.wcv_lower.specs.Types.{added}
 use Rattle.wcv_lower.specs.Uses.{ref_uses, uses_node}
 use Rattle.wcv_lower.proofs.AliasLaws.{alias_step-mapped, alias_checks-mapped}
 use Rattle.wcv_lower.proofs.CoreLaws.{core_type_checks-mapped}
@@ -40,12 +38,6 @@ then-mapped f g u v (Some x) h = h x refl
 pub then-some : {A B : Type 0} (f : A → Option B) (o : Option A) (y : B) → option_and_then f o ≡ Some y → (x : A) × (o ≡ Some x) × (f x ≡ Some y)
 then-some f None y e = cc
 then-some f (Some x) y e = (x, refl, e)
-
--- the node of a declared type joins the types
-pub closed_as-declared : {X : Reader} (k : Kind) (mk : Maker X) (n : New_node X) → is_concrete k ≡ false → closed_as k mk n ≡ added mk n
-closed_as-declared concrete mk n e = absurd (false≢true (sym e))
-closed_as-declared declares_instance mk n e = refl
-closed_as-declared declares_component mk n e = refl
 
 module _ {X Y : Reader} (m : Map X Y) {Known : X.Entry → Type 0} (law : Commutes m Known) (fs : WasmFeatures) (k : Makers X) (l : Makers Y) where
   applied-mapped : (s : Stack X) (o : Option (Step X)) (p : Option (Step Y)) → p ≡ option_map (map_step m) o → applied (map_stack m s) p ≡ option_map (map_stack m) (applied s o)

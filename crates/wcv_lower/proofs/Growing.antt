@@ -5,14 +5,14 @@ use Rattle.wcv_core.specs.Names.{Name, Place}
 use Rattle.wcv_core.specs.declared.features.WasmFeatures.{WasmFeatures}
 use Rattle.wcv_syntax.specs.Model.{Form}
 use Rattle.wcv_types.specs.Rename.{rename}
-use Rattle.wcv_lower.specs.Ending.{type_at_end, end_checks}
+use Rattle.wcv_lower.specs.Ending.{type_at_end}
 use Rattle.wcv_lower.specs.Growth.{grow, checks}
 use Rattle.wcv_lower.specs.Mapped.{IsKnown, map_context, map_stack}
 use Rattle.wcv_lower.specs.Names.{Names, Under, AreRenamed}
 use Rattle.wcv_lower.specs.Renamed.{Renaming, renaming}
 use Rattle.wcv_lower.specs.Trees.{Tree_context, Tree_stack, tree_maker, node_tree}
 use Rattle.wcv_lower.specs.Uses.{uses}
-use Rattle.wcv_lower.proofs.EndingLaws.{type_at_end-mapped, end_checks-mapped}
+use Rattle.wcv_lower.proofs.EndingLaws.{type_at_end-mapped}
 use Rattle.wcv_lower.proofs.GrowthLaws.{grow-mapped, checks-mapped}
 use Rattle.wcv_lower.proofs.MadeRenamed.{node_tree-renamed, makes_renamed}
 use Rattle.wcv_lower.proofs.Renamed.{renaming_commutes}
@@ -33,6 +33,3 @@ checks-renamed w n m p r fs s f = checks-mapped (renaming w) (renaming_commutes 
 
 pub type_at_end-renamed : (w : Renaming) (i : Name) (c : Tree_context) → type_at_end (node_tree (w.identities.to i)) (map_context (renaming w) c) ≡ option_map (rename w.resources.to w.identities.to) (type_at_end (node_tree i) c)
 type_at_end-renamed w i c = type_at_end-mapped (renaming w) (renaming_commutes w) (node_tree i) (node_tree (w.identities.to i)) (node_tree-renamed w i) c
-
-pub end_checks-renamed : (w : Renaming) (c : Tree_context) → end_checks (map_context (renaming w) c) ≡ end_checks c
-end_checks-renamed w c = end_checks-mapped (renaming w) (renaming_commutes w) c

@@ -1,7 +1,6 @@
 -- Matching as it is decided is the test that the rules make of an item and the type that is written beside it.
 use Rattle.std.proofs.Common.{◌≡◌, ℕ, [], ◌∷◌, ap, sym, ◌∙◌, subst, Bool, true, false, not, ◌&&◌, refl, inl, inr}
 use Rattle.std.specs.Bool.{Decides}
-use Rattle.wcv_core.specs.Refusal.{error_kind, error_offset}
 use Rattle.wcv_core.specs.declared.error.Error.{Error}
 use Rattle.wcv_core.specs.declared.error.ErrorKind.TheVariants as kind
 use Rattle.wcv_types.specs.Arena.{Arena}
@@ -33,10 +32,6 @@ module _ (a : Arena) (y x : ComponentEntityType) where
 
   abbrev expected : Type_tree
   expected = entity_tree (trees a.nodes) x
-
-  -- what brings resources of its own is matched by nothing
-  pub ascribed_brings : {M : Type 0} (offset : ℕ) (e : Error M) → brings_own a x ≡ true → error_kind e ≡ kind.Mismatch → error_offset e ≡ offset → MemoryOrCausedBy (ascribed_id_checks a y x) offset e
-  ascribed_brings offset e q k o = inr (inl (k, ap (λ (v : Bool). not (not v && tree_reader.matches a.core item expected)) q), o)
 
   module _ (fit : AllFit a) (table : IsTable a.core) (hy : EntityStands a y) (hx : EntityStands a x) (q : brings_own a x ≡ false) where
     pub test_decides : Decides (tree_reader.matches a.core item expected) (TypeMatches a.core item expected)

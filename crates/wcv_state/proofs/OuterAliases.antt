@@ -24,7 +24,7 @@ use Rattle.wcv_lower.specs.Context.{core_types, core_modules, in_types, in_compo
 use Rattle.wcv_lower.specs.Declared.{applied}
 use Rattle.wcv_lower.specs.Step.{Step, change_at, on_outer, charges, change, apply}
 use Rattle.wcv_lower.specs.Trees.{Tree_context, Tree_stack, tree_reader}
-use Rattle.wcv_state.specs.Aliasing.{outer_id, outer_in, aliased_tree, with_aliased, charge_of, boundary_checks, after_target, charge_in, outer_id_checks, is_outer, OuterFinds, AliasedOn}
+use Rattle.wcv_state.specs.Aliasing.{outer_id, outer_in, aliased_tree, with_aliased, charge_of, boundary_checks, after_target, charge_in, outer_id_checks, OuterFinds, AliasedOn}
 use Rattle.wcv_state.specs.Contents.{Contents, kind_of, id_tree, core_tree, context_of, stack_of, with_charge}
 use Rattle.wcv_state.specs.Entering.{room_counts}
 use Rattle.wcv_state.specs.Promises.{Grew}
@@ -311,30 +311,9 @@ inside_aliased a ss ss' x w g = record {
   live = (g []).live;
 }
 
--- one that is no outer alias
-pub not_outer : (x : ComponentAlias) → ((w : ComponentOuterAliasKind) (n i : ℕ) → x ≡ alias.Outer w n i → ⊥) → is_outer x ≡ false
-not_outer (alias.InstanceExport w i n) h = refl
-not_outer (alias.CoreInstanceExport w i n) h = refl
-not_outer (alias.Outer w n i) h = absurd (h w n i refl)
-
 -- ## What crosses into a state
 
 module _ (w : ComponentOuterAliasKind) (s : Contents) (t : Type_tree) where
-  -- nothing is charged
-  pub crosses_not : (is_charged w && is_concrete (kind_of s.kind)) ≡ false → (0 ≡ charge_of w s t) × IsFree (boundary_checks w s t)
-  crosses_not e = (
-    sym (ap (λ (b : Bool). cond b (tree_reader.size t) 0) e),
-    (
-      neither (is_charged w) (is_concrete (kind_of s.kind)) (tree_reader.has_free t) e,
-      (neither (is_charged w) (is_concrete (kind_of s.kind)) (nat_lt max_size (s.aliased + tree_reader.size t)) e, tt),
-    ),
-  )
-    where
-      neither : (a b c : Bool) → (a && b) ≡ false → (a && (b && c)) ≡ false
-      neither true true c e = absurd (false≢true (sym e))
-      neither true false c e = refl
-      neither false b c e = refl
-
   -- the size is
   pub crosses : (is_charged w && is_concrete (kind_of s.kind)) ≡ true → (tree_reader.size t ≡ charge_of w s t) × (boundary_checks w s t ≡ (error.ResourceScope, tree_reader.has_free t) ∷ (error.Limit, nat_lt max_size (s.aliased + tree_reader.size t)) ∷ [])
   crosses e = (

@@ -1,8 +1,7 @@
 -- What the calls for an outer alias look at, and what they make of the states.
-use Rattle.std.proofs.Common.{◌≡◌, ◌≢◌, ℕ, zero, suc, ◌+◌, ◌<◌, ◌≤◌, ◌-◌, List, [], ◌∷◌, ◌++◌, length, get_or, slice_set, slice_index_or, refl, sym, ◌∙◌, ap, subst, arith, true, false, not, ◌&&◌, Some, None, All}
+use Rattle.std.proofs.Common.{◌≡◌, ◌≢◌, ℕ, zero, suc, ◌+◌, ◌<◌, ◌≤◌, ◌-◌, List, [], ◌∷◌, ◌++◌, length, get_or, slice_set, slice_index_or, refl, sym, ◌∙◌, ap, subst, arith, false, not, ◌&&◌, Some, None, All}
 use Rattle.std.specs.Prelude.{Option, reverse, slice_get, option_to_list}
 use Rattle.std.specs.Option.{option_map, option_and_then}
-use Rattle.std.proofs.lemmas.Bool.{false≢true}
 use Rattle.std.proofs.lemmas.List.{length-set, length-reverse}
 use Rattle.std.proofs.lemmas.List.Elements.{All-nil, All-cons, All-head}
 use Rattle.std.proofs.lemmas.Option.{slice_get_within, slice_get_past}
@@ -16,10 +15,9 @@ use Rattle.wcv_syntax.specs.declared.instance.ComponentAlias.TheVariants as alia
 use Rattle.wcv_syntax.specs.declared.instance.ComponentOuterAliasKind.{ComponentOuterAliasKind}
 use Rattle.wcv_syntax.specs.declared.instance.ComponentOuterAliasKind.TheVariants as kind
 use Rattle.wcv_types.specs.Arena.{Arena}
-use Rattle.wcv_types.specs.declared.ids.ComponentAnyTypeId.{ComponentAnyTypeId}
 use Rattle.wcv_types.specs.declared.shapes.ComponentEntityType.TheVariants as entity
 use Rattle.wcv_types.proofs.Lists.{some-inj}
-use Rattle.wcv_lower.specs.Aliases.{is_charged, outer_admitted, outer_room}
+use Rattle.wcv_lower.specs.Aliases.{outer_admitted, outer_room}
 use Rattle.wcv_lower.specs.Checks.{Checks, IsFree, if_found, is_none, missing}
 use Rattle.wcv_lower.specs.Context.{core_types, core_modules, in_types, in_components, is_concrete}
 use Rattle.wcv_lower.specs.Growth.{call_checks}
@@ -27,8 +25,8 @@ use Rattle.wcv_lower.specs.Names.{Names}
 use Rattle.wcv_lower.specs.Step.{change_at}
 use Rattle.wcv_lower.specs.Trees.{Tree_context, tree_maker}
 use Rattle.wcv_lower.proofs.Causes.{cause_left, cause_right, free_both}
-use Rattle.wcv_state.specs.Aliasing.{outer_id, outer_in, aliased_tree, with_aliased, is_entity, AliasedStands, boundary_checks, after_target, outer_id_checks, OuterFinds, AliasedOn}
-use Rattle.wcv_state.specs.Contents.{Contents, SpaceLists, kind_of, stack_of, with_charge, CoreIdStands, StateStands}
+use Rattle.wcv_state.specs.Aliasing.{outer_id, outer_in, aliased_tree, with_aliased, AliasedStands, boundary_checks, after_target, outer_id_checks, OuterFinds, AliasedOn}
+use Rattle.wcv_state.specs.Contents.{Contents, kind_of, stack_of, with_charge, CoreIdStands, StateStands}
 use Rattle.wcv_state.specs.Entering.{room_counts}
 use Rattle.wcv_state.specs.Promises.{MemoryOrCausedBy, Keeps, Grew}
 use Rattle.wcv_state.specs.Stack.{IsOpen, KeepsOn, innermost, around, contexts_around, stack_on}
@@ -56,13 +54,6 @@ outer_stands a t h kind.CoreModule i x e =
 outer_stands a t h kind.CoreType i x e = found_at aliased.CoreType (slice_get t.spaces.core_types i) x (AliasedStands a) (λ y q. all_at (CoreIdStands a core_types) t.spaces.core_types i y (h.core core_types) q) e
 outer_stands a t h kind.Ty i x e = found_at (λ y. aliased.Entity (entity.Ty y y)) (slice_get t.spaces.types i) x (AliasedStands a) (λ y q. stands_at a t h in_types i y q) e
 outer_stands a t h kind.Component i x e = found_at (λ y. aliased.Entity (entity.Component y)) (slice_get t.spaces.components i) x (AliasedStands a) (λ y q. stands_at a t h in_components i y q) e
-
--- what is charged is no core type
-pub outer_sort : (w : ComponentOuterAliasKind) (s : SpaceLists) (i : ℕ) (x : Aliased) → outer_id w s i ≡ Some x → is_charged w ≡ true → is_entity x ≡ true
-outer_sort kind.CoreModule s i x e h = absurd (false≢true h)
-outer_sort kind.CoreType s i x e h = absurd (false≢true h)
-outer_sort kind.Ty s i x e h = found_at (λ (y : ComponentAnyTypeId). aliased.Entity (entity.Ty y y)) (slice_get s.types i) x (λ z. is_entity z ≡ true) (λ y q. refl) e
-outer_sort kind.Component s i x e h = found_at (λ y. aliased.Entity (entity.Component y)) (slice_get s.components i) x (λ z. is_entity z ≡ true) (λ y q. refl) e
 
 -- ## So far out
 

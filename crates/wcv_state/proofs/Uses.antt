@@ -1,21 +1,18 @@
--- Values that are used one after another: the causes are those of all at once. What is not used in the end.
-use Rattle.std.proofs.Common.{◌≡◌, ℕ, zero, suc, List, [], ◌∷◌, ◌++◌, map, length, slice_set, refl, sym, ◌∙◌, ap, subst, append_assoc, Bool, true, false, ◌||◌, cond, Some, inl, inr, ⊎_elim}
-use Rattle.std.specs.Prelude.{Option, slice_get, not, ◌&&◌}
-use Rattle.std.specs.List.{list_all}
+-- Values that are used one after another: the causes are those of all at once.
+use Rattle.std.proofs.Common.{◌≡◌, ℕ, zero, suc, List, [], ◌∷◌, ◌++◌, length, slice_set, refl, sym, ◌∙◌, ap, subst, append_assoc, Bool, true, false, ◌||◌, Some, inl, inr, ⊎_elim}
+use Rattle.std.specs.Prelude.{slice_get}
 use Rattle.std.proofs.Math.Bool.{or-true}
 use Rattle.std.proofs.lemmas.List.{length-map}
 use Rattle.wcv_core.specs.Checks.{all_checks}
 use Rattle.wcv_core.specs.declared.error.ErrorKind.{ErrorKind}
 use Rattle.wcv_core.specs.declared.error.ErrorKind.TheVariants as error
-use Rattle.wcv_types.specs.Arena.{Arena}
 use Rattle.wcv_types.specs.declared.shapes.ComponentValType.{ComponentValType}
 use Rattle.wcv_types.proofs.Lists.{some-inj}
 use Rattle.wcv_lower.specs.Checks.{Checks, Cause, IsFree, is_none, missing}
-use Rattle.wcv_lower.specs.Marks.{unused_checks}
 use Rattle.wcv_lower.specs.Step.{change_at}
 use Rattle.wcv_lower.proofs.Causes.{cause_left, cause_right, cause_either, free_both, free_left, free_right}
-use Rattle.wcv_state.specs.Contents.{Contents, used_at, with_uses, context_of}
-use Rattle.wcv_state.specs.Values.{Values, is_used_in, is_used_again_in, use_id_checks, uses_id_checks, first_unused}
+use Rattle.wcv_state.specs.Contents.{Contents, used_at, with_uses}
+use Rattle.wcv_state.specs.Values.{Values, is_used_in, is_used_again_in, use_id_checks, uses_id_checks}
 use Rattle.wcv_state.proofs.UsedValues.{as_used, same_values}
 
 -- ## One use
@@ -106,17 +103,3 @@ module _ (ks ls : List ℕ) (vs : Values) where
       again : Cause (use_id_checks (used_at ks vs) ls) e → Cause (use_id_checks vs (ks ++ ls)) e
       again (inl t) = inl (t.0, again-append ks ls vs ∙ ap (λ (b : Bool). is_used_again_in ks vs || b) t.1 ∙ or-true (is_used_again_in ks vs))
       again (inr t) = absurd t
-
--- ## What is not used
-
-all_used : (n : ℕ) (vs : Values) → is_none (first_unused n vs) ≡ list_all (λ b. b) (map (λ v. v.1) vs)
-all_used n [] = refl
-all_used n (v ∷ vs) = go v.1 (first_unused (suc n) vs) ∙ ap (λ (b : Bool). v.1 && b) (all_used (suc n) vs)
-  where
-    go : (b : Bool) (o : Option ℕ) → is_none (cond b o (Some n)) ≡ (b && is_none o)
-    go true o = refl
-    go false o = refl
-
--- the cause of the end is that one is found
-pub unused_same : (a : Arena) (s : Contents) → unused_checks (context_of a s) ≡ (error.Value, not (is_none (first_unused 0 s.spaces.values))) ∷ []
-unused_same a s = ap (λ (b : Bool). (error.Value, not b) ∷ []) (sym (all_used 0 s.spaces.values))

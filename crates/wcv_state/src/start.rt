@@ -82,12 +82,12 @@ fn check_counts(
     ensures err { IfErr result (MemoryOrCausedBy (count_checks args (length func.now.params.items) results (length (option_to_list func.now.result))) offset) }
 {
     if args != func.params.len() {
-        let why = Why::new("the start function takes %1 arguments, and %2 are given");
+        let why = Why::new("the number of arguments is %2, and the start function takes %1");
         let why = why.numbers([func.params.len() as u64, args as u64, 0]);
         return Err(Error::new(ErrorKind::Signature, offset, why));
     }
     if results != result_count(func) {
-        let why = Why::new("the start function gives %1 results, and %2 are stated");
+        let why = Why::new("the number of results is %2, and the start function gives %1");
         let why = why.numbers([result_count(func) as u64, results as u64, 0]);
         return Err(Error::new(ErrorKind::Signature, offset, why));
     }
