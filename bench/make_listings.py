@@ -30,6 +30,12 @@ def export_of(name, index):
     return {"export": {"name": name, "sort": "func", "index": index}}
 
 
+def component(items):
+    """A component with these items."""
+    items = [{"at": 100 + n, **item} for n, item in enumerate(items)]
+    return {"component": {"items": items, "end": 100 + len(items)}}
+
+
 WORDS = (
     "account balance channel document element frame gateway handle index journal kernel ledger message node object "
     "packet queue record session table update vector window yield archive buffer client driver engine filter graph"
@@ -577,13 +583,13 @@ def component_of_values(width):
     items.append({"start": {"func": 0, "args": list(range(half)), "results": 1}})
     items += [{"export": {"name": words_name("exported", n), "sort": "value", "index": n}} for n in range(half, width)]
     items.append({"instance": {"exports": [{"name": "given", "sort": "value", "index": width}]}})
-    return {"component": {"items": [{"at": 100 + n, **item} for n, item in enumerate(items)], "end": 100 + len(items)}}
+    return component(items)
 
 
 def values(limit, width=600):
     """Components with values: of these there may be 1,000 in each, and of components as many."""
-    component = component_of_values(width)
-    yield from bounded(limit, lambda k: component)
+    item = component_of_values(width)
+    yield from bounded(limit, lambda k: item)
 
 
 def aliased_values(count):
@@ -594,6 +600,5 @@ def aliased_values(count):
     items.append({"import": {"name": "all", "type": {"instance": 0}}})
     items += [{"alias": {"export": [0, "value", name]}} for name in names]
     items.append({"instance": {"exports": [{"name": name, "sort": "value", "index": n} for n, name in enumerate(names)]}})
-    body = {"items": [{"at": n, **item} for n, item in enumerate(items)], "end": len(items)}
     for _ in range(count // 1_000):
-        yield {"component": body}
+        yield component(items)

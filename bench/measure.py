@@ -4,13 +4,19 @@
     bench/measure.py [RUNS] [TABLE ..]
 
 The tables are `overview`, `small`, `front`, `long`, `nested`, `types`, `resources`, `names`, `core`, `ends`,
-`setters`, `reports`, `declared`, `instances`, `aliases`, `components`, `values` and `canonical`, all of them if none is named. Times are the
-smallest of RUNS runs, 5 if not given, in which the programs that are compared take turns: what else the machine does can only
-add to them. Peak memory is the largest resident size of one more run, in which the bytes that it writes are counted
-too. Where valgrind is there, the instructions of one run are counted: they do not depend on what else the machine
-does. Memory and instructions are told for each byte of the listing as well.
+`setters`, `reports`, `declared`, `instances`, `aliases`, `components`, `values`, `canonical` and `whole`, all of them if
+none is named. Times are the smallest of RUNS runs, 5 if not given, in which the programs that are compared take turns:
+what else the machine does can only add to them. Peak memory is the largest resident size of one more run, in which the
+bytes that it writes are counted too. Where valgrind is there, the instructions of one run are counted: they do not
+depend on what else the machine does. Memory and instructions are told for each byte of the listing as well.
 
 `overview` is one row for each kind of items, the first table of docs/PERFORMANCE.md.
+
+`whole` has components that hold 1,000 others each, since no more may stand in one, and components 40 deep, since JSON
+lets no more nest, where the rules would let 100 be open; aliases of up to 99,999 functions of one instance, since an
+instance type has 100,000 declarations and one is the type; interfaces that are handed on to components, 900 of them,
+since of instances 1,000 may stand in one; 1,000 values in each component; and at the end what the program makes
+itself, `make 1000`, beside the same as a listing. Two of its kinds are what hostile input could ask for.
 """
 import os
 import re
@@ -21,12 +27,14 @@ import tempfile
 import time
 
 import make_canonicals
+import make_components
 import make_listings
 
 ROOT = os.path.dirname(os.path.dirname(os.path.abspath(__file__)))
 PARSE = [f"{ROOT}/crates/bench_parse/out/bench_parse"]
 READ = [f"{ROOT}/crates/bench_read/out/bench_read"]
 VALIDATE = [f"{ROOT}/crates/wcv/out/wcv", "validate"]
+MAKE = [f"{ROOT}/crates/wcv/out/wcv", "make", "1000"]
 
 
 def run_once(words, file):
@@ -107,8 +115,8 @@ SIZES = (1, 8, 64)
 ALL = [("bare parse", PARSE), ("reading", READ), ("validation", VALIDATE)]
 
 
-def by_size(make, counted=(1, 8)):
-    return [(f"{n} MB", make(n * 1_000_000), n in counted) for n in SIZES]
+def by_size(make, counted=(1, 8), sizes=SIZES):
+    return [(f"{n} MB", make(n * 1_000_000), n in counted) for n in sizes]
 
 
 def small(runs):
@@ -212,7 +220,7 @@ def instances(runs):
 
 def aliases(runs):
     make = make_listings
-    rows = [(f"{n:,} exports", make.aliased_exports(n), n < 2_000) for n in (1_000, 2_000, 4_000, 64_000)]
+    rows = [(f"{n:,} exports", make.aliased_exports(n), n < 2_000) for n in (1_000, 2_000, 4_000, 50_000)]
     print_table("Listing of aliases of each export of one instance", ALL, rows, runs)
     print_table("Listing of outer aliases through 40 instance types", ALL, by_size(make.outer_aliased, (1,)), runs)
 
@@ -253,6 +261,30 @@ def canonical(runs):
     )
     rows = [(f"{name}, {size}", items, is_counted) for name, it in makers for size, items, is_counted in by_size(it, (1,))]
     print_table("Listing of canonical functions", ALL, rows, runs, features=make.FEATURES)
+
+
+def whole(runs):
+    """Components in components, what is handed on between them, and what hostile input could ask for."""
+    make = make_components
+    makers = (
+        ("components in thousands", make.side_by_side, SIZES),
+        ("components 40 deep", make.in_one_another, SIZES),
+        ("outer aliases through 40 components", make.outer_through, SIZES[:2]),
+        ("hostile: types of the size 1,000,000 aliased into each", make.charged, SIZES),
+        ("hostile: an instance that 40 components export in turn", make.instances_in_one_another, SIZES[:2]),
+    )
+    rows = [(f"{name}, {size}", *row) for name, it, sizes in makers for size, *row in by_size(it, (1,), sizes)]
+    print_table("Listing of whole components", ALL, rows, runs)
+    rows = [(f"{n:,} functions", make.aliased_functions(n), n < 16_000) for n in (1_000, 4_000, 16_000, 99_999)]
+    print_table("Listing of aliases of each function of one instance, by name", ALL, rows, runs)
+    counts = ((100, 17), (900, 17), (900, 100))
+    rows = [(f"{n} interfaces of {of} functions", make.composition(n, of), n < 900) for n, of in counts]
+    print_table("Listing of interfaces that are handed on to components", ALL, rows, runs)
+    rows = by_size(lambda n: make_listings.values(n, 666), (1,))
+    rows.append(("250,000 aliases of values", make_listings.aliased_values(250_000), False))
+    print_table("Listing of components with 1,000 values each", ALL, rows, runs, features=make_listings.VALUES)
+    programs = [*ALL, ("`make 1000`", MAKE)]
+    print_table("The listing that is made for 1,000", programs, [("1,000 instances", make.made(1_000), True)], runs)
 
 
 KINDS = (
@@ -307,6 +339,7 @@ TABLES = {
     "components": components,
     "values": values,
     "canonical": canonical,
+    "whole": whole,
 }
 
 
