@@ -41,7 +41,7 @@ def in_thousands(limit, inner, first=()):
 
 def side_by_side(limit):
     """Components in thousands with seven items each: a function and a resource, both exported. In the largest listing
-    there are some 100,000."""
+    there are some 122,000."""
     items = [func_type([["number", "u32"]], "string"), import_of("to-text", 0)]
     items += [{"type": {"resource": {"rep": "i32"}}}, export_item("buffer", "type", 1)]
     items += [defined({"own": 2}), export_item("owned-buffer", "type", 3), export_of("number-to-text", 0)]
@@ -152,23 +152,31 @@ def charged(limit):
     yield from in_thousands(limit, component(items), types)
 
 
+def handles(k):
+    """Of items that define a resource and export handles of it, two items for each, the one at a position."""
+    if k == 0:
+        return {"type": {"resource": {"rep": "i32"}}}
+    if k == 1:
+        return export_item("resource", "type", 0)
+    return defined({"own": 1}) if k % 2 == 0 else export_item(words_name("exported-handle", k), "type", k - 1)
+
+
 def instances_in_one_another(limit):
-    """Components 40 deep, each of which makes an instance of the next and exports it. The innermost defines a resource
-    and exports handles of it, each of which is made again at each level."""
-
-    def make(k):
-        if k == 0:
-            return {"type": {"resource": {"rep": "i32"}}}
-        if k == 1:
-            return export_item("resource", "type", 0)
-        return defined({"own": 1}) if k % 2 == 0 else export_item(words_name("exported-handle", k), "type", k - 1)
-
-    inner = component(bounded(limit, make))
+    """Components 40 deep, each of which makes an instance of the next and exports it. The innermost exports handles, each
+    of which is made again at each level."""
+    inner = component(bounded(limit, handles))
     for _ in range(DEEP - 1):
         inner = component([inner, instance_of(0), export_item("inner", "instance", 0)])
     yield inner
     yield instance_of(0)
     yield export_item("inner", "instance", 0)
+
+
+def instances_of_one(count):
+    """A component that exports so many handles, and as many instances of it, each of which has handles of its own."""
+    yield component(handles(k) for k in range(2 + 2 * count))
+    for _ in range(count):
+        yield instance_of(0)
 
 
 def made(count):

@@ -16,7 +16,7 @@ depend on what else the machine does. Memory and instructions are told for each 
 lets no more nest, where the rules would let 100 be open; aliases of up to 99,999 functions of one instance, since an
 instance type has 100,000 declarations and one is the type; interfaces that are handed on to components, 900 of them,
 since of instances 1,000 may stand in one; 1,000 values in each component; and at the end what the program makes
-itself, `make 1000`, beside the same as a listing. Two of its kinds are what hostile input could ask for.
+itself, `make 1000`, beside the same as a listing. Three of its kinds are what hostile input could ask for.
 """
 import os
 import re
@@ -270,11 +270,14 @@ def whole(runs):
         ("components in thousands", make.side_by_side, SIZES),
         ("components 40 deep", make.in_one_another, SIZES),
         ("outer aliases through 40 components", make.outer_through, SIZES[:2]),
-        ("hostile: types of the size 1,000,000 aliased into each", make.charged, SIZES),
         ("hostile: an instance that 40 components export in turn", make.instances_in_one_another, SIZES[:2]),
     )
     rows = [(f"{name}, {size}", *row) for name, it, sizes in makers for size, *row in by_size(it, (1,), sizes)]
+    first = "hostile: types of the size 1,000,000 aliased into each component"
+    rows += [(f"{first}, {n:,} KB", make.charged(n * 1_000), n < 1_000) for n in (100, 1_000)]
     print_table("Listing of whole components", ALL, rows, runs)
+    rows = [(f"{n:,} handles", make.instances_of_one(n), n < 1_000) for n in (250, 500, 1_000)]
+    print_table("Listing of a component that exports handles, and of as many instances of it (hostile)", ALL, rows, runs)
     rows = [(f"{n:,} functions", make.aliased_functions(n), n < 16_000) for n in (1_000, 4_000, 16_000, 99_999)]
     print_table("Listing of aliases of each function of one instance, by name", ALL, rows, runs)
     counts = ((100, 17), (900, 17), (900, 100))
