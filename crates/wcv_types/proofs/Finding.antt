@@ -1,9 +1,9 @@
 -- A walk that finds the first paths to the resources of a set.
-use Rattle.std.proofs.Common.{◌≡◌, ℕ, zero, suc, ◌+◌, ◌<◌, List, [], ◌∷◌, ◌++◌, length, drop, drop-cons, get_or, refl, sym, ◌∙◌, ap, subst, add-one, append-nil, append_assoc, Bool, true, false, ◌&&◌, cond, eqb, eq-eqb, Some, None, arith, ⊎_elim}
+use Rattle.std.proofs.Common.{◌≡◌, ℕ, zero, suc, ◌+◌, ◌<◌, List, [], ◌∷◌, ◌++◌, length, drop, drop-cons, get_or, refl, sym, ◌∙◌, ap, subst, add-one, append-nil, append_assoc, Bool, true, false, ◌&&◌, cond, eq-eqb, Some, None, arith, ⊎_elim}
 use Rattle.std.specs.Prelude.{Option, not, slice_get}
 use Rattle.std.specs.Option.{option_map}
 use Rattle.std.proofs.lemmas.Bool.{false≢true, eqb-true}
-use Rattle.std.proofs.lemmas.List.Elements.{All-nil, All-head, All-tail, All-push}
+use Rattle.std.proofs.lemmas.List.Elements.{All-nil}
 use Rattle.wcv_core.specs.Names.{Name, number, member}
 use Rattle.wcv_types.specs.Arena.{Arena}
 use Rattle.wcv_types.specs.Entities.{entity_tree, entry_trees, EntityStands}
@@ -23,9 +23,10 @@ use Rattle.wcv_types.specs.declared.instance_type.ComponentInstanceType.{Compone
 use Rattle.wcv_types.specs.declared.item_map.ComponentItem.{ComponentItem}
 use Rattle.wcv_types.specs.declared.shapes.ComponentEntityType.{ComponentEntityType}
 use Rattle.wcv_types.specs.declared.shapes.ComponentEntityType.TheVariants as entity
-use Rattle.wcv_types.proofs.Gaining.{has-member, or_split, or_left, or_right, gains_as}
+use Rattle.wcv_types.proofs.Gaining.{has-member, or_left, or_right, gains_as}
 use Rattle.wcv_types.proofs.Lists.{some-inj}
 use Rattle.wcv_types.proofs.Leading.{type_leads, others_lead, instance_leads}
+use Rattle.wcv_types.proofs.Placed.{place_found, place_put}
 use Rattle.wcv_types.proofs.Unfolding.{head_in}
 
 abbrev Found : Type 0
@@ -72,17 +73,10 @@ module _ (a : Arena) (ids : List ResourceId) where
   none_seen ks ps e = subst (λ (qs : List ℕ). AllFound a ids qs ps) (sym e) (All-nil (Settled ps))
 
   pub seen_settled : (ks : List ℕ) (ps : Found) (k : ℕ) → AllFound a ids ks ps → has_place ks k ≡ true → Settled ps k
-  seen_settled [] ps k h e = absurd (false≢true e)
-  seen_settled (x ∷ ks) ps k h e =
-      ⊎_elim (λ (i : eqb k x ≡ true). subst (Settled ps) (sym (eqb-true k x i)) (All-head (Settled ps) x ks h))
-      (λ (i : has_place ks k ≡ true). seen_settled ks ps k (All-tail (Settled ps) x ks h) i) (or_split (eqb k x) (has_place ks k) e)
+  seen_settled ks ps k h e = place_found (Settled ps) ks k h e
 
   pub settled_push : (ks : List ℕ) (ps : Found) (k : ℕ) → AllFound a ids ks ps → Settled ps k → AllFound a ids (with_place ks k) ps
-  settled_push ks ps k h s = go (has_place ks k)
-    where
-      go : (b : Bool) → AllFound a ids (cond b ks (ks ++ k ∷ [])) ps
-      go true = h
-      go false = All-push (Settled ps) ks k h s
+  settled_push ks ps k h s = place_put (Settled ps) ks k h s
 
 -- ## One resource
 

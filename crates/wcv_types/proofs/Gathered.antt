@@ -1,9 +1,9 @@
 -- Free resources, gathered in a set.
-use Rattle.std.proofs.Common.{◌≡◌, ℕ, zero, suc, ◌+◌, ◌<◌, ◌≤◌, max, List, [], ◌∷◌, ◌++◌, length, take, take-suc, get_or, refl, sym, ◌∙◌, ap, subst, add-one, arith, inl, inr, ⊎_elim, Bool, true, false, cond, eqb}
+use Rattle.std.proofs.Common.{◌≡◌, ℕ, zero, suc, ◌+◌, ◌<◌, ◌≤◌, max, List, [], ◌∷◌, ◌++◌, length, take, take-suc, get_or, refl, sym, ◌∙◌, ap, subst, add-one, arith, inl, inr, ⊎_elim, true, false, eqb}
 use Rattle.std.specs.Prelude.{◌⊎◌, All, Contains, Some}
 use Rattle.std.specs.Map.{lookup}
-use Rattle.std.proofs.lemmas.Bool.{false≢true, eqb-true}
-use Rattle.std.proofs.lemmas.List.Elements.{All-nil, All-cons, All-head, All-tail, All-append, All-push, All-weaker, Contains-append_left, Contains-append_right, Contains-append_cases}
+use Rattle.std.proofs.lemmas.Bool.{false≢true}
+use Rattle.std.proofs.lemmas.List.Elements.{All-nil, All-cons, All-head, All-tail, All-append, All-weaker, Contains-append_left, Contains-append_right, Contains-append_cases}
 use Rattle.wcv_core.specs.Names.{Name, number, member}
 use Rattle.wcv_types.specs.Arena.{Arena}
 use Rattle.wcv_types.specs.Entities.{entity_slot, entry_parts, entry_trees, EntryStands, SlotStands}
@@ -21,10 +21,10 @@ use Rattle.wcv_types.specs.declared.ids.Part.{Part}
 use Rattle.wcv_types.specs.declared.ids.Part.TheVariants as p
 use Rattle.wcv_types.specs.declared.ids.ResourceId.{ResourceId}
 use Rattle.wcv_types.specs.declared.item_map.ComponentItem.{ComponentItem}
-use Rattle.wcv_types.proofs.Gaining.{or_split, or_none, none_or, kept, gains_then, gains_as, gains_push}
+use Rattle.wcv_types.proofs.Gaining.{or_none, none_or, kept, gains_then, gains_as, gains_push}
 use Rattle.wcv_types.proofs.SortLaws.{free_slot, slot_free, free_below, free_above}
 use Rattle.wcv_types.proofs.Unfolding.{head_in}
-use Rattle.wcv_types.proofs.Placed.{placed_found, placed_put}
+use Rattle.wcv_types.proofs.Placed.{place_found, place_put, placed_found, placed_put}
 
 -- ## Nodes that were seen
 
@@ -33,20 +33,13 @@ module _ (a : Arena) where
   Gathered rs k = (r : Name) → Free r (tree_in (trees a.nodes) k) → member r (resource_names rs) ≡ true
 
   pub seen_gathered : (ks : List ℕ) (rs : List ResourceId) (k : ℕ) → AllGathered a ks rs → has_place ks k ≡ true → Gathered rs k
-  seen_gathered [] rs k h e = absurd (false≢true e)
-  seen_gathered (x ∷ ks) rs k h e =
-      ⊎_elim (λ (i : eqb k x ≡ true). subst (Gathered rs) (sym (eqb-true k x i)) (All-head (Gathered rs) x ks h))
-      (λ (i : has_place ks k ≡ true). seen_gathered ks rs k (All-tail (Gathered rs) x ks h) i) (or_split (eqb k x) (has_place ks k) e)
+  seen_gathered ks rs k h e = place_found (Gathered rs) ks k h e
 
   pub gathered_kept : (ks : List ℕ) (old new : List ResourceId) → AllGathered a ks old → Continues old new → AllGathered a ks new
   gathered_kept ks old new h c = All-weaker (Gathered old) (Gathered new) (λ k g r f. kept old new r c (g r f)) ks h
 
   pub gathered_push : (ks : List ℕ) (rs : List ResourceId) (k : ℕ) → AllGathered a ks rs → Gathered rs k → AllGathered a (with_place ks k) rs
-  gathered_push ks rs k h g = go (has_place ks k)
-    where
-      go : (b : Bool) → AllGathered a (cond b ks (ks ++ k ∷ [])) rs
-      go true = h
-      go false = All-push (Gathered rs) ks k h g
+  gathered_push ks rs k h g = place_put (Gathered rs) ks k h g
 
 -- ## Sets that are known
 

@@ -3,18 +3,19 @@ use Rattle.std.proofs.Common.{◌≡◌, ℕ, suc, ◌+◌, ◌<◌, ◌≤◌, 
 use Rattle.std.specs.Prelude.{Option, slice_get}
 use Rattle.std.specs.Map.{lookup}
 use Rattle.std.proofs.lemmas.Bool.{false≢true}
-use Rattle.std.proofs.lemmas.List.Elements.{All-nil}
+use Rattle.std.proofs.lemmas.List.Elements.{All-nil, All-weaker}
 use Rattle.std.proofs.lemmas.Option.{slice_get_within, get_or_from_slice_get}
 use Rattle.std.proofs.Math.Dec.{eqb-suc-zero}
 use Rattle.std.proofs.Math.ListN.{drop_of_length-le}
 use Rattle.wcv_core.specs.Names.{Name}
+use Rattle.wcv_core.proofs.Names.{and_left, and_right}
 use Rattle.wcv_types.specs.Arena.{Arena}
 use Rattle.wcv_types.specs.Entities.{any_part, entity_tree, EntityStands}
 use Rattle.wcv_types.specs.Identity.{Identity, identity_at, same_identity}
-use Rattle.wcv_types.specs.Named.{is_in, with_identity, with_created, passes, all_pass}
+use Rattle.wcv_types.specs.Named.{is_in, is_named, with_identity, with_created, passes, all_pass}
 use Rattle.wcv_types.specs.NamedBySet.{with_created_type}
-use Rattle.wcv_types.specs.Needing.{are_in, beside, with_beyond, Needs, AllNeeded}
-use Rattle.wcv_types.specs.Sets.{with_set, same_type, has_type, with_type, AllStand, identities}
+use Rattle.wcv_types.specs.Needing.{are_in, beside, with_beyond, Needs, AllNeeded, AllSeen}
+use Rattle.wcv_types.specs.Sets.{has_place, with_place, with_set, same_type, has_type, with_type, AllStand, identities}
 use Rattle.wcv_types.specs.Standing.{Stands, identity_of}
 use Rattle.wcv_types.specs.Tree.{Text, export, type_entity, Tree, node, head, created}
 use Rattle.wcv_types.specs.Unfold.{Type_tree, entry_slots, slot_parts, trees, tree_at, tree_in, unfolded}
@@ -27,7 +28,7 @@ use Rattle.wcv_types.specs.declared.item_map.ComponentItem.{ComponentItem}
 use Rattle.wcv_types.specs.declared.shapes.ComponentEntityType.{ComponentEntityType}
 use Rattle.wcv_types.proofs.NamedBySet.{in_set, and_true}
 use Rattle.wcv_types.proofs.NamedExports.{or_true, or_swap, SameMembers, same_identities, with_type_stands, created_stands, created_members, all_pass_by}
-use Rattle.wcv_types.proofs.Placed.{placed_found, placed_put}
+use Rattle.wcv_types.proofs.Placed.{place_found, place_put, placed_found, placed_put}
 
 -- ## Two tests
 
@@ -47,6 +48,10 @@ and_again : (p r : Bool) → (p && r) ≡ ((p && r) && p)
 and_again true true = refl
 and_again true false = refl
 and_again false r = refl
+
+and_held : (p r : Bool) → (p ≡ true → r ≡ true) → p ≡ (p && r)
+and_held true r h = sym (h refl)
+and_held false r h = refl
 
 -- ## Members
 
@@ -154,6 +159,25 @@ module _ (a : Arena) where
   -- the last one
   pub last_done : (whole rest : List Identity → Bool) (old mid new : List ComponentAnyTypeId) → Left whole rest old mid → Needs a rest mid new → Needs a whole old new
   last_done whole rest old mid new l w = record { stand = w.stand; same = λ ids. w.same ids ∙ sym (l.same ids) }
+
+  -- ## Nodes that were seen
+
+  module _ (cr set : List ComponentAnyTypeId) where
+    abbrev Seen : List ComponentAnyTypeId → ℕ → Type 0
+    Seen xs k = (ids : List Identity) → are_in ids (identities xs) ≡ true → is_named (beside ids cr set) (tree_in (trees a.nodes) k) ≡ true
+
+    pub none_seen : (xs : List ComponentAnyTypeId) (ks : List ℕ) → ks ≡ [] → AllSeen a cr set xs ks
+    none_seen xs ks e = subst (λ (js : List ℕ). AllSeen a cr set xs js) (sym e) (All-nil (Seen xs))
+
+    pub seen_needs : (xs : List ComponentAnyTypeId) (ks : List ℕ) (k : ℕ) → AllStand a xs → AllSeen a cr set xs ks → has_place ks k ≡ true → Needs a (λ ids. is_named (beside ids cr set) (tree_in (trees a.nodes) k)) xs xs
+    seen_needs xs ks k s h e = record { stand = s; same = λ ids. and_held (are_in ids (identities xs)) (is_named (beside ids cr set) (tree_in (trees a.nodes) k)) (place_found (Seen xs) ks k h e ids) }
+
+    pub seen_kept : (f : List Identity → Bool) (old new : List ComponentAnyTypeId) (ks : List ℕ) → Needs a f old new → AllSeen a cr set old ks → AllSeen a cr set new ks
+    seen_kept f old new ks w h = All-weaker (Seen old) (Seen new) (λ k g ids e. g ids (and_left (are_in ids (identities old)) (f ids) (sym (w.same ids) ∙ e))) ks h
+
+    pub seen_push : (old new : List ComponentAnyTypeId) (ks : List ℕ) (k : ℕ) → Needs a (λ ids. is_named (beside ids cr set) (tree_in (trees a.nodes) k)) old new → AllSeen a cr set new ks → AllSeen a cr set new (with_place ks k)
+    seen_push old new ks k w h =
+        place_put (Seen new) ks k h (λ ids e. and_right (are_in ids (identities old)) (is_named (beside ids cr set) (tree_in (trees a.nodes) k)) (sym (w.same ids) ∙ e))
 
   -- ## All of a set
 

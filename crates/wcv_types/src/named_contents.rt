@@ -15,6 +15,7 @@ use crate::ids::{ComponentAnyTypeId, ComponentInstanceTypeId};
 use crate::item_map::ComponentItem;
 use crate::needed_sets::NeededSets;
 use crate::needs::{need_all, need_defined, need_func};
+use crate::place_set::PlaceSet;
 use crate::shapes::{ComponentEntityType, ComponentValType};
 use crate::type_set::TypeSet;
 use wcv_core::{OutOfMemory, Text};
@@ -98,7 +99,10 @@ fn need_type(
 {
     match id {
         ComponentAnyTypeId::Resource(_) => Ok(()),
-        ComponentAnyTypeId::Defined(id) => need_defined(types, types.get(id), set, created, needed),
+        ComponentAnyTypeId::Defined(id) => {
+            let mut seen = PlaceSet::new(types.allocator());
+            need_defined(types, types.get(id), set, created, &mut seen, needed)
+        }
         ComponentAnyTypeId::Func(id) => need_func(types, types.get(id), set, created, needed),
         ComponentAnyTypeId::Instance(id) => need_instance(types, id, set, created, known, needed),
         ComponentAnyTypeId::Component(_) => Ok(()),

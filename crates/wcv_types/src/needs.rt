@@ -2,7 +2,7 @@
 ghost use Rattle.std.specs.Prelude.{◌≡◌, ◌++◌, cond, All, OnOk};
 ghost use Rattle.wcv_types.specs.Entities.{SlotStands};
 ghost use Rattle.wcv_types.specs.Named.{is_named, are_named};
-ghost use Rattle.wcv_types.specs.Needing.{are_in, beside, with_beyond, Needs};
+ghost use Rattle.wcv_types.specs.Needing.{are_in, beside, with_beyond, AllSeen, Needs};
 ghost use Rattle.wcv_types.specs.Sets.{has_type, AllStand, identities};
 ghost use Rattle.wcv_types.specs.Standing.{Stands};
 ghost use Rattle.wcv_types.specs.Unfold.{option_slot, parts_of, slots_of, slot_parts, slot_tree, trees};
@@ -10,6 +10,7 @@ ghost use Rattle.wcv_types.specs.declared.arena.Node.TheVariants as n;
 
 use crate::arena::TypeAlloc;
 use crate::ids::ComponentAnyTypeId;
+use crate::place_set::PlaceSet;
 use crate::shapes::{ComponentDefinedType, ComponentFuncType, ComponentValType, node_of};
 use crate::type_set::TypeSet;
 use wcv_core::OutOfMemory;
@@ -65,20 +66,23 @@ pub fn need_all(
     Ok(())
 }
 
-/// What a value type needs, which may be left out.
+/// What a value type needs, which may be left out. A type that was seen needs nothing more. From then on it was.
 #[cycle(needing_values)]
 fn need_value(
     types: &TypeAlloc,
     ty: Option<ComponentValType>,
     set: &TypeSet,
     created: &TypeSet,
+    seen: &mut PlaceSet,
     needed: &mut TypeSet,
 ) -> Result<(), OutOfMemory>
     requires value { SlotStands types.now (option_slot ty) }
     requires set { AllStand types.now set.now }
     requires created { AllStand types.now created.now }
     requires needed { AllStand types.now needed.old }
-    ensures { OnOk result (Needs types.now (λ ids. is_named (beside ids created.now set.now) (slot_tree (trees types.now.nodes) (option_slot ty))) needed.old needed.new) }
+    requires seen { AllSeen types.now created.now set.now needed.old seen.old }
+    ensures needed { OnOk result (Needs types.now (λ ids. is_named (beside ids created.now set.now) (slot_tree (trees types.now.nodes) (option_slot ty))) needed.old needed.new) }
+    ensures seen { OnOk result (AllSeen types.now created.now set.now needed.new seen.new) }
 {
     let id = match node_of(ty) {
         Some(id) => id,
@@ -88,34 +92,41 @@ fn need_value(
     if shape.names_itself() {
         return need(ComponentAnyTypeId::Defined(id), set, created, needed);
     }
-    need_defined(types, shape, set, created, needed)
+    if seen.contains(id.index) {
+        return Ok(());
+    }
+    need_defined(types, shape, set, created, seen, needed)?;
+    seen.push(id.index)
 }
 
-/// What a defined type needs that it is made of.
+/// What a defined type needs that it is made of. Each node is gone through once, however many ways lead there.
 #[cycle(needing_values)]
 pub fn need_defined(
     types: &TypeAlloc,
     shape: &ComponentDefinedType,
     set: &TypeSet,
     created: &TypeSet,
+    seen: &mut PlaceSet,
     needed: &mut TypeSet,
 ) -> Result<(), OutOfMemory>
     requires stands { All (Stands types.now) (parts_of (n.Defined shape.now)) }
     requires set { AllStand types.now set.now }
     requires created { AllStand types.now created.now }
     requires needed { AllStand types.now needed.old }
-    ensures { OnOk result (Needs types.now (λ ids. are_named (beside ids created.now set.now) (slot_parts (trees types.now.nodes) (slots_of (n.Defined shape.now)))) needed.old needed.new) }
+    requires seen { AllSeen types.now created.now set.now needed.old seen.old }
+    ensures needed { OnOk result (Needs types.now (λ ids. are_named (beside ids created.now set.now) (slot_parts (trees types.now.nodes) (slots_of (n.Defined shape.now)))) needed.old needed.new) }
+    ensures seen { OnOk result (AllSeen types.now created.now set.now needed.new seen.new) }
 {
     if let Some(handle) = shape.handle() {
         return need(ComponentAnyTypeId::Resource(handle), set, created, needed);
     }
     for k in 0..shape.value_count() {
-        need_value(types, shape.value_at(k), set, created, needed)?;
+        need_value(types, shape.value_at(k), set, created, seen, needed)?;
     }
     Ok(())
 }
 
-/// What the parameters and the result of a function need.
+/// What the parameters and the result of a function need. Each node in them is gone through once.
 pub fn need_func(
     types: &TypeAlloc,
     shape: &ComponentFuncType,
@@ -129,8 +140,9 @@ pub fn need_func(
     requires needed { AllStand types.now needed.old }
     ensures { OnOk result (Needs types.now (λ ids. are_named (beside ids created.now set.now) (slot_parts (trees types.now.nodes) (slots_of (n.Func shape.now)))) needed.old needed.new) }
 {
+    let mut seen = PlaceSet::new(types.allocator());
     for param in &shape.params {
-        need_value(types, Some(param.1), set, created, needed)?;
+        need_value(types, Some(param.1), set, created, &mut seen, needed)?;
     }
-    need_value(types, shape.result, set, created, needed)
+    need_value(types, shape.result, set, created, &mut seen, needed)
 }

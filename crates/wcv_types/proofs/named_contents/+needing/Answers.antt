@@ -13,7 +13,7 @@ use Rattle.wcv_types.specs.declared.ids.Part.TheVariants as part
 use Rattle.wcv_types.specs.declared.shapes.ComponentEntityType.{ComponentEntityType}
 use Rattle.wcv_types.proofs.FreeBelow.{entry_rank, entries_ready}
 use Rattle.wcv_types.proofs.NamedExports.{module_passes, component_passes}
-use Rattle.wcv_types.proofs.Needing.{needs_nothing, needs_as, needs_more, known_needs, known_put, none_gone, one_gone, all_gone, instance_needs}
+use Rattle.wcv_types.proofs.Needing.{needs_nothing, needs_as, needs_more, known_needs, known_put, none_gone, one_gone, all_gone, instance_needs, none_seen}
 use Rattle.wcv_types.proofs.named_contents.+needing.Goals as goal
 
 -- ## What is exported
@@ -104,13 +104,16 @@ need_type-returns-in-Resource-clause-needed t c =
     needs_nothing c.args.types.now (λ ids. passes (beside ids c.args.created.now c.args.set.now) (tree_at c.args.types.now (any_part c.args.id))) c.args.needed.now c.requires.needed
     (λ ids. ap (λ (id : ComponentAnyTypeId). passes (beside ids c.args.created.now c.args.set.now) (tree_at c.args.types.now (any_part id))) c.in-Resource.is)
 
+pub need_type-need_defined-requires-clause-seen : goal.need_type-need_defined-requires-clause-seen
+need_type-need_defined-requires-clause-seen t c = none_seen c.args.types.now c.args.created.now c.args.set.now c.args.needed.now c.new-seen.result c.new-seen.ensures
+
 pub need_type-returns-in-Defined-clause-needed : goal.need_type-returns-in-Defined-clause-needed
 need_type-returns-in-Defined-clause-needed t c =
     on_ok_weaker c.need_defined.result
     (needs_as c.args.types.now (λ ids. are_named (beside ids c.args.created.now c.args.set.now) (slot_parts (trees c.args.types.now.nodes) (slots_of (n.Defined c.get.result.now))))
     (λ ids. passes (beside ids c.args.created.now c.args.set.now) (tree_at c.args.types.now (any_part c.args.id))) c.args.needed.now c.need_defined.new.needed
     (λ ids. sym (ap (λ (id : ComponentAnyTypeId). passes (beside ids c.args.created.now c.args.set.now) (tree_at c.args.types.now (any_part id))) c.in-Defined.is ∙ ap (passes (beside ids c.args.created.now c.args.set.now)) c.get.ensures.unfolds)))
-    c.need_defined.ensures
+    c.need_defined.ensures.needed
 
 pub need_type-returns-in-Func-clause-needed : goal.need_type-returns-in-Func-clause-needed
 need_type-returns-in-Func-clause-needed t c =
