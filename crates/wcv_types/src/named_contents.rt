@@ -161,8 +161,9 @@ fn need_entity(
 impl TypeAlloc {
     /// Whether the contents of a type are named by a set: the parameters and the result of a function, what a
     /// defined type is made of, the exports of an instance. A resource and a component have none. The exports of
-    /// each instance type are gone through once, however many ways lead there. One that is exported again costs
-    /// as many steps as it needs types that the set has not. The set is not copied.
+    /// each instance type are gone through once, however many ways lead there, and so are the nodes of each
+    /// function or value type. An instance type that is exported again costs as many steps as it needs types that
+    /// the set has not. The set is not copied.
     pub fn all_valtypes_named(
         &self,
         id: &ComponentAnyTypeId,
