@@ -11,7 +11,7 @@ use Rattle.wcv_types.specs.Named.{is_in, named_by_itself, is_named, are_named, w
 use Rattle.wcv_types.specs.NamedBySet.{with_created_type}
 use Rattle.wcv_types.specs.Sets.{same_type, has_type, with_type, AllStand, identities}
 use Rattle.wcv_types.specs.Standing.{Stands, identity_of}
-use Rattle.wcv_types.specs.Tree.{Head, nothing, primitive, resource, defined, func, instance, type_entity, Tree, node, Parts, none, part, head, parts, sort, created, is_type, is_module, is_value, is_func, is_instance, is_component}
+use Rattle.wcv_types.specs.Tree.{Former, named, record_of, variant_of, flags_of, enum_of, Head, nothing, primitive, resource, defined, func, instance, type_entity, Tree, node, Parts, none, part, head, parts, sort, created, is_type, is_module, is_value, is_func, is_instance, is_component}
 use Rattle.wcv_types.specs.Unfold.{Type_tree, head_of, trees, tree_at}
 use Rattle.wcv_types.specs.declared.arena.Node.TheVariants as n
 use Rattle.wcv_types.specs.declared.ids.ComponentAnyTypeId.{ComponentAnyTypeId}
@@ -82,9 +82,39 @@ both_true : (b c : Bool) → (b && c) ≡ true → (b ≡ true) × (c ≡ true)
 both_true true c e = (refl, e)
 both_true false c e = absurd (false≢true e)
 
+-- ## Lists with more members
+
+named_more : (k : Former) (a b c d : Bool) → (a ≡ true → c ≡ true) → (b ≡ true → d ≡ true) → named_by_itself k a b ≡ true → named_by_itself k c d ≡ true
+named_more (named p) a b c d f g e = refl
+named_more record_of a b c d f g e = f e
+named_more variant_of a b c d f g e = f e
+named_more (flags_of ls) a b c d f g e = f e
+named_more (enum_of ls) a b c d f g e = f e
+named_more k a b c d f g e = g e
+
+mutual
+  pub is_named_more : (xs ys : List Identity) (t : Tree Name Name) → ((i : Identity) → is_in xs i ≡ true → is_in ys i ≡ true) → is_named xs t ≡ true → is_named ys t ≡ true
+  is_named_more xs ys (node (resource r s) ps) h e = h (of_reference r s) e
+  is_named_more xs ys (node (defined i x) ps) h e = named_more x (is_in xs (of_node i)) (are_named xs ps) (is_in ys (of_node i)) (are_named ys ps) (h (of_node i)) (are_named_more xs ys ps h) e
+  is_named_more xs ys (node x ps) h e = refl
+
+  are_named_more : (xs ys : List Identity) (ps : Parts Name Name) → ((i : Identity) → is_in xs i ≡ true → is_in ys i ≡ true) → are_named xs ps ≡ true → are_named ys ps ≡ true
+  are_named_more xs ys none h e = refl
+  are_named_more xs ys (part l t ps) h e =
+      let w = both_true (is_named xs t) (are_named xs ps) e in
+      ap (λ (b : Bool). b && are_named ys ps) (is_named_more xs ys t h w.0) ∙ are_named_more xs ys ps h w.1
+
 pub or_true : (b : Bool) → (b || true) ≡ true
 or_true true = refl
 or_true false = refl
+
+pub with_created_more : (xs : List Identity) (t : Tree Name Name) (i : Identity) → is_in xs i ≡ true → is_in (with_created xs t) i ≡ true
+with_created_more xs (node type_entity ps) i e = go (identity_at (head (created (node type_entity ps))))
+  where
+    go : (o : Option Identity) → is_in (with_identity o xs) i ≡ true
+    go None = e
+    go (Some j) = ap (λ (b : Bool). same_identity i j || b) e ∙ or_true (same_identity i j)
+with_created_more xs (node x ps) i e = e
 
 pub or_swap : (a b c : Bool) → (a || (b || c)) ≡ (b || (a || c))
 or_swap true true c = refl

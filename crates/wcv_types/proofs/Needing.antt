@@ -27,7 +27,7 @@ use Rattle.wcv_types.specs.declared.instance_type.ComponentInstanceType.{Compone
 use Rattle.wcv_types.specs.declared.item_map.ComponentItem.{ComponentItem}
 use Rattle.wcv_types.specs.declared.shapes.ComponentEntityType.{ComponentEntityType}
 use Rattle.wcv_types.proofs.NamedBySet.{in_set, and_true}
-use Rattle.wcv_types.proofs.NamedExports.{or_true, or_swap, SameMembers, same_identities, with_type_stands, created_stands, created_members, all_pass_by}
+use Rattle.wcv_types.proofs.NamedExports.{or_true, or_swap, SameMembers, same_identities, with_type_stands, created_stands, created_members, all_pass_by, is_named_more, with_created_more}
 use Rattle.wcv_types.proofs.Placed.{place_found, place_put, placed_found, placed_put}
 
 -- ## Two tests
@@ -241,6 +241,15 @@ module _ (a : Arena) where
       middle ids (identities cr) (identities set) (entity_tree (trees a.nodes) ty) i ∙
       ap (λ (b : Bool). is_in ids i || (b || is_in (identities set) i)) (sym (created_members a cr ty s i)) ∙
       sym (in_middle ids (identities (with_created_type cr ty)) (identities set) i)
+
+  -- what was seen is named beside more, too
+  pub seen_beside : (cr set xs : List ComponentAnyTypeId) (ks : List ℕ) (ty : ComponentEntityType) (more : List ComponentAnyTypeId) → more ≡ with_created_type cr ty → EntityStands a ty → AllSeen a cr set xs ks → AllSeen a more set xs ks
+  seen_beside cr set xs ks ty more m s h =
+      subst (λ (ys : List ComponentAnyTypeId). AllSeen a ys set xs ks) (sym m)
+      (All-weaker (Seen cr set xs) (Seen (with_created_type cr ty) set xs)
+      (λ k g ids e. is_named_more (beside ids cr set) (beside ids (with_created_type cr ty) set) (tree_in (trees a.nodes) k)
+      (λ i w. sym (created_beside ids cr set ty s i) ∙ with_created_more (beside ids cr set) (entity_tree (trees a.nodes) ty) i w) (g ids e))
+      ks h)
 
   module _ (set : List ComponentAnyTypeId) (es : List (Text × ComponentItem)) where
     -- whether those from the k-th on pass, where these were created before

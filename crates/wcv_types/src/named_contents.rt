@@ -3,7 +3,7 @@ ghost use Rattle.std.specs.Prelude.{◌≡◌, [], ◌++◌, All, IfOk, OnOk};
 ghost use Rattle.wcv_types.specs.Entities.{any_part, entity_tree, EntityStands, EntryStands};
 ghost use Rattle.wcv_types.specs.Named.{passes, all_pass};
 ghost use Rattle.wcv_types.specs.NamedBySet.{with_created_type};
-ghost use Rattle.wcv_types.specs.Needing.{beside, AllNeeded, Needs};
+ghost use Rattle.wcv_types.specs.Needing.{beside, AllNeeded, AllSeen, Needs};
 ghost use Rattle.wcv_types.specs.Sets.{AllStand, identities};
 ghost use Rattle.wcv_types.specs.Standing.{Stands};
 ghost use Rattle.wcv_types.specs.Tree.{export};
@@ -56,7 +56,8 @@ fn need_instance(
     known.put(id.index, more)
 }
 
-/// What exports need to pass in order, where what an export creates counts as named from then on.
+/// What exports need to pass in order, where what an export creates counts as named from then on. A node of their
+/// functions and value types is gone through once.
 #[cycle(needing)]
 fn needs_of_exports(
     types: &TypeAlloc,
@@ -72,8 +73,17 @@ fn needs_of_exports(
 {
     let mut created = TypeSet::new(types.allocator());
     let mut needed = TypeSet::new(types.allocator());
+    let mut seen = PlaceSet::new(types.allocator());
     for entry in exports {
-        need_entity(types, entry.1.ty, set, &created, known, &mut needed)?;
+        need_entity(
+            types,
+            entry.1.ty,
+            set,
+            &created,
+            known,
+            &mut seen,
+            &mut needed,
+        )?;
         push_created(entry.1.ty, &mut created)?;
     }
     Ok(needed)
@@ -87,6 +97,7 @@ fn need_type(
     set: &TypeSet,
     created: &TypeSet,
     known: &mut NeededSets,
+    seen: &mut PlaceSet,
     needed: &mut TypeSet,
 ) -> Result<(), OutOfMemory>
     requires id { Stands types.now (any_part id) }
@@ -94,16 +105,17 @@ fn need_type(
     requires created { AllStand types.now created.now }
     requires known { AllNeeded types.now set.now known.old }
     requires needed { AllStand types.now needed.old }
+    requires seen { AllSeen types.now created.now set.now needed.old seen.old }
     ensures needed { OnOk result (Needs types.now (λ ids. passes (beside ids created.now set.now) (tree_at types.now (any_part id))) needed.old needed.new) }
     ensures known { OnOk result (AllNeeded types.now set.now known.new) }
+    ensures seen { OnOk result (AllSeen types.now created.now set.now needed.new seen.new) }
 {
     match id {
         ComponentAnyTypeId::Resource(_) => Ok(()),
         ComponentAnyTypeId::Defined(id) => {
-            let mut seen = PlaceSet::new(types.allocator());
-            need_defined(types, types.get(id), set, created, &mut seen, needed)
+            need_defined(types, types.get(id), set, created, seen, needed)
         }
-        ComponentAnyTypeId::Func(id) => need_func(types, types.get(id), set, created, needed),
+        ComponentAnyTypeId::Func(id) => need_func(types, types.get(id), set, created, seen, needed),
         ComponentAnyTypeId::Instance(id) => need_instance(types, id, set, created, known, needed),
         ComponentAnyTypeId::Component(_) => Ok(()),
     }
@@ -117,6 +129,7 @@ fn need_entity(
     set: &TypeSet,
     created: &TypeSet,
     known: &mut NeededSets,
+    seen: &mut PlaceSet,
     needed: &mut TypeSet,
 ) -> Result<(), OutOfMemory>
     requires stands { EntityStands types.now ty }
@@ -124,8 +137,10 @@ fn need_entity(
     requires created { AllStand types.now created.now }
     requires known { AllNeeded types.now set.now known.old }
     requires needed { AllStand types.now needed.old }
+    requires seen { AllSeen types.now created.now set.now needed.old seen.old }
     ensures needed { OnOk result (Needs types.now (λ ids. passes (beside ids created.now set.now) (entity_tree (trees types.now.nodes) ty)) needed.old needed.new) }
     ensures known { OnOk result (AllNeeded types.now set.now known.new) }
+    ensures seen { OnOk result (AllSeen types.now created.now set.now needed.new seen.new) }
 {
     match ty {
         ComponentEntityType::Module(_) => Ok(()),
@@ -136,6 +151,7 @@ fn need_entity(
                 set,
                 created,
                 known,
+                seen,
                 needed,
             )
         }
@@ -147,11 +163,12 @@ fn need_entity(
                 set,
                 created,
                 known,
+                seen,
                 needed,
             )
         }
         ComponentEntityType::Ty { created: id, .. } => {
-            need_type(types, id, set, created, known, needed)
+            need_type(types, id, set, created, known, seen, needed)
         }
         ComponentEntityType::Instance(id) => need_instance(types, id, set, created, known, needed),
         ComponentEntityType::Component(_) => Ok(()),
@@ -161,9 +178,9 @@ fn need_entity(
 impl TypeAlloc {
     /// Whether the contents of a type are named by a set: the parameters and the result of a function, what a
     /// defined type is made of, the exports of an instance. A resource and a component have none. The exports of
-    /// each instance type are gone through once, however many ways lead there, and so are the nodes of each
-    /// function or value type. An instance type that is exported again costs as many steps as it needs types that
-    /// the set has not. The set is not copied.
+    /// each instance type are gone through once, however many ways lead there, and so is each node in its functions
+    /// and value types. An instance type that is exported again costs as many steps as it needs types that the set
+    /// has not. The set is not copied.
     pub fn all_valtypes_named(
         &self,
         id: &ComponentAnyTypeId,
@@ -175,8 +192,9 @@ impl TypeAlloc {
     {
         let created = TypeSet::new(self.allocator());
         let mut known = NeededSets::new(self.allocator());
+        let mut seen = PlaceSet::new(self.allocator());
         let mut needed = TypeSet::new(self.allocator());
-        need_type(self, *id, set, &created, &mut known, &mut needed)?;
+        need_type(self, *id, set, &created, &mut known, &mut seen, &mut needed)?;
         Ok(needed.len() == 0)
     }
 }

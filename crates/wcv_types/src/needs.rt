@@ -126,23 +126,25 @@ pub fn need_defined(
     Ok(())
 }
 
-/// What the parameters and the result of a function need. Each node in them is gone through once.
+/// What the parameters and the result of a function need.
 pub fn need_func(
     types: &TypeAlloc,
     shape: &ComponentFuncType,
     set: &TypeSet,
     created: &TypeSet,
+    seen: &mut PlaceSet,
     needed: &mut TypeSet,
 ) -> Result<(), OutOfMemory>
     requires stands { All (Stands types.now) (parts_of (n.Func shape.now)) }
     requires set { AllStand types.now set.now }
     requires created { AllStand types.now created.now }
     requires needed { AllStand types.now needed.old }
-    ensures { OnOk result (Needs types.now (λ ids. are_named (beside ids created.now set.now) (slot_parts (trees types.now.nodes) (slots_of (n.Func shape.now)))) needed.old needed.new) }
+    requires seen { AllSeen types.now created.now set.now needed.old seen.old }
+    ensures needed { OnOk result (Needs types.now (λ ids. are_named (beside ids created.now set.now) (slot_parts (trees types.now.nodes) (slots_of (n.Func shape.now)))) needed.old needed.new) }
+    ensures seen { OnOk result (AllSeen types.now created.now set.now needed.new seen.new) }
 {
-    let mut seen = PlaceSet::new(types.allocator());
     for param in &shape.params {
-        need_value(types, Some(param.1), set, created, &mut seen, needed)?;
+        need_value(types, Some(param.1), set, created, seen, needed)?;
     }
-    need_value(types, shape.result, set, created, &mut seen, needed)
+    need_value(types, shape.result, set, created, seen, needed)
 }

@@ -13,7 +13,7 @@ use Rattle.wcv_types.specs.declared.ids.Part.TheVariants as part
 use Rattle.wcv_types.specs.declared.shapes.ComponentEntityType.{ComponentEntityType}
 use Rattle.wcv_types.proofs.FreeBelow.{entry_rank, entries_ready}
 use Rattle.wcv_types.proofs.NamedExports.{module_passes, component_passes}
-use Rattle.wcv_types.proofs.Needing.{needs_nothing, needs_as, needs_more, known_needs, known_put, none_gone, one_gone, all_gone, instance_needs, none_seen}
+use Rattle.wcv_types.proofs.Needing.{needs_nothing, needs_as, needs_more, known_needs, known_put, none_gone, one_gone, all_gone, instance_needs, none_seen, seen_kept, seen_beside}
 use Rattle.wcv_types.proofs.named_contents.+needing.Goals as goal
 
 -- ## What is exported
@@ -30,16 +30,27 @@ need_entity-returns-in-Component-clause-needed t c =
     (λ ids. ap (λ (ty : ComponentEntityType). passes (beside ids c.args.created.now c.args.set.now) (entity_tree (trees c.args.types.now.nodes) ty)) c.in-Component.is ∙
     component_passes c.args.types.now (beside ids c.args.created.now c.args.set.now) c.in-Component.field-0 (subst (EntityStands c.args.types.now) c.in-Component.is c.requires.stands))
 
+pub need_entity-returns-in-Instance-clause-seen : goal.need_entity-returns-in-Instance-clause-seen
+need_entity-returns-in-Instance-clause-seen t c =
+    on_ok_weaker c.need_instance.result
+    (λ w. seen_kept c.args.types.now c.args.created.now c.args.set.now (λ ids. passes (beside ids c.args.created.now c.args.set.now) (tree_at c.args.types.now (part.Instance c.in-Instance.id)))
+    c.args.needed.now c.need_instance.new.needed c.args.seen.now w c.requires.seen)
+    c.need_instance.ensures.needed
+
 -- ## Exports
 
 pub needs_of_exports-loop-entry-init : goal.needs_of_exports-loop-entry-init
-needs_of_exports-loop-entry-init t c = (none_gone c.args.types.now c.args.set.now c.args.exports.now c.new-created.result c.new-needed.result c.new-created.ensures c.new-needed.ensures, c.requires.known)
+needs_of_exports-loop-entry-init t c = (
+  none_gone c.args.types.now c.args.set.now c.args.exports.now c.new-created.result c.new-needed.result c.new-created.ensures c.new-needed.ensures,
+  c.requires.known,
+  none_seen c.args.types.now c.new-created.result c.args.set.now c.new-needed.result c.new-seen.result c.new-seen.ensures,
+)
 
 pub needs_of_exports-need_entity-requires : goal.needs_of_exports-need_entity-requires
 needs_of_exports-need_entity-requires t c =
     let r = entry_rank c.args.exports.now c.loop-entry.entry-index c.entry-item.result c.loop-entry-test.true c.entry-item.is in
     let stands : EntityStands c.args.types.now c.entry-item.result.1.ty = search rules in
-    (omega (arith, r, c.decreases), (stands, (c.requires.set, (c.loop-entry.invariant.0.created, (c.loop-entry.invariant.1, c.loop-entry.invariant.0.left.stand)))))
+    (omega (arith, r, c.decreases), (stands, (c.requires.set, (c.loop-entry.invariant.0.created, (c.loop-entry.invariant.1, (c.loop-entry.invariant.0.left.stand, c.loop-entry.invariant.2))))))
 
 pub needs_of_exports-loop-entry-preserved : goal.needs_of_exports-loop-entry-preserved
 needs_of_exports-loop-entry-preserved t c =
@@ -47,6 +58,7 @@ needs_of_exports-loop-entry-preserved t c =
       one_gone c.args.types.now c.args.set.now c.args.exports.now c.loop-entry.entry-index c.entry-item.result c.loop-entry.created c.push_created.new.set c.loop-entry.needed c.need_entity.new.needed c.loop-entry-test.true c.entry-item.is stands
           c.loop-entry.invariant.0 c.in_ok-need_entity.ensures.needed c.in_ok-push_created.ensures,
       c.in_ok-need_entity.ensures.known,
+      seen_beside c.args.types.now c.loop-entry.created c.args.set.now c.need_entity.new.needed c.need_entity.new.seen c.entry-item.result.1.ty c.push_created.new.set c.in_ok-push_created.ensures stands c.in_ok-need_entity.ensures.seen,
     )
 
 pub needs_of_exports-returns-clause-needed : goal.needs_of_exports-returns-clause-needed
@@ -104,9 +116,6 @@ need_type-returns-in-Resource-clause-needed t c =
     needs_nothing c.args.types.now (λ ids. passes (beside ids c.args.created.now c.args.set.now) (tree_at c.args.types.now (any_part c.args.id))) c.args.needed.now c.requires.needed
     (λ ids. ap (λ (id : ComponentAnyTypeId). passes (beside ids c.args.created.now c.args.set.now) (tree_at c.args.types.now (any_part id))) c.in-Resource.is)
 
-pub need_type-need_defined-requires-clause-seen : goal.need_type-need_defined-requires-clause-seen
-need_type-need_defined-requires-clause-seen t c = none_seen c.args.types.now c.args.created.now c.args.set.now c.args.needed.now c.new-seen.result c.new-seen.ensures
-
 pub need_type-returns-in-Defined-clause-needed : goal.need_type-returns-in-Defined-clause-needed
 need_type-returns-in-Defined-clause-needed t c =
     on_ok_weaker c.need_defined.result
@@ -121,4 +130,11 @@ need_type-returns-in-Func-clause-needed t c =
     (needs_as c.args.types.now (λ ids. are_named (beside ids c.args.created.now c.args.set.now) (slot_parts (trees c.args.types.now.nodes) (slots_of (n.Func c.get-in-Func.result.now))))
     (λ ids. passes (beside ids c.args.created.now c.args.set.now) (tree_at c.args.types.now (any_part c.args.id))) c.args.needed.now c.need_func.new.needed
     (λ ids. sym (ap (λ (id : ComponentAnyTypeId). passes (beside ids c.args.created.now c.args.set.now) (tree_at c.args.types.now (any_part id))) c.in-Func.is ∙ ap (passes (beside ids c.args.created.now c.args.set.now)) c.get-in-Func.ensures.unfolds)))
-    c.need_func.ensures
+    c.need_func.ensures.needed
+
+pub need_type-returns-in-Instance-clause-seen : goal.need_type-returns-in-Instance-clause-seen
+need_type-returns-in-Instance-clause-seen t c =
+    on_ok_weaker c.need_instance.result
+    (λ w. seen_kept c.args.types.now c.args.created.now c.args.set.now (λ ids. passes (beside ids c.args.created.now c.args.set.now) (tree_at c.args.types.now (part.Instance c.in-Instance.id)))
+    c.args.needed.now c.need_instance.new.needed c.args.seen.now w c.requires.seen)
+    c.need_instance.ensures.needed

@@ -1,6 +1,6 @@
 use Rattle.std.proofs.Common.{◌+◌, ◌*◌}
 use Rattle.wcv_types.specs.Entities.{any_part, entity_slot}
-use Rattle.wcv_types.specs.Needing.{AllNeeded}
+use Rattle.wcv_types.specs.Needing.{AllNeeded, AllSeen}
 use Rattle.wcv_types.specs.Unfold.{rank}
 use Rattle.wcv_types.specs.declared.ids.Part.TheVariants as part
 use Rattle.wcv_types.proofs.FreeBelow.{slot_rank, entries_rank}
@@ -19,6 +19,8 @@ decreases-need_entity l = 4 * slot_rank (entity_slot l.ty) + 2
 abbrev pub decreases-needs_of_exports : goal.decreases-needs_of_exports
 decreases-needs_of_exports l = 4 * entries_rank l.exports.now + 3
 
--- those before are gone through, and what they created is kept apart
+-- those before are gone through, what they created is kept apart, and what was seen is named where all that is needed is
 abbrev pub invariant-needs_of_exports-loop-entry : goal.invariant-needs_of_exports-loop-entry
-invariant-needs_of_exports-loop-entry l = GoneThrough l.types l.set l.exports l.entry-index l.created l.needed × AllNeeded l.types l.set l.known
+invariant-needs_of_exports-loop-entry l =
+    GoneThrough l.types l.set l.exports l.entry-index l.created l.needed × AllNeeded l.types l.set l.known ×
+    AllSeen l.types l.created l.set l.needed l.seen

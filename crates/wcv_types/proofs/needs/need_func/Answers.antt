@@ -5,13 +5,13 @@ use Rattle.wcv_types.specs.Needing.{beside}
 use Rattle.wcv_types.specs.Tree.{here}
 use Rattle.wcv_types.specs.Unfold.{option_slot, slot_tree, trees}
 use Rattle.wcv_types.proofs.Knowing.{given_stands, given_result, named_from, named_next, named_last}
-use Rattle.wcv_types.proofs.Needing.{needs_as, all_left_to_do, one_done, last_done, none_seen}
+use Rattle.wcv_types.proofs.Needing.{needs_as, all_left_to_do, one_done, last_done}
 use Rattle.wcv_types.proofs.needs.need_func.Goals as goal
 
 pub loop-param-init : goal.loop-param-init
 loop-param-init c = (
   all_left_to_do c.args.types.now (λ ids. named_from (beside ids c.args.created.now c.args.set.now) (trees c.args.types.now.nodes) c.args.shape.now 0) c.args.needed.now c.requires.needed,
-  none_seen c.args.types.now c.args.created.now c.args.set.now c.args.needed.now c.new-seen.result c.new-seen.ensures,
+  c.requires.seen,
 )
 
 pub need_value-requires-clause-value : goal.need_value-requires-clause-value
@@ -35,8 +35,8 @@ loop-param-preserved c =
 pub need_value-requires-2-clause-value : goal.need_value-requires-2-clause-value
 need_value-requires-2-clause-value c = given_result c.args.types.now c.args.shape.now.params.items (here, option_slot c.args.shape.now.result) c.requires.stands
 
-pub returns : goal.returns
-returns c =
+pub returns-clause-needed : goal.returns-clause-needed
+returns-clause-needed c =
     let ts = trees c.args.types.now.nodes in
     let ended : length c.args.shape.now.params.items ≤ c.loop-param.param-index = subst (λ ps. length ps ≤ c.loop-param.param-index) c.deref-param-items.ensures.value c.loop-param-test.false in
     on_ok_weaker c.need_value-2.result
