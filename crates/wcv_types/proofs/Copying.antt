@@ -1,11 +1,10 @@
 -- Copies of lists whose keys are distinct, one key after another.
-use Rattle.std.proofs.Common.{◌≡◌, ℕ, zero, suc, ◌+◌, ◌<◌, List, [], ◌∷◌, ◌++◌, length, take, get_or, refl, sym, ◌∙◌, ap, subst, arith, Bool, false, cond, ◌||◌, Some, None, add-one, take-suc}
+use Rattle.std.proofs.Common.{◌≡◌, ℕ, zero, suc, ◌+◌, ◌<◌, List, [], ◌∷◌, ◌++◌, length, take, refl, sym, ◌∙◌, ap, subst, arith, Bool, false, cond, ◌||◌, Some, None, add-one}
 use Rattle.std.specs.Prelude.{slice_get, eqb}
 use Rattle.std.specs.List.{AllByRecursion, IsDistinct, list_any}
 use Rattle.std.specs.Map.{keys_of, lookup}
 use Rattle.std.proofs.lemmas.Map.{lookup-none}
 use Rattle.std.proofs.lemmas.Map.Keys.{IsDistinct-head, IsDistinct-tail}
-use Rattle.std.proofs.lemmas.Option.{slice_get_read}
 use Rattle.wcv_types.specs.Sets.{same_resource, has_resource, with_resource}
 use Rattle.wcv_types.specs.declared.ids.ResourceId.{ResourceId}
 use Rattle.wcv_types.proofs.Knowing.{take-next}
@@ -47,14 +46,11 @@ module _ {K : Type 0} (e f : K → K → Bool) (turned : (x y : K) → f x y ≡
           (turned x.0 y.0 ∙ at_each (λ z. e y.0 z ≡ false) (keys_of es) k x.0 (IsDistinct-head e y.0 (keys_of es) d) (key_at es k x h), go es k (IsDistinct-tail e y.0 (keys_of es) d) h)
 
 -- one more resource
-pub set_next : (e : ResourceId → ResourceId → Bool) → ((x y : ResourceId) → e x y ≡ same_resource x y) → (rs : List ResourceId) (k : ℕ) (r : ResourceId) (copied new : List ResourceId) → IsDistinct e rs → k < length rs → r ≡ get_or rs k r →
-    copied ≡ take k rs → new ≡ with_resource copied r → new ≡ take (k + 1) rs
-set_next e same rs k r copied new d w is c n =
-    let there : slice_get rs k ≡ Some r = slice_get_read rs (length rs) k r refl w is in
-    let turned : (x y : ResourceId) → same_resource x y ≡ e y x = λ x y. eqb-sym x.index y.index ∙ sym (same y x) in
-    let fresh : has_resource (take k rs) r ≡ false = fresh_key e same_resource turned rs k r d there in
+pub set_next : (rs : List ResourceId) (k : ℕ) (r : ResourceId) (copied new : List ResourceId) → IsDistinct same_resource rs → slice_get rs k ≡ Some r → copied ≡ take k rs → new ≡ with_resource copied r → new ≡ take (k + 1) rs
+set_next rs k r copied new d there c n =
+    let fresh : has_resource (take k rs) r ≡ false = fresh_key same_resource same_resource (λ x y. eqb-sym x.index y.index) rs k r d there in
     n ∙ ap (λ (cs : List ResourceId). with_resource cs r) c ∙ ap (λ (b : Bool). cond b (take k rs) (take k rs ++ r ∷ [])) fresh ∙
-    ap (λ (x : ResourceId). take k rs ++ x ∷ []) is ∙ sym (take-suc rs k r w) ∙ ap (λ (j : ℕ). take j rs) (sym (add-one k))
+    sym (take-next rs k r there) ∙ ap (λ (j : ℕ). take j rs) (sym (add-one k))
 
 -- one more resource and its place
 pub path_next : {X : Type 0} (es : List (ResourceId × X)) (k : ℕ) (r : ResourceId) (v w : X) (copied new : List (ResourceId × X)) → slice_get es k ≡ Some (r, v) → copied ≡ take k es → w ≡ v → new ≡ copied ++ (r, w) ∷ [] → new ≡ take (k + 1) es

@@ -1,4 +1,5 @@
 pub mod Tree
+pub mod Boxed
 pub mod ByName
 pub mod Exported
 pub mod Identity

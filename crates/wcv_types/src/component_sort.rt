@@ -14,7 +14,7 @@ ghost use Rattle.wcv_types.specs.Unfold.{entry_slots, head_of, parts_in, parts_o
 ghost use Rattle.wcv_types.specs.declared.arena.Node.TheVariants as n;
 
 use crate::arena::{Node, TypeAlloc};
-use crate::component_type::{ComponentType, Paths};
+use crate::component_type::ComponentType;
 use crate::entries_again::{copy_paths, entries_again};
 use crate::entry_facts::{Total, entries_total, node_facts};
 use crate::entry_parts::{count_entries, nth_entry_part, push_entries};
@@ -23,6 +23,7 @@ use crate::ids::{ComponentTypeId, Part};
 use crate::info::TypeInfo;
 use crate::item_map::ItemMap;
 use crate::parts::Parts;
+use crate::paths::Paths;
 use crate::refill::Refill;
 use crate::sorts::{NodeSort, TypeSort};
 use std::alloc::Global;

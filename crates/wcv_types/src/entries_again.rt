@@ -6,8 +6,8 @@ ghost use Rattle.wcv_types.specs.Tree.{Role, Extern_name};
 ghost use Rattle.wcv_types.specs.Unfold.{entity_slot, entry_name, entry_slots};
 
 use crate::again::copy_text;
-use crate::component_type::Paths;
 use crate::item_map::{ComponentItem, ItemMap};
+use crate::paths::Paths;
 use crate::refill::Refill;
 use std::alloc::Global;
 use wcv_core::{OutOfMemory, Place, Text};

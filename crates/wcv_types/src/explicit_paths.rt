@@ -11,9 +11,9 @@ ghost use Rattle.wcv_types.specs.Unfold.{tree_at, trees};
 ghost use Rattle.wcv_types.specs.declared.ids.Part.TheVariants as part;
 
 use crate::arena::TypeAlloc;
-use crate::component_type::Paths;
 use crate::ids::{ComponentAnyTypeId, ComponentInstanceTypeId, Part, ResourceId};
 use crate::item_map::{ComponentItem, ItemMap};
+use crate::paths::Paths;
 use crate::place_set::PlaceSet;
 use crate::resource_set::ResourceSet;
 use crate::shapes::ComponentEntityType;

@@ -10,28 +10,30 @@ use std::marker::Model;
 use wcv_core::OutOfMemory;
 
 /// Resources, each once, in the order in which they came. Contracts see it as the list of them.
+///
+/// Most types own none, so the set is made with the first, apart from the type: a node of the arena keeps its size.
 #[derive(Drop)]
 pub struct ResourceSet {
-    ids: IndexSet<ResourceId>,
+    ids: Option<Box<IndexSet<ResourceId>>>,
+    alloc: Global,
 }
 
 impl Model for ResourceSet {
     ghost use Rattle.std.specs.Prelude.{List};
+    ghost use Rattle.wcv_types.specs.Boxed.{keys_in_box};
     ghost use Rattle.wcv_types.specs.declared.ids.ResourceId.{ResourceId};
 
     ghost Value = { List ResourceId };
 
-    ghost view = { λ s. s.ids.keys };
+    ghost view = { λ s. keys_in_box s.ids };
 }
 
 impl ResourceSet {
-    /// No resource.
+    /// No resource. It takes no memory.
     pub fn new(alloc: Global) -> ResourceSet
         ensures { result ≡ [] }
     {
-        ResourceSet {
-            ids: IndexSet::new(alloc),
-        }
+        ResourceSet { ids: None, alloc }
     }
 
     /// One more resource, behind all others. A set that has it stays as it is, and so does any set out of memory.
@@ -39,9 +41,19 @@ impl ResourceSet {
         ensures ok { OnOk result (self.new ≡ with_resource self.old entry) }
         ensures err { OnErr result (self.new ≡ self.old) }
     {
-        match self.ids.insert(entry) {
-            Ok(_) => Ok(()),
-            Err(_) => Err(OutOfMemory),
+        match &mut self.ids {
+            Some(ids) => match ids.insert(entry) {
+                Ok(_) => Ok(()),
+                Err(_) => Err(OutOfMemory),
+            },
+            None => {
+                let mut ids = IndexSet::new(self.alloc);
+                if ids.insert(entry).is_err() {
+                    return Err(OutOfMemory);
+                }
+                self.ids = Some(Box::new(self.alloc, ids)?);
+                Ok(())
+            }
         }
     }
 
@@ -50,21 +62,30 @@ impl ResourceSet {
         ensures value { result ≡ length self.now }
         ensures unique { IsDistinct same_resource self.now }
     {
-        self.ids.len()
+        match &self.ids {
+            Some(ids) => ids.len(),
+            None => 0,
+        }
     }
 
     /// The resource at this position.
     pub fn get_index(&self, k: usize) -> Option<&ResourceId>
         ensures { option_copied result ≡ slice_get self.now k }
     {
-        self.ids.get_index(k)
+        match &self.ids {
+            Some(ids) => ids.get_index(k),
+            None => None,
+        }
     }
 
     /// Whether the set has the resource.
     pub fn contains(&self, entry: &ResourceId) -> bool
         ensures { result ≡ has_resource self.now entry.now }
     {
-        self.ids.contains(entry)
+        match &self.ids {
+            Some(ids) => ids.contains(entry),
+            None => false,
+        }
     }
 
     /// An equal set.
@@ -72,10 +93,11 @@ impl ResourceSet {
         ensures { IfOk result (λ copied. copied ≡ self.now) }
     {
         let mut copied = ResourceSet::new(alloc);
-        let ids = self.ids.as_slice();
-        for id in ids {
-            let entry = *id;
-            copied.push(entry)?;
+        for k in 0..self.len() {
+            match self.get_index(k) {
+                Some(id) => copied.push(*id)?,
+                None => unreachable!(),
+            }
         }
         Ok(copied)
     }
