@@ -1,64 +1,107 @@
 // Looking up by text what stands in a list of pairs.
-ghost use Rattle.std.specs.Prelude.{◌≡◌, List, [], ◌∷◌, ◌++◌, length, slice_get, option_copied, bytes_eq, IfOk, OnOk};
+ghost use Rattle.std.specs.Prelude.{◌≡◌, [], ◌∷◌, ◌++◌, slice_get, option_copied, bytes_eq, IfOk, OnOk};
+ghost use Rattle.std.specs.BTreeMap.{get};
 ghost use Rattle.std.specs.Map.{lookup};
+ghost use Rattle.std.specs.Ordering.{nat_cmp};
+ghost use Rattle.wcv_core.specs.LabelSet.{mixed};
+ghost use Rattle.wcv_core.specs.TextSet.{checked, is_text};
 ghost use Rattle.wcv_types.specs.ByName.{AreFirsts, first_place, texts_in, value_at as value_in};
-ghost use Rattle.wcv_types.specs.Tree.{Text as Bytes};
 
 use std::alloc::Global;
+use std::collections::BTreeMap;
 use std::marker::Model;
-use wcv_core::{OutOfMemory, Text, TextSet};
+use wcv_core::{OutOfMemory, Text, mix};
 
-/// The place at this position, where there is one.
-fn place_at(places: &[usize], k: usize) -> Option<usize>
-    ensures { result ≡ slice_get places.now k }
+/// Whether the text stands at this position.
+fn is_at<V>(entries: &[(Text, V)], k: usize, text: &str) -> bool
+    ensures { result ≡ is_text text.now (slice_get (texts_in entries.now) k) }
 {
-    match places.get(k) {
-        Some(place) => Some(*place),
-        None => None,
+    match entries.get(k) {
+        Some(entry) => entry.0.as_str() == text,
+        None => false,
     }
 }
 
-/// The texts of a list, each once, and where each stands first.
+/// The place, where the text stands there.
+fn check<V>(entries: &[(Text, V)], place: Option<usize>, text: &str) -> Option<usize>
+    ensures { result ≡ checked (texts_in entries.now) text.now place }
+{
+    match place {
+        Some(k) if is_at(entries, k, text) => Some(k),
+        _ => None,
+    }
+}
+
+/// Where each text of a list stands first.
+///
+/// It has no copy of them: it leads from the number that the bytes of a text give to a place in the list, which has
+/// the text or another with that number. Of texts with one number, whoever chose them, only the first is led to so,
+/// and the others by copies of their bytes: a look-up among `n` never makes more than some `log n` comparisons.
 #[derive(Drop)]
 pub(crate) struct Firsts {
-    texts: TextSet,
-    places: Vec<usize>,
+    by_number: BTreeMap<u64, usize>,
+    by_bytes: BTreeMap<String, usize>,
 }
 
 impl Firsts {
-    /// One more text of the list.
-    fn join(&mut self, alloc: Global, text: &str, place: usize) -> Result<(), OutOfMemory>
-        ensures { OnOk result ((us : List Bytes) → length us ≡ place → AreFirsts self.old.texts self.old.places.items us → AreFirsts self.new.texts self.new.places.items (us ++ text.now ∷ [])) }
+    /// Where the text stands first, which this place, the one of its number, or its bytes lead to.
+    fn place_from<V>(
+        &self,
+        entries: &[(Text, V)],
+        place: Option<usize>,
+        text: &str,
+    ) -> Option<usize>
+        ensures { AreFirsts self.now.by_number self.now.by_bytes (texts_in entries.now) → place ≡ get nat_cmp self.now.by_number (mixed text.now) → result ≡ first_place text.now (texts_in entries.now) }
     {
-        if self.texts.find(text).is_none() {
-            let copy = String::from_str(alloc, text)?;
-            self.texts.append(copy)?;
-            self.places.push(place)?;
+        match check(entries, place, text) {
+            Some(k) => Some(k),
+            None => check(entries, self.by_bytes.get(text).copied(), text),
         }
-        Ok(())
     }
 
-    /// Where the text stands first.
-    pub(crate) fn find(&self, text: &str) -> Option<usize>
-        ensures { (us : List Bytes) → AreFirsts self.now.texts self.now.places.items us → result ≡ first_place text.now us }
+    /// Where the text stands first in the list.
+    pub(crate) fn find<V>(&self, entries: &[(Text, V)], text: &str) -> Option<usize>
+        ensures { AreFirsts self.now.by_number self.now.by_bytes (texts_in entries.now) → result ≡ first_place text.now (texts_in entries.now) }
     {
-        match self.texts.find(text) {
-            Some(k) => place_at(&self.places, k),
-            None => None,
+        let number = mix(text);
+        self.place_from(entries, self.by_number.get(&number).copied(), text)
+    }
+
+    /// One more text behind those of the list. The answer is where it stood already.
+    fn join<V>(
+        &mut self,
+        alloc: Global,
+        before: &[(Text, V)],
+        text: &str,
+    ) -> Result<Option<usize>, OutOfMemory>
+        ensures stood { IfOk result (λ o. AreFirsts self.old.by_number self.old.by_bytes (texts_in before.now) → o ≡ first_place text.now (texts_in before.now)) }
+        ensures joins { OnOk result (AreFirsts self.old.by_number self.old.by_bytes (texts_in before.now) → AreFirsts self.new.by_number self.new.by_bytes (texts_in before.now ++ text.now ∷ [])) }
+    {
+        let number = mix(text);
+        let place = self.by_number.get(&number).copied();
+        let stood = self.place_from(before, place, text);
+        if stood.is_none() {
+            if place.is_none() {
+                self.by_number.insert(number, before.len())?;
+            } else {
+                let key = String::from_str(alloc, text)?;
+                self.by_bytes.insert(key, before.len())?;
+            }
         }
+        Ok(stood)
     }
 }
 
-/// The texts of the pairs, and where each stands first.
+/// Where the texts of the pairs stand first.
 pub(crate) fn firsts_of<V>(alloc: Global, entries: &[(Text, V)]) -> Result<Firsts, OutOfMemory>
-    ensures { IfOk result (λ f. AreFirsts f.texts f.places.items (texts_in entries.now)) }
+    ensures { IfOk result (λ f. AreFirsts f.by_number f.by_bytes (texts_in entries.now)) }
 {
     let mut firsts = Firsts {
-        texts: TextSet::new(alloc),
-        places: Vec::new(alloc),
+        by_number: BTreeMap::new(alloc),
+        by_bytes: BTreeMap::new(alloc),
     };
     for place in 0..entries.len() {
-        firsts.join(alloc, entries[place].0.as_str(), place)?;
+        firsts.join(alloc, &entries[..place], entries[place].0.as_str())?;
     }
     Ok(firsts)
 }
@@ -91,8 +134,8 @@ pub(crate) fn value_at<V>(entries: &[(Text, V)], place: Option<usize>) -> Option
 
 /// The pairs of a list, by their texts. Contracts see it as the list.
 ///
-/// It lends the list, and keeps each text once, with the position where it stands first. So a look-up takes the
-/// time of one in a set, however long the list is.
+/// It lends the list, and keeps where each text stands first, but no text. So a look-up takes the time of one in a
+/// set, however long the list is.
 #[derive(Drop)]
 pub struct ByName<'a, V> {
     entries: &'a [(Text, V)],
@@ -108,7 +151,7 @@ impl<'a, V> Model for ByName<'a, V> {
 
     ghost view = { λ m. m.entries.now };
 
-    ghost invariant = { λ m. AreFirsts m.firsts.texts m.firsts.places.items (texts_in m.entries.now) };
+    ghost invariant = { λ m. AreFirsts m.firsts.by_number m.firsts.by_bytes (texts_in m.entries.now) };
 }
 
 impl<'a, V> ByName<'a, V> {
@@ -125,6 +168,6 @@ impl<'a, V> ByName<'a, V> {
     pub fn get(&self, key: &Text) -> Option<&V>
         ensures { option_copied result ≡ lookup (bytes_eq key.now) self.now }
     {
-        value_at(self.entries, self.firsts.find(key.as_str()))
+        value_at(self.entries, self.firsts.find(self.entries, key.as_str()))
     }
 }

@@ -13,7 +13,7 @@ use std::marker::Model;
 use wcv_core::{EntityType, OutOfMemory, Text};
 
 /// Of up to so many exports a name is looked up by a walk. That takes about as long as a look-up in a set, and most
-/// types export no more, so they keep no copy of their names.
+/// types export no more, so they keep no places of their names.
 const MAX_WALKED: usize = 32;
 
 /// The places of the names, where they are many.
@@ -21,7 +21,7 @@ fn firsts_of_many<V>(
     alloc: Global,
     entries: &[(Text, V)],
 ) -> Result<Option<Box<Firsts>>, OutOfMemory>
-    ensures { IfOk result (λ o. IfSome o (λ f. AreFirsts f.value.texts f.value.places.items (texts_in entries.now))) }
+    ensures { IfOk result (λ o. IfSome o (λ f. AreFirsts f.value.by_number f.value.by_bytes (texts_in entries.now))) }
 {
     if entries.len() <= MAX_WALKED {
         return Ok(None);
@@ -32,7 +32,7 @@ fn firsts_of_many<V>(
 
 /// The places of the names that the node exports, where they are many.
 fn firsts_in(alloc: Global, node: &Node) -> Result<Option<Box<Firsts>>, OutOfMemory>
-    ensures { IfOk result (λ o. IfSome o (λ f. AreFirsts f.value.texts f.value.places.items (names_of node.now))) }
+    ensures { IfOk result (λ o. IfSome o (λ f. AreFirsts f.value.by_number f.value.by_bytes (names_of node.now))) }
 {
     match node {
         Node::Instance(shape) => firsts_of_many(alloc, shape.exports.as_slice()),
@@ -52,11 +52,11 @@ fn look_up<'a, V>(
     entries: &'a [(Text, V)],
     key: &Text,
 ) -> Option<&'a V>
-    requires { IfSome firsts.now (λ f. AreFirsts f.value.texts f.value.places.items (texts_in entries.now)) }
+    requires { IfSome firsts.now (λ f. AreFirsts f.value.by_number f.value.by_bytes (texts_in entries.now)) }
     ensures { option_copied result ≡ lookup (bytes_eq key.now) entries.now }
 {
     match firsts {
-        Some(firsts) => value_at(entries, firsts.find(key.as_str())),
+        Some(firsts) => value_at(entries, firsts.find(entries, key.as_str())),
         None => walk(entries, key),
     }
 }
@@ -80,7 +80,7 @@ impl Model for IndexedNode {
 
     ghost view = { λ x. x.node };
 
-    ghost invariant = { λ x. IfSome x.firsts (λ f. AreFirsts f.value.texts f.value.places.items (names_of x.node)) };
+    ghost invariant = { λ x. IfSome x.firsts (λ f. AreFirsts f.value.by_number f.value.by_bytes (names_of x.node)) };
 }
 
 impl IndexedNode {
