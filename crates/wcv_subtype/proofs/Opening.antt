@@ -250,16 +250,14 @@ module _ (a : Arena) (es : Items) (f : Reading Atom) where
     pub all_gave : (m : Map) → Gives a (given_for (named_trees (trees a.nodes) es) (take k (named_trees (trees a.nodes) is))) m → Gives a (given_for (named_trees (trees a.nodes) es) (named_trees (trees a.nodes) is)) m
     all_gave m g = gives_as a m _ _ (ap (given_for (named_trees (trees a.nodes) es)) (take_all k (named_trees (trees a.nodes) is) past)) g
 
--- under another name
-pub fits_as : (a : Arena) (f g : Reading Atom) (bs es : Items) (y : Text × ComponentItem) (x : ComponentEntityType) → f ≡ g → bs ≡ es → Fits a f (named_trees (trees a.nodes) bs) y x → Fits a g (named_trees (trees a.nodes) es) y x
-fits_as a f g bs es y x e h w = subst (λ (r : Reading Atom). Fits a r (named_trees (trees a.nodes) es) y x) e (subst (λ (xs : Items). Fits a f (named_trees (trees a.nodes) xs) y x) h w)
+-- as it is read under another name
+pub fits_as : (a : Arena) (f g : Reading Atom) (es : Items) (y : Text × ComponentItem) (x : ComponentEntityType) → f ≡ g → Fits a f (named_trees (trees a.nodes) es) y x → Fits a g (named_trees (trees a.nodes) es) y x
+fits_as a f g es y x e w = subst (λ (r : Reading Atom). Fits a r (named_trees (trees a.nodes) es) y x) e w
 
-pub refused_as : {M : Type 0} (a : Arena) (f g : Reading Atom) (bs es : Items) (y : Text × ComponentItem) (offset : ℕ) (r : Error M) → f ≡ g → bs ≡ es →
-    MemoryOrMismatch offset (found_in (match_pass (id_tests a.core) 0 given f) (named_trees (trees a.nodes) bs) (y.0, entity_tree (trees a.nodes) y.1.ty) ≡ true) r →
+pub refused_as : {M : Type 0} (a : Arena) (f g : Reading Atom) (es : Items) (y : Text × ComponentItem) (offset : ℕ) (r : Error M) → f ≡ g →
+    MemoryOrMismatch offset (found_in (match_pass (id_tests a.core) 0 given f) (named_trees (trees a.nodes) es) (y.0, entity_tree (trees a.nodes) y.1.ty) ≡ true) r →
     MemoryOrMismatch offset (found_in (match_pass (id_tests a.core) 0 given g) (named_trees (trees a.nodes) es) (y.0, entity_tree (trees a.nodes) y.1.ty) ≡ true) r
-refused_as a f g bs es y offset r e h w =
-    subst (λ (q : Reading Atom). MemoryOrMismatch offset (found_in (match_pass (id_tests a.core) 0 given q) (named_trees (trees a.nodes) es) (y.0, entity_tree (trees a.nodes) y.1.ty) ≡ true) r) e
-    (subst (λ (xs : Items). MemoryOrMismatch offset (found_in (match_pass (id_tests a.core) 0 given f) (named_trees (trees a.nodes) xs) (y.0, entity_tree (trees a.nodes) y.1.ty) ≡ true) r) h w)
+refused_as a f g es y offset r e w = subst (λ (q : Reading Atom). MemoryOrMismatch offset (found_in (match_pass (id_tests a.core) 0 given q) (named_trees (trees a.nodes) es) (y.0, entity_tree (trees a.nodes) y.1.ty) ≡ true) r) e w
 
 pub none_left : (a : Arena) (es is : Items) (p : Text × Type_tree → Bool) → list_all p (named_trees (trees a.nodes) is) ≡ list_all p (drop 0 (named_trees (trees a.nodes) is))
 none_left a es is p = sym (ap (list_all p) (drop_none (named_trees (trees a.nodes) is)))

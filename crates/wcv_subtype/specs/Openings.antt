@@ -23,9 +23,10 @@ use Rattle.wcv_matching.specs.AtomTests.{id_tests}
 use Rattle.wcv_matching.specs.GivenTypes.{given_by, given_for}
 use Rattle.wcv_matching.specs.Matching.{Reading, named_imports}
 use Rattle.wcv_matching.specs.NamedPaths.{entry}
-use Rattle.wcv_matching.specs.OnePass.{Atom, given, argument_for, match_below, match_pass}
+use Rattle.wcv_matching.specs.OnePass.{Atom, each_passes, given, argument_for, match_below, match_pass}
 use Rattle.wcv_matching.specs.Orderly.{EachNode}
 use Rattle.wcv_subtype.specs.Map.{Map, Sent, is_type, resources_by, same_part}
+use Rattle.wcv_subtype.specs.Readings.{given_as}
 use Rattle.wcv_subtype.specs.Remap.{NotGiven}
 
 -- arguments by name, with their trees
@@ -88,3 +89,10 @@ pub record Opening (a : Arena) (args : List (Text × Type_tree)) (c : Type_tree)
 -- so of arguments and a component of the arena
 abbrev pub IsOpening : Arena → List (Text × ComponentEntityType) → ComponentTypeId → Map → Type 0
 IsOpening a args component m = Opening a (named_args a args) (tree_at a (p.Component component)) m
+
+-- the arguments pass, and the map has what they give for the imports, where the resources go as the list says
+pub record OpensImports (a : Arena) (args imports : List (Text × Type_tree)) (fs : List (ResourceId × ResourceId)) (m : Map) : Type 0 where
+  pub passes : each_passes (match_pass (id_tests a.core) 0 given (given_as fs)) args imports ≡ true
+  pub resources : m.resources ≡ fs
+  pub given : Gives a (given_for args imports) m
+  pub distinct : IsDistinct same_part (keys_of m.types)

@@ -42,6 +42,10 @@ over es f r = elim (lookup (same r) es) [ None ↦ f r | Some w ↦ w ]
 abbrev pub atoms_of : List (ResourceId × ResourceAtom) → List (Name × Atom)
 atoms_of es = map (λ e. (resource_name e.0, atom_of e.1)) es
 
+-- each resource of the list read as the other, which is given, and any other as it is given
+abbrev pub given_as : List (ResourceId × ResourceId) → Reading Atom
+given_as fs = over (map (λ e. (resource_name e.0, given (resource_name e.1))) fs) given
+
 -- each resource of the list, read by f
 abbrev pub read_by : Reading Atom → List Name → List (Name × Atom)
 read_by f rs = map (λ r. (r, f r)) rs

@@ -188,7 +188,35 @@ fn follow<'a, L: Ledger>(
     Ok(resource_of(types, there))
 }
 
-/// The own resources with what stands for each on the other side: itself, where its path leads to none.
+/// The own resources with what stands for each among the entries of the other side: itself, where its path leads to none.
+pub(crate) fn counterparts_in<L: Ledger>(
+    types: &TypeAlloc,
+    paths: &Paths,
+    entries: &ItemMap,
+    others: &ByName<'_, ComponentItem>,
+    steps: &mut Steps<L>,
+) -> Result<Vec<(ResourceId, ResourceId)>, OutOfMemory>
+    requires entries { All (EntryStands types.now) entries.now }
+    requires others { All (EntryStands types.now) others.now }
+    ensures found { IfOk result (λ found. map lands_on found.items ≡ counterparts_of (map resource_path paths.now) (named_trees (trees types.now.nodes) entries.now) (named_trees (trees types.now.nodes) others.now)) }
+    ensures counted { steps.new ≤ steps.old + walks (map resource_path paths.now) }
+{
+    let alloc = types.allocator();
+    let mut found = Vec::new(alloc);
+    let mut seen = Exports::new(alloc);
+    for k in 0..paths.len() {
+        match paths.get_index(k) {
+            Some((resource, path)) => {
+                let other = follow(types, &mut seen, path.positions(), entries, others, steps)?;
+                found.push((*resource, other.unwrap_or(*resource)))?;
+            }
+            None => unreachable!(),
+        }
+    }
+    Ok(found)
+}
+
+/// So where the other side is not yet by its names: nothing is made where there is no resource.
 pub(crate) fn counterparts<L: Ledger>(
     types: &TypeAlloc,
     paths: &Paths,
@@ -202,20 +230,9 @@ pub(crate) fn counterparts<L: Ledger>(
     ensures counted { steps.new ≤ steps.old + walks (map resource_path paths.now) }
 {
     let alloc = types.allocator();
-    let mut found = Vec::new(alloc);
     if paths.len() == 0 {
-        return Ok(found);
+        return Ok(Vec::new(alloc));
     }
     let by_name = others.by_name(alloc)?;
-    let mut seen = Exports::new(alloc);
-    for k in 0..paths.len() {
-        match paths.get_index(k) {
-            Some((resource, path)) => {
-                let other = follow(types, &mut seen, path.positions(), entries, &by_name, steps)?;
-                found.push((*resource, other.unwrap_or(*resource)))?;
-            }
-            None => unreachable!(),
-        }
-    }
-    Ok(found)
+    counterparts_in(types, paths, entries, &by_name, steps)
 }

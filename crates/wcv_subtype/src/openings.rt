@@ -17,13 +17,14 @@ ghost use Rattle.wcv_matching.specs.Refusals.{MemoryOrMismatch};
 ghost use Rattle.wcv_matching.specs.TableMatching.{Opens};
 ghost use Rattle.wcv_subtype.specs.Compared.{ArePassed};
 ghost use Rattle.wcv_subtype.specs.Extent.{entries_extent, extent, found_extent, matched_extent, opening_extent};
+ghost use Rattle.wcv_subtype.specs.IdCounterparts.{AreExports};
 ghost use Rattle.wcv_subtype.specs.IdPasses.{named_trees};
-ghost use Rattle.wcv_subtype.specs.Openings.{named_args, ArgumentStands, Fits, Gives, IsOpening};
-ghost use Rattle.wcv_subtype.specs.Readings.{atoms_of, reads, resource_name};
+ghost use Rattle.wcv_subtype.specs.Openings.{named_args, ArgumentStands, Fits, Gives, IsOpening, OpensImports};
+ghost use Rattle.wcv_subtype.specs.Readings.{atoms_of, given_as, reads, resource_name};
 
 use crate::compared::Compared;
 use crate::comparisons::sort_name;
-use crate::counterparts::{Exports, counterparts};
+use crate::counterparts::{Exports, counterparts_in};
 use crate::giving::give;
 use crate::map::Remapping;
 use crate::passes::entity_passes;
@@ -109,6 +110,15 @@ fn read_as(
     Ok(atoms)
 }
 
+/// Reads each resource as the list says, and any other as it is given.
+fn given_as(alloc: Global, found: &[(ResourceId, ResourceId)]) -> Result<Readings, OutOfMemory>
+    ensures { IfOk result (λ readings. reads readings ≡ given_as found.now) }
+{
+    let mut readings = Readings::new(alloc);
+    readings.enter(&read_as(alloc, found)?)?;
+    Ok(readings)
+}
+
 /// The refusal of an argument that is not there, or is not as the import expects.
 fn unfit_argument(
     name: &Text,
@@ -186,10 +196,45 @@ fn argument_for<L: Ledger>(
 }
 
 /// What the arguments give for the types that the imports create joins the map, where each import has an argument that
-/// may stand there.
+/// may stand there. The maps of exports and the pairs that pass are kept from one import to the next.
+fn open_each<'a, L: Ledger>(
+    types: &'a TypeAlloc,
+    seen: &mut Exports<'a>,
+    compared: &mut Compared,
+    args: &ByName<'_, ComponentItem>,
+    imports: &ItemMap,
+    right: &mut Readings,
+    opening: &mut Remapping,
+    offset: u64,
+    steps: &mut Steps<L>,
+) -> Result<(), Error>
+    requires args { All (EntryStands types.now) args.now }
+    requires imports { All (EntryStands types.now) imports.now }
+    requires seen { AreExports types.now seen.old.maps }
+    requires compared { ArePassed types.now given (reads right.old) compared.old }
+    requires none { opening.old.types ≡ [] }
+    ensures passes { OnOk result (each_passes (match_pass (id_tests types.now.core) 0 given (reads right.old)) (named_trees (trees types.now.nodes) args.now) (named_trees (trees types.now.nodes) imports.now) ≡ true) }
+    ensures given { OnOk result (Gives types.now (given_for (named_trees (trees types.now.nodes) args.now) (named_trees (trees types.now.nodes) imports.now)) opening.new) }
+    ensures resources { OnOk result (opening.new.resources ≡ opening.old.resources) }
+    ensures err { IfErr result (MemoryOrMismatch offset (each_passes (match_pass (id_tests types.now.core) 0 given (reads right.old)) (named_trees (trees types.now.nodes) args.now) (named_trees (trees types.now.nodes) imports.now) ≡ true)) }
+    ensures counted { steps.new ≤ steps.old + (matched_extent (named_trees (trees types.now.nodes) args.now) (named_trees (trees types.now.nodes) imports.now) + 3 * entries_extent (named_trees (trees types.now.nodes) imports.now)) }
+{
+    for k in 0..imports.len() {
+        match imports.get_index(k) {
+            Some(import) => {
+                let argument = argument_for(types, args, compared, right, import, offset, steps)?;
+                give(types, seen, argument, import.1.ty, opening, steps)?;
+            }
+            None => unreachable!(),
+        }
+    }
+    Ok(())
+}
+
+/// The same, beginning with no map and no pair.
 fn open_imports<L: Ledger>(
     types: &TypeAlloc,
-    args: &ItemMap,
+    args: &ByName<'_, ComponentItem>,
     imports: &ItemMap,
     right: &mut Readings,
     opening: &mut Remapping,
@@ -205,27 +250,51 @@ fn open_imports<L: Ledger>(
     ensures err { IfErr result (MemoryOrMismatch offset (each_passes (match_pass (id_tests types.now.core) 0 given (reads right.old)) (named_trees (trees types.now.nodes) args.now) (named_trees (trees types.now.nodes) imports.now) ≡ true)) }
     ensures counted { steps.new ≤ steps.old + (matched_extent (named_trees (trees types.now.nodes) args.now) (named_trees (trees types.now.nodes) imports.now) + 3 * entries_extent (named_trees (trees types.now.nodes) imports.now)) }
 {
-    let by_name = args.by_name(types.allocator())?;
     let mut seen = Exports::new(types.allocator());
     let mut compared = Compared::new(types.allocator());
-    for k in 0..imports.len() {
-        match imports.get_index(k) {
-            Some(import) => {
-                let argument = argument_for(
-                    types,
-                    &by_name,
-                    &mut compared,
-                    right,
-                    import,
-                    offset,
-                    steps,
-                )?;
-                give(types, &mut seen, argument, import.1.ty, opening, steps)?;
-            }
-            None => unreachable!(),
-        }
-    }
-    Ok(())
+    open_each(
+        types,
+        &mut seen,
+        &mut compared,
+        args,
+        imports,
+        right,
+        opening,
+        offset,
+        steps,
+    )
+}
+
+/// What opens the imports by the arguments, where resources go as the list says.
+fn open_found<L: Ledger>(
+    types: &TypeAlloc,
+    args: &ByName<'_, ComponentItem>,
+    imports: &ItemMap,
+    found: &[(ResourceId, ResourceId)],
+    offset: u64,
+    steps: &mut Steps<L>,
+) -> Result<Remapping, Error>
+    requires args { All (EntryStands types.now) args.now }
+    requires imports { All (EntryStands types.now) imports.now }
+    requires found { IsDistinct same_resource (keys_of found.now) }
+    ensures opens { IfOk result (OpensImports types.now (named_trees (trees types.now.nodes) args.now) (named_trees (trees types.now.nodes) imports.now) found.now) }
+    ensures err { IfErr result (MemoryOrMismatch offset (each_passes (match_pass (id_tests types.now.core) 0 given (given_as found.now)) (named_trees (trees types.now.nodes) args.now) (named_trees (trees types.now.nodes) imports.now) ≡ true)) }
+    ensures counted { steps.new ≤ steps.old + (matched_extent (named_trees (trees types.now.nodes) args.now) (named_trees (trees types.now.nodes) imports.now) + 3 * entries_extent (named_trees (trees types.now.nodes) imports.now)) }
+{
+    let alloc = types.allocator();
+    let mut right = given_as(alloc, found)?;
+    let mut opening = replacing(alloc, found)?;
+    open_imports(
+        types,
+        args,
+        imports,
+        &mut right,
+        &mut opening,
+        offset,
+        steps,
+    )?;
+    opening.entries_differ();
+    Ok(opening)
 }
 
 /// What opens the imports of the component by the arguments: each imported resource is replaced by that of its
@@ -252,25 +321,13 @@ pub fn open_instance_type<L: Ledger>(
     let alloc = types.allocator();
     let shape = visited(types, component, steps);
     let _unique = shape.imported_resources.len();
-    let found = counterparts(
+    let by_name = args.items.by_name(alloc)?;
+    let found = counterparts_in(
         types,
         &shape.imported_resources,
         &shape.imports,
-        &args.items,
+        &by_name,
         steps,
     )?;
-    let mut opening = replacing(alloc, &found)?;
-    let mut right = Readings::new(alloc);
-    right.enter(&read_as(alloc, &found)?)?;
-    open_imports(
-        types,
-        &args.items,
-        &shape.imports,
-        &mut right,
-        &mut opening,
-        offset,
-        steps,
-    )?;
-    opening.entries_differ();
-    Ok(opening)
+    open_found(types, &by_name, &shape.imports, &found, offset, steps)
 }

@@ -10,7 +10,7 @@ use Rattle.wcv_subtype.specs.IdCounterparts.{AreExports}
 use Rattle.wcv_subtype.specs.IdPasses.{named_trees}
 use Rattle.wcv_subtype.specs.Openings.{Gives}
 use Rattle.wcv_subtype.specs.Readings.{reads}
-use Rattle.wcv_subtype.proofs.openings.open_imports.Given as goal
+use Rattle.wcv_subtype.proofs.openings.open_each.Given as goal
 
 -- what is left decides, and what it takes is left of the steps; what those before give was given
 abbrev pub invariant-loop-k : goal.invariant-loop-k
