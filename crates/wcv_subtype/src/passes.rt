@@ -467,15 +467,38 @@ fn entries_pass_in_scope<L: Ledger>(
     ensures counted { steps.new ≤ steps.old + (entries_extent (named_trees (trees types.now.nodes) a.now) + entries_extent (named_trees (trees types.now.nodes) b.now)) }
 {
     let alloc = types.allocator();
-    let mut compared = Compared::new(alloc);
     let kept_left = left.enter_keeping(alloc, own_left)?;
     let kept_right = right.enter_keeping(alloc, own_right)?;
-    if !entries_pass(types, exact, &mut compared, left, right, level, a, b, steps)? {
+    if !entries_pass_afresh(types, exact, left, right, level, a, b, steps)? {
         return Ok(false);
     }
     left.enter(&kept_left)?;
     right.enter(&kept_right)?;
     Ok(true)
+}
+
+/// Whether the entries pass, where no pair is known to pass.
+#[cycle(passing)]
+fn entries_pass_afresh<L: Ledger>(
+    types: &TypeAlloc,
+    exact: bool,
+    left: &mut Readings,
+    right: &mut Readings,
+    level: u64,
+    a: &ItemMap,
+    b: &ItemMap,
+    steps: &mut Steps<L>,
+) -> Result<bool, OutOfMemory>
+    requires a { All (EntryStands types.now) a.now }
+    requires b { All (EntryStands types.now) b.now }
+    requires apart { NamesDiffer b.now }
+    ensures answers { IfOk result (AnswersEntries types.now.core exact level (reads left.old) (reads right.old) (named_trees (trees types.now.nodes) a.now) (named_trees (trees types.now.nodes) b.now)) }
+    ensures left { IfOk result (λ passes. StaysIf passes (reads left.old) (reads left.new)) }
+    ensures right { IfOk result (λ passes. StaysIf passes (reads right.old) (reads right.new)) }
+    ensures counted { steps.new ≤ steps.old + (entries_extent (named_trees (trees types.now.nodes) a.now) + entries_extent (named_trees (trees types.now.nodes) b.now)) }
+{
+    let mut compared = Compared::new(types.allocator());
+    entries_pass(types, exact, &mut compared, left, right, level, a, b, steps)
 }
 
 /// Whether two component types are the same: their own resources pair up, and with these paired so do their imports

@@ -171,8 +171,8 @@ entity_compared-returns-in-Module-b-clause-compared g t c = if_ok c.modules_pass
 
 -- ## Entries under own resources
 
-pub entries_pass_in_scope-entries_pass-requires : goal.entries_pass_in_scope-entries_pass-requires
-entries_pass_in_scope-entries_pass-requires g t c κs inside = (omega (arith, c.decreases), (inside, (c.requires.a, (c.requires.b, (c.requires.apart, c.new-compared.ensures _ _ _)))))
+pub entries_pass_afresh-entries_pass-requires : goal.entries_pass_afresh-entries_pass-requires
+entries_pass_afresh-entries_pass-requires g t c κs inside = (omega (arith, c.decreases), (inside, (c.requires.a, (c.requires.b, (c.requires.apart, c.new-compared.ensures _ _ _)))))
 
 pub entries_pass_under-returns-then-own_nothing-clause-answers : goal.entries_pass_under-returns-then-own_nothing-clause-answers
 entries_pass_under-returns-then-own_nothing-clause-answers g t c =
@@ -183,16 +183,16 @@ pub entries_pass_under-returns-else-own_nothing-clause-compared : goal.entries_p
 entries_pass_under-returns-else-own_nothing-clause-compared g t c = if_ok c.entries_pass_in_scope.result (λ passes m h. c.requires.compared) c.entries_pass_in_scope.ensures.left
 
 pub entries_pass_in_scope-returns-clause-left : goal.entries_pass_in_scope-returns-clause-left
-entries_pass_in_scope-returns-clause-left g t c h = c.in_ok-enter.ensures ∙ (λ j. over ((ap (λ es. atoms_of es) c.deref.ensures.value) j) (c.in_ok-entries_pass.ensures.left c.if-not-branch.false j)) ∙ c.in_ok-kept_left.ensures.back
+entries_pass_in_scope-returns-clause-left g t c h = c.in_ok-enter.ensures ∙ (λ j. over ((ap (λ es. atoms_of es) c.deref.ensures.value) j) (c.in_ok-entries_pass_afresh.ensures.left c.if-not-branch.false j)) ∙ c.in_ok-kept_left.ensures.back
 
 pub entries_pass_in_scope-returns-clause-right : goal.entries_pass_in_scope-returns-clause-right
-entries_pass_in_scope-returns-clause-right g t c h = c.in_ok-enter-2.ensures ∙ (λ j. over ((ap (λ es. atoms_of es) c.deref-2.ensures.value) j) (c.in_ok-entries_pass.ensures.right c.if-not-branch.false j)) ∙ c.in_ok-kept_right.ensures.back
+entries_pass_in_scope-returns-clause-right g t c h = c.in_ok-enter-2.ensures ∙ (λ j. over ((ap (λ es. atoms_of es) c.deref-2.ensures.value) j) (c.in_ok-entries_pass_afresh.ensures.right c.if-not-branch.false j)) ∙ c.in_ok-kept_right.ensures.back
 
 pub entries_pass_in_scope-returns-then-not-branch-clause-answers : goal.entries_pass_in_scope-returns-then-not-branch-clause-answers
-entries_pass_in_scope-returns-then-not-branch-clause-answers g t c = entries_moved c.args.types.now.core c.args.exact c.args.level c.args.level _ _ _ _ _ _ _ _ _ false refl c.in_ok-kept_left.ensures.entered c.in_ok-kept_right.ensures.entered refl refl c.if-not-branch.true c.in_ok-entries_pass.ensures.answers
+entries_pass_in_scope-returns-then-not-branch-clause-answers g t c = entries_moved c.args.types.now.core c.args.exact c.args.level c.args.level _ _ _ _ _ _ _ _ _ false refl c.in_ok-kept_left.ensures.entered c.in_ok-kept_right.ensures.entered refl refl c.if-not-branch.true c.in_ok-entries_pass_afresh.ensures.answers
 
 pub entries_pass_in_scope-returns-clause-answers : goal.entries_pass_in_scope-returns-clause-answers
-entries_pass_in_scope-returns-clause-answers g t c = entries_moved c.args.types.now.core c.args.exact c.args.level c.args.level _ _ _ _ _ _ _ _ _ true refl c.in_ok-kept_left.ensures.entered c.in_ok-kept_right.ensures.entered refl refl c.if-not-branch.false c.in_ok-entries_pass.ensures.answers
+entries_pass_in_scope-returns-clause-answers g t c = entries_moved c.args.types.now.core c.args.exact c.args.level c.args.level _ _ _ _ _ _ _ _ _ true refl c.in_ok-kept_left.ensures.entered c.in_ok-kept_right.ensures.entered refl refl c.if-not-branch.false c.in_ok-entries_pass_afresh.ensures.answers
 
 -- ## Instances
 

@@ -28,10 +28,13 @@ abbrev pub decreases-instances_pass : goal.decreases-instances_pass
 decreases-instances_pass g l = 4 * (height (tree_at l.types.now (p.Instance l.a)) + height (tree_at l.types.now (p.Instance l.b))) + 1
 
 abbrev pub decreases-entries_pass_under : goal.decreases-entries_pass_under
-decreases-entries_pass_under g l = 4 * (tallest (named_trees (trees l.types.now.nodes) l.a.now) + tallest (named_trees (trees l.types.now.nodes) l.b.now)) + 6
+decreases-entries_pass_under g l = 4 * (tallest (named_trees (trees l.types.now.nodes) l.a.now) + tallest (named_trees (trees l.types.now.nodes) l.b.now)) + 7
 
 abbrev pub decreases-entries_pass_in_scope : goal.decreases-entries_pass_in_scope
-decreases-entries_pass_in_scope g l = 4 * (tallest (named_trees (trees l.types.now.nodes) l.a.now) + tallest (named_trees (trees l.types.now.nodes) l.b.now)) + 5
+decreases-entries_pass_in_scope g l = 4 * (tallest (named_trees (trees l.types.now.nodes) l.a.now) + tallest (named_trees (trees l.types.now.nodes) l.b.now)) + 6
+
+abbrev pub decreases-entries_pass_afresh : goal.decreases-entries_pass_afresh
+decreases-entries_pass_afresh g l = 4 * (tallest (named_trees (trees l.types.now.nodes) l.a.now) + tallest (named_trees (trees l.types.now.nodes) l.b.now)) + 5
 
 abbrev pub decreases-same_components : goal.decreases-same_components
 decreases-same_components g l = 4 * (height (tree_at l.types.now (p.Component l.a)) + height (tree_at l.types.now (p.Component l.b)))
