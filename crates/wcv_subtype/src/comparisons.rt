@@ -9,8 +9,10 @@ ghost use Rattle.wcv_types.specs.declared.ids.Part.TheVariants as p;
 ghost use Rattle.wcv_types.specs.Unfold.{slot_tree, tree_at, trees, value_slot};
 ghost use Rattle.wcv_matching.specs.Refusals.{IsRefusal, MemoryOrMismatch};
 ghost use Rattle.wcv_matching.specs.TableMatching.{TypeMatches};
+ghost use Rattle.wcv_subtype.specs.Compared.{ArePassed};
 ghost use Rattle.wcv_subtype.specs.Extent.{entries_extent, extent};
 ghost use Rattle.wcv_subtype.specs.IdPasses.{named_trees};
+ghost use Rattle.wcv_subtype.specs.Readings.{reads};
 
 use crate::compared::Compared;
 use crate::own_resources::{opened_atoms, owned_atoms};
@@ -20,8 +22,8 @@ use crate::visits::visited;
 use std::sync::ledger::Ledger;
 use wcv_core::{Error, ErrorKind, Excerpt, OutOfMemory, Text};
 use wcv_types::{
-    ComponentEntityType, ComponentInstanceTypeId, ComponentTypeId, ComponentValType, ItemMap,
-    Steps, TypeAlloc,
+    ByName, ComponentEntityType, ComponentInstanceTypeId, ComponentItem, ComponentTypeId,
+    ComponentValType, ItemMap, Steps, TypeAlloc,
 };
 
 /// What the entity is, as messages name it.
@@ -90,7 +92,43 @@ fn unfit_entry(
 }
 
 /// The refusal by the first of the right entries that the left ones have not, or have with a type that does not
-/// match; none where there is no such entry.
+/// match; none where there is no such entry. The pairs that pass are kept from one entry to the next.
+fn unfit_among<L: Ledger>(
+    types: &TypeAlloc,
+    role: &str,
+    compared: &mut Compared,
+    left: &mut Readings,
+    right: &mut Readings,
+    a: &ByName<'_, ComponentItem>,
+    b: &ItemMap,
+    offset: u64,
+    steps: &mut Steps<L>,
+) -> Result<(), Error>
+    requires a { All (EntryStands types.now) a.now }
+    requires b { All (EntryStands types.now) b.now }
+    requires apart { NamesDiffer b.now }
+    requires compared { ArePassed types.now (reads left.old) (reads right.old) compared.old }
+    ensures unfit { IfErr result (IsRefusal offset) }
+    ensures counted { steps.new ≤ steps.old + (entries_extent (named_trees (trees types.now.nodes) a.now) + entries_extent (named_trees (trees types.now.nodes) b.now)) }
+{
+    for k in 0..b.len() {
+        if let Some(entry) = b.get_index(k) {
+            match a.get(&entry.0) {
+                Some(item) => {
+                    if !entity_passes(
+                        types, false, compared, left, right, 1, item.ty, entry.1.ty, steps,
+                    )? {
+                        return Err(unfit_entry(role, &entry.0, Some(item.ty), &entry.1.ty, offset));
+                    }
+                }
+                None => return Err(unfit_entry(role, &entry.0, None, &entry.1.ty, offset)),
+            }
+        }
+    }
+    Ok(())
+}
+
+/// The same, beginning with no pair.
 fn first_unfit<L: Ledger>(
     types: &TypeAlloc,
     role: &str,
@@ -109,29 +147,17 @@ fn first_unfit<L: Ledger>(
 {
     let by_name = a.by_name(types.allocator())?;
     let mut compared = Compared::new(types.allocator());
-    for k in 0..b.len() {
-        if let Some(entry) = b.get_index(k) {
-            match by_name.get(&entry.0) {
-                Some(item) => {
-                    if !entity_passes(
-                        types,
-                        false,
-                        &mut compared,
-                        left,
-                        right,
-                        1,
-                        item.ty,
-                        entry.1.ty,
-                        steps,
-                    )? {
-                        return Err(unfit_entry(role, &entry.0, Some(item.ty), &entry.1.ty, offset));
-                    }
-                }
-                None => return Err(unfit_entry(role, &entry.0, None, &entry.1.ty, offset)),
-            }
-        }
-    }
-    Ok(())
+    unfit_among(
+        types,
+        role,
+        &mut compared,
+        left,
+        right,
+        &by_name,
+        b,
+        offset,
+        steps,
+    )
 }
 
 /// The refusal by the first export of the right instance type that does not match.

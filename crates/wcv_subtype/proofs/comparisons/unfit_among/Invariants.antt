@@ -4,7 +4,7 @@ use Rattle.wcv_subtype.specs.Compared.{ArePassed}
 use Rattle.wcv_subtype.specs.Extent.{entries_extent, matched_extent}
 use Rattle.wcv_subtype.specs.IdPasses.{named_trees}
 use Rattle.wcv_subtype.specs.Readings.{reads}
-use Rattle.wcv_subtype.proofs.comparisons.first_unfit.Given as goal
+use Rattle.wcv_subtype.proofs.comparisons.unfit_among.Given as goal
 
 -- the pairs that are kept pass, and what is left takes no more than is left of the steps
 abbrev pub invariant-loop-k : goal.invariant-loop-k
