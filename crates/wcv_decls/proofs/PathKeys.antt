@@ -1,9 +1,8 @@
 -- The resources of a list of paths, one after another.
-use Rattle.std.proofs.Common.{◌≡◌, ℕ, zero, suc, ◌+◌, ◌≤◌, List, [], ◌∷◌, length, refl, sym, ap, subst, take, Some, arith}
+use Rattle.std.proofs.Common.{◌≡◌, ℕ, zero, suc, ◌+◌, ◌≤◌, List, [], ◌∷◌, length, refl, ap, subst, take, Some, arith}
 use Rattle.std.specs.Prelude.{slice_get}
 use Rattle.std.specs.List.{IsDistinct}
 use Rattle.std.specs.Map.{keys_of}
-use Rattle.std.proofs.lemmas.Option.{get_or_from_slice_get, slice_get_within}
 use Rattle.wcv_types.specs.Sets.{same_resource, with_resource}
 use Rattle.wcv_types.specs.Tree.{firsts}
 use Rattle.wcv_types.specs.declared.ids.ResourceId.{ResourceId}
@@ -25,7 +24,7 @@ first_at (p ∷ ps) (suc k) r v h = first_at ps k r v h
 pub first_next : (ps : Led_paths) (k : ℕ) (r : ResourceId) (v : List ℕ) (rs new : List ResourceId) → IsDistinct same_resource (keys_of ps) → slice_get ps k ≡ Some (r, v) → rs ≡ take k (firsts ps) → new ≡ with_resource rs r → new ≡ take (k + 1) (firsts ps)
 first_next ps k r v rs new d h c n =
     let there : slice_get (firsts ps) k ≡ Some r = first_at ps k r v h in
-    set_next same_resource (λ x y. refl) (firsts ps) k r rs new (subst (IsDistinct same_resource) (firsts_keys ps) d) (slice_get_within (firsts ps) k r there) (sym (get_or_from_slice_get (firsts ps) k r r there)) c n
+    set_next (firsts ps) k r rs new (subst (IsDistinct same_resource) (firsts_keys ps) d) there c n
 
 -- all of them
 pub first_all : (ps : Led_paths) (n : ℕ) → length ps ≤ n → take n (firsts ps) ≡ firsts ps
