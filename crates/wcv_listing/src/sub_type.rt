@@ -1,10 +1,11 @@
 // Core types in a group.
-ghost use Rattle.std.specs.Prelude.{◌≡◌, IfOk, codes, map, option_map};
+ghost use Rattle.std.specs.Prelude.{◌≡◌, Bool, IfOk, Option, codes, map, option_map};
 ghost use Rattle.serde_json.specs.Find.{get};
+ghost use Rattle.wcv_core.specs.declared.core_types.SuperType.{SuperType};
 ghost use Rattle.wcv_core.specs.CoreForm.{SubForm, func_form, composite_form, sub_form, group_form};
 ghost use Rattle.wcv_listing.specs.Core.{core_value_of};
-ghost use Rattle.wcv_listing.specs.CoreForms.{storage_of, field_of, core_func_of, composite_forms, composite_of, final_mark, super_of, sub_of, rec_of};
-ghost use Rattle.wcv_listing.specs.Fields.{first_of, optional};
+ghost use Rattle.wcv_listing.specs.CoreForms.{storage_of, field_of, core_func_of, composite_forms, composite_of, final_mark, super_of, sub_under, sub_of, rec_of};
+ghost use Rattle.wcv_listing.specs.Fields.{both, first_of, mark, optional};
 ghost use Rattle.wcv_listing.specs.Seen.{view};
 
 use crate::core_value::{mark_at, read_core_value};
@@ -132,6 +133,44 @@ fn read_super(value: Node<'_, '_>) -> Option<Option<SuperType>>
     }
 }
 
+// Whether the type is final, its supertype, and whether it is shared, or `None` where one of them is none.
+fn read_marks(value: Node<'_, '_>) -> Option<(bool, Option<SuperType>, bool)>
+    ensures { option_map {U = Bool × (Option SuperType × Bool)} (λ p. (p.0, (p.1, p.2))) result ≡ both (λ (final : Bool) (rest : Option SuperType × Bool). (final, rest)) (final_mark (get (codes "final") (view value.entry))) (both (λ above shared. (above, shared)) (optional super_of (get (codes "super") (view value.entry))) (mark (get (codes "shared") (view value.entry)))) }
+{
+    let is_final = read_final(value)?;
+    let supertype = read_super(value)?;
+    let shared = mark_at(value, "shared")?;
+    Some((is_final, supertype, shared))
+}
+
+// A core type whose form has this name.
+fn read_under(
+    alloc: Global,
+    name: &str,
+    value: Node<'_, '_>,
+) -> Result<Option<SubType>, OutOfMemory>
+    ensures { IfOk result (λ ty. option_map sub_form ty ≡ sub_under name.now (view value.entry)) }
+{
+    if !has_only_keys(value, &["final", "super", "shared", name]) {
+        return Ok(None);
+    }
+    let Some((is_final, supertype, shared)) = read_marks(value) else {
+        return Ok(None);
+    };
+    let Some(body) = member_at(value, name) else {
+        return Ok(None);
+    };
+    let Some(inner) = read_composite(alloc, name, body)? else {
+        return Ok(None);
+    };
+    Ok(Some(SubType {
+        is_final,
+        supertype,
+        shared,
+        inner,
+    }))
+}
+
 // A core type with its place among the others.
 impl FromValue for SubType {
     ghost Form = { SubForm };
@@ -141,33 +180,10 @@ impl FromValue for SubType {
     ghost meant = { sub_of };
 
     fn from_value(alloc: Global, value: Node<'_, '_>) -> Result<Option<SubType>, OutOfMemory> {
-        let Some(name) = form_name(value) else {
-            return Ok(None);
-        };
-        if !has_only_keys(value, &["final", "super", "shared", name]) {
-            return Ok(None);
+        match form_name(value) {
+            Some(name) => read_under(alloc, name, value),
+            None => Ok(None),
         }
-        let Some(is_final) = read_final(value) else {
-            return Ok(None);
-        };
-        let Some(supertype) = read_super(value) else {
-            return Ok(None);
-        };
-        let Some(shared) = mark_at(value, "shared") else {
-            return Ok(None);
-        };
-        let Some(body) = member_at(value, name) else {
-            return Ok(None);
-        };
-        let Some(inner) = read_composite(alloc, name, body)? else {
-            return Ok(None);
-        };
-        Ok(Some(SubType {
-            is_final,
-            supertype,
-            shared,
-            inner,
-        }))
     }
 }
 
