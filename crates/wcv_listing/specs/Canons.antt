@@ -1,11 +1,12 @@
 -- Canonical functions and their options.
-use Rattle.std.specs.Prelude.{ℕ, List, [], ◌∷◌, map, if◌then◌else◌, Option, Some, None, is_some, option_map, option_and_then, codes}
+use Rattle.std.specs.Prelude.{ℕ, Bool, List, [], ◌∷◌, map, if◌then◌else◌, Option, Some, None, is_some, option_map, option_and_then, codes}
 use Rattle.serde_json.specs.Data.{Data}
 use Rattle.serde_json.specs.Find.{as_null, as_str, get}
 use Rattle.wcv_syntax.specs.CanonRows.{Operand, core_value_type, option_value_type, truth, option_list, Operands, no_operands, alone, keys, Value, Keyed, Given, Written, canon_rows}
+use Rattle.wcv_syntax.specs.declared.canonical.CanonicalFunction.TheVariants as canon
 use Rattle.wcv_syntax.specs.declared.canonical.CanonicalOption.{CanonicalOption}
 use Rattle.wcv_syntax.specs.declared.canonical.CanonicalOption.TheVariants as option
-use Rattle.wcv_syntax.specs.Model.{Text, Canon_form}
+use Rattle.wcv_syntax.specs.Model.{Text, Canon_form, stream_read, stream_write, future_read, future_write, builtin}
 use Rattle.wcv_listing.specs.Core.{core_value_of}
 use Rattle.wcv_listing.specs.Fields.{both, named, has_only, sole, index, array_of, text_or, mark, optional}
 use Rattle.wcv_listing.specs.Values.{value_of}
@@ -62,6 +63,22 @@ read_by rows name d = option_and_then (λ row. given row.operands row.form d) (n
 
 unfoldable pub canon_named : Text → Data → Option Canon_form
 canon_named name d = read_by canon_rows name d
+
+-- those that read or write, with a type and options
+abbrev pub copying_forms : List (Text × (ℕ × List CanonicalOption → Canon_form))
+copying_forms =
+    (codes "stream.read", λ p. stream_read p.0 p.1)
+    ∷ (codes "stream.write", λ p. stream_write p.0 p.1)
+    ∷ (codes "future.read", λ p. future_read p.0 p.1)
+    ∷ (codes "future.write", λ p. future_write p.0 p.1) ∷ []
+
+-- those that cancel a read or a write, with a type and whether the call is async
+abbrev pub copy_cancelling_forms : List (Text × (ℕ × Bool → Canon_form))
+copy_cancelling_forms =
+    (codes "stream.cancel-read", λ p. builtin (canon.StreamCancelRead p.0 p.1))
+    ∷ (codes "stream.cancel-write", λ p. builtin (canon.StreamCancelWrite p.0 p.1))
+    ∷ (codes "future.cancel-read", λ p. builtin (canon.FutureCancelRead p.0 p.1))
+    ∷ (codes "future.cancel-write", λ p. builtin (canon.FutureCancelWrite p.0 p.1)) ∷ []
 
 -- the body of `canon`: {NAME: operands}
 abbrev pub canon_of : Data → Option Canon_form

@@ -48,8 +48,12 @@ defined_forms =
     ∷ (codes "future", λ d. simply defined.Future (null_or value_of d))
     ∷ (codes "stream", λ d. simply defined.Stream (null_or value_of d)) ∷ []
 
+-- what stands under a name, by the row of that name
+abbrev pub form_by : List (List ℕ × (Data → Option Defined_form)) → Text → Data → Option Defined_form
+form_by rows name d = option_and_then (λ read. read d) (named rows name)
+
 abbrev pub form_of : Text → Data → Option Defined_form
-form_of name d = option_and_then (λ read. read d) (named defined_forms name)
+form_of name d = form_by defined_forms name d
 
 -- an object whose only key is the name of a form
 abbrev pub object_of : Data → Option Defined_form

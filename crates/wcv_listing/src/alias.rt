@@ -116,10 +116,18 @@ fn read_core_export_alias(
 fn read_outer_alias(value: Node<'_, '_>) -> Option<ComponentAlias>
     ensures { result ≡ outer_alias_of (view value.entry) }
 {
-    let (kind, count, index) = triple_of(value)?;
-    let kind = read_outer_kind(kind)?;
-    let count = index_of(count)?;
-    let index = index_of(index)?;
+    let Some((kind, count, index)) = triple_of(value) else {
+        return None;
+    };
+    let Some(kind) = read_outer_kind(kind) else {
+        return None;
+    };
+    let Some(count) = index_of(count) else {
+        return None;
+    };
+    let Some(index) = index_of(index) else {
+        return None;
+    };
     Some(ComponentAlias::Outer { kind, count, index })
 }
 

@@ -1,7 +1,7 @@
 // The body of `canon`.
 ghost use Rattle.std.specs.Prelude.{◌≡◌, ◌++◌, ℕ, Bool, IfOk, List, drop, option_map};
 ghost use Rattle.wcv_core.specs.declared.core_types.ValType.{ValType};
-ghost use Rattle.wcv_listing.specs.Canons.{given, read_by, canon_named, canon_of};
+ghost use Rattle.wcv_listing.specs.Canons.{copying_forms, copy_cancelling_forms, given, read_by, canon_named, canon_of};
 ghost use Rattle.wcv_listing.specs.Fields.{named};
 ghost use Rattle.wcv_listing.specs.Seen.{view};
 ghost use Rattle.wcv_syntax.specs.CanonRows.{lift_operands, lower_operands, result_and_options, type_and_options, options_alone, type_and_slot, type_and_table, core_type_alone, async_alone, type_and_async, option_rows, operand_rows, plain_rows, type_rows, plain_forms, type_forms};
@@ -11,7 +11,7 @@ ghost use Rattle.wcv_syntax.specs.View.{canon_view};
 use crate::canon_options::options_at;
 use crate::core_value::{mark_at, read_core_value};
 use crate::node::Node;
-use crate::value::{has_only_keys, index_at, index_of, is_null, member_at, sole_member};
+use crate::value::{has_only_keys, index_at, index_of, is_null, is_one_of, member_at, sole_member};
 use crate::value_type::read_optional;
 use std::alloc::Global;
 use wcv_core::{OutOfMemory, ValType};
@@ -157,6 +157,38 @@ fn read_waiting(name: &str, body: Node<'_, '_>) -> Option<CanonicalFunction>
     }
 }
 
+// One that cancels a read or a write, by its name, a type and whether the call is async.
+fn copy_cancelling_named(name: &str, ty: u32, async_: bool) -> Option<CanonicalFunction>
+    ensures { option_map canon_view result ≡ option_map (λ form. form (ty, async_)) (named copy_cancelling_forms name.now) }
+{
+    match name {
+        "stream.cancel-read" => Some(CanonicalFunction::StreamCancelRead { ty, async_ }),
+        "stream.cancel-write" => Some(CanonicalFunction::StreamCancelWrite { ty, async_ }),
+        "future.cancel-read" => Some(CanonicalFunction::FutureCancelRead { ty, async_ }),
+        "future.cancel-write" => Some(CanonicalFunction::FutureCancelWrite { ty, async_ }),
+        _ => None,
+    }
+}
+
+// What stands under the name of one that cancels a read or a write, or of one behind it in the table.
+fn read_copy_cancelling(name: &str, body: Node<'_, '_>) -> Option<CanonicalFunction>
+    ensures { option_map canon_view result ≡ read_by (drop 6 operand_rows ++ (plain_rows ++ type_rows)) name.now (view body.entry) }
+{
+    let names = [
+        "stream.cancel-read",
+        "stream.cancel-write",
+        "future.cancel-read",
+        "future.cancel-write",
+    ];
+    if !is_one_of(name, &names) {
+        return read_waiting(name, body);
+    }
+    let Some((ty, async_)) = type_and_async_of(body) else {
+        return None;
+    };
+    copy_cancelling_named(name, ty, async_)
+}
+
 // What stands under the name of one that cancels, or of one behind it in the table.
 fn read_cancelling(name: &str, body: Node<'_, '_>) -> Option<CanonicalFunction>
     ensures { option_map canon_view result ≡ read_by (drop 5 operand_rows ++ (plain_rows ++ type_rows)) name.now (view body.entry) }
@@ -166,23 +198,7 @@ fn read_cancelling(name: &str, body: Node<'_, '_>) -> Option<CanonicalFunction>
             let async_ = async_of(body)?;
             Some(CanonicalFunction::SubtaskCancel { async_ })
         }
-        "stream.cancel-read" => {
-            let (ty, async_) = type_and_async_of(body)?;
-            Some(CanonicalFunction::StreamCancelRead { ty, async_ })
-        }
-        "stream.cancel-write" => {
-            let (ty, async_) = type_and_async_of(body)?;
-            Some(CanonicalFunction::StreamCancelWrite { ty, async_ })
-        }
-        "future.cancel-read" => {
-            let (ty, async_) = type_and_async_of(body)?;
-            Some(CanonicalFunction::FutureCancelRead { ty, async_ })
-        }
-        "future.cancel-write" => {
-            let (ty, async_) = type_and_async_of(body)?;
-            Some(CanonicalFunction::FutureCancelWrite { ty, async_ })
-        }
-        _ => read_waiting(name, body),
+        _ => read_copy_cancelling(name, body),
     }
 }
 
@@ -342,6 +358,19 @@ fn read_error_context(
     }
 }
 
+// One that reads or writes, by its name, a type and options.
+fn copying_named(name: &str, ty: u32, options: Vec<CanonicalOption>) -> Option<CanonicalFunction>
+    ensures { option_map canon_view result ≡ option_map (λ form. form (ty, options.items)) (named copying_forms name.now) }
+{
+    match name {
+        "stream.read" => Some(CanonicalFunction::StreamRead { ty, options }),
+        "stream.write" => Some(CanonicalFunction::StreamWrite { ty, options }),
+        "future.read" => Some(CanonicalFunction::FutureRead { ty, options }),
+        "future.write" => Some(CanonicalFunction::FutureWrite { ty, options }),
+        _ => None,
+    }
+}
+
 // What stands under the name of one that reads or writes, or of one behind it in the table.
 fn read_copying(
     alloc: Global,
@@ -350,33 +379,14 @@ fn read_copying(
 ) -> Result<Option<CanonicalFunction>, OutOfMemory>
     ensures { IfOk result (λ func. option_map canon_view func ≡ read_by (drop 3 option_rows ++ (operand_rows ++ (plain_rows ++ type_rows))) name.now (view body.entry)) }
 {
-    match name {
-        "stream.read" => {
-            let Some((ty, options)) = read_type_and_options(alloc, body)? else {
-                return Ok(None);
-            };
-            Ok(Some(CanonicalFunction::StreamRead { ty, options }))
-        }
-        "stream.write" => {
-            let Some((ty, options)) = read_type_and_options(alloc, body)? else {
-                return Ok(None);
-            };
-            Ok(Some(CanonicalFunction::StreamWrite { ty, options }))
-        }
-        "future.read" => {
-            let Some((ty, options)) = read_type_and_options(alloc, body)? else {
-                return Ok(None);
-            };
-            Ok(Some(CanonicalFunction::FutureRead { ty, options }))
-        }
-        "future.write" => {
-            let Some((ty, options)) = read_type_and_options(alloc, body)? else {
-                return Ok(None);
-            };
-            Ok(Some(CanonicalFunction::FutureWrite { ty, options }))
-        }
-        _ => read_error_context(alloc, name, body),
+    let names = ["stream.read", "stream.write", "future.read", "future.write"];
+    if !is_one_of(name, &names) {
+        return read_error_context(alloc, name, body);
     }
+    let Some((ty, options)) = read_type_and_options(alloc, body)? else {
+        return Ok(None);
+    };
+    Ok(copying_named(name, ty, options))
 }
 
 // What stands under the name of a canonical function.

@@ -16,8 +16,12 @@ use wcv_syntax::CanonicalOption;
 fn read_indexed_option(value: Node<'_, '_>) -> Option<CanonicalOption>
     ensures { result ≡ indexed_option (view value.entry) }
 {
-    let (key, body) = sole_member(value)?;
-    let index = index_of(body)?;
+    let Some((key, body)) = sole_member(value) else {
+        return None;
+    };
+    let Some(index) = index_of(body) else {
+        return None;
+    };
     match key {
         "memory" => Some(CanonicalOption::Memory(index)),
         "realloc" => Some(CanonicalOption::Realloc(index)),

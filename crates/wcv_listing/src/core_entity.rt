@@ -37,9 +37,15 @@ fn read_table(value: Node<'_, '_>) -> Option<TableType>
     if !has_only_keys(value, &["elem", "min", "max", "64", "shared"]) {
         return None;
     }
-    let element_type = member_at(value, "elem").and_then(read_ref_type)?;
-    let (initial, maximum) = read_limits(value)?;
-    let (table64, shared) = marks_at(value, "64", "shared")?;
+    let Some(element_type) = member_at(value, "elem").and_then(read_ref_type) else {
+        return None;
+    };
+    let Some((initial, maximum)) = read_limits(value) else {
+        return None;
+    };
+    let Some((table64, shared)) = marks_at(value, "64", "shared") else {
+        return None;
+    };
     Some(TableType {
         element_type,
         initial,
@@ -66,9 +72,15 @@ fn read_memory(value: Node<'_, '_>) -> Option<MemoryType>
     if !has_only_keys(value, &["min", "max", "64", "shared", "page"]) {
         return None;
     }
-    let (initial, maximum) = read_limits(value)?;
-    let (memory64, shared) = marks_at(value, "64", "shared")?;
-    let page_size_log2 = read_page(value)?;
+    let Some((initial, maximum)) = read_limits(value) else {
+        return None;
+    };
+    let Some((memory64, shared)) = marks_at(value, "64", "shared") else {
+        return None;
+    };
+    let Some(page_size_log2) = read_page(value) else {
+        return None;
+    };
     Some(MemoryType {
         initial,
         maximum,
@@ -85,8 +97,12 @@ fn read_global(value: Node<'_, '_>) -> Option<GlobalType>
     if !has_only_keys(value, &["type", "mut", "shared"]) {
         return None;
     }
-    let content_type = member_at(value, "type").and_then(read_core_value)?;
-    let (mutable, shared) = marks_at(value, "mut", "shared")?;
+    let Some(content_type) = member_at(value, "type").and_then(read_core_value) else {
+        return None;
+    };
+    let Some((mutable, shared)) = marks_at(value, "mut", "shared") else {
+        return None;
+    };
     Some(GlobalType {
         content_type,
         mutable,

@@ -1,7 +1,7 @@
 // Defined types.
-ghost use Rattle.std.specs.Prelude.{◌≡◌, IfOk, map, option_map};
+ghost use Rattle.std.specs.Prelude.{◌≡◌, IfOk, map, drop, option_map};
 ghost use Rattle.serde_json.specs.Find.{as_str};
-ghost use Rattle.wcv_listing.specs.Defined.{case_of, map_of, fixed_list_of, result_of, defined_forms, form_of, defined_of};
+ghost use Rattle.wcv_listing.specs.Defined.{case_of, map_of, fixed_list_of, result_of, defined_forms, form_by, form_of, defined_of};
 ghost use Rattle.wcv_listing.specs.Fields.{null_or, only_key};
 ghost use Rattle.wcv_listing.specs.Seen.{view};
 ghost use Rattle.wcv_listing.specs.Values.{value_of};
@@ -56,9 +56,15 @@ impl FromValue for Text {
 fn read_map(value: Node<'_, '_>) -> Option<ComponentDefinedType>
     ensures { option_map defined_view result ≡ map_of (view value.entry) }
 {
-    let (key, value) = pair_of(value)?;
-    let key = read_value_type(key)?;
-    let value = read_value_type(value)?;
+    let Some((key, value)) = pair_of(value) else {
+        return None;
+    };
+    let Some(key) = read_value_type(key) else {
+        return None;
+    };
+    let Some(value) = read_value_type(value) else {
+        return None;
+    };
     Some(ComponentDefinedType::Map(key, value))
 }
 
@@ -66,9 +72,15 @@ fn read_map(value: Node<'_, '_>) -> Option<ComponentDefinedType>
 fn read_fixed_list(value: Node<'_, '_>) -> Option<ComponentDefinedType>
     ensures { option_map defined_view result ≡ fixed_list_of (view value.entry) }
 {
-    let (element, length) = pair_of(value)?;
-    let element = read_value_type(element)?;
-    let length = index_of(length)?;
+    let Some((element, length)) = pair_of(value) else {
+        return None;
+    };
+    let Some(element) = read_value_type(element) else {
+        return None;
+    };
+    let Some(length) = index_of(length) else {
+        return None;
+    };
     Some(ComponentDefinedType::FixedLengthList(element, length))
 }
 
@@ -79,8 +91,12 @@ fn read_result(value: Node<'_, '_>) -> Option<ComponentDefinedType>
     if !has_only_keys(value, &["ok", "err"]) {
         return None;
     }
-    let ok = read_optional(value, "ok")?;
-    let err = read_optional(value, "err")?;
+    let Some(ok) = read_optional(value, "ok") else {
+        return None;
+    };
+    let Some(err) = read_optional(value, "err") else {
+        return None;
+    };
     Some(ComponentDefinedType::Result { ok, err })
 }
 
@@ -120,6 +136,21 @@ fn form_name(value: Node<'_, '_>) -> Option<&'static str>
     )
 }
 
+// What stands under the name of a form behind `enum` in the table.
+fn read_late_form(name: &str, body: Node<'_, '_>) -> Option<ComponentDefinedType>
+    ensures { option_map defined_view result ≡ form_by (drop 8 defined_forms) name.now (view body.entry) }
+{
+    match name {
+        "option" => read_value_type(body).map(ComponentDefinedType::Option),
+        "result" => read_result(body),
+        "own" => index_of(body).map(ComponentDefinedType::Own),
+        "borrow" => index_of(body).map(ComponentDefinedType::Borrow),
+        "future" => read_payload(body).map(ComponentDefinedType::Future),
+        "stream" => read_payload(body).map(ComponentDefinedType::Stream),
+        _ => None,
+    }
+}
+
 // What stands under the name of a form.
 fn read_form(
     alloc: Global,
@@ -137,13 +168,7 @@ fn read_form(
         "tuple" => Ok(read_list(alloc, body)?.map(ComponentDefinedType::Tuple)),
         "flags" => Ok(read_list(alloc, body)?.map(ComponentDefinedType::Flags)),
         "enum" => Ok(read_list(alloc, body)?.map(ComponentDefinedType::Enum)),
-        "option" => Ok(read_value_type(body).map(ComponentDefinedType::Option)),
-        "result" => Ok(read_result(body)),
-        "own" => Ok(index_of(body).map(ComponentDefinedType::Own)),
-        "borrow" => Ok(index_of(body).map(ComponentDefinedType::Borrow)),
-        "future" => Ok(read_payload(body).map(ComponentDefinedType::Future)),
-        "stream" => Ok(read_payload(body).map(ComponentDefinedType::Stream)),
-        _ => Ok(None),
+        _ => Ok(read_late_form(name, body)),
     }
 }
 

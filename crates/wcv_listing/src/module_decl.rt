@@ -86,9 +86,15 @@ impl FromValue for ModuleDecl {
 fn read_core_outer(value: Node<'_, '_>) -> Option<ModuleTypeDeclaration>
     ensures { option_map module_decl_view result ≡ core_outer_of (view value.entry) }
 {
-    let (count, index) = pair_of(value)?;
-    let count = index_of(count)?;
-    let index = index_of(index)?;
+    let Some((count, index)) = pair_of(value) else {
+        return None;
+    };
+    let Some(count) = index_of(count) else {
+        return None;
+    };
+    let Some(index) = index_of(index) else {
+        return None;
+    };
     Some(ModuleTypeDeclaration::OuterAlias { count, index })
 }
 

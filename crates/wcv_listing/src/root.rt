@@ -1,12 +1,14 @@
 // The root object of a listing. Its items are made one after another, on one tape.
-ghost use Rattle.std.specs.Prelude.{◌≡◌, ◌≢◌, ◌<◌, length, true, is_some, None, Some, Err, OnOk, codes};
+ghost use Rattle.std.specs.Prelude.{◌≡◌, ◌≢◌, ◌<◌, [], length, true, false, is_some, None, Some, Err, OnOk, codes};
 ghost use Rattle.json.specs.Json as json;
-ghost use Rattle.serde_json.specs.Data.{Data, no_members};
+ghost use Rattle.std.specs.Str.{bytes_eq};
+ghost use Rattle.serde_json.specs.Data.{Data, Members, no_members, put};
 ghost use Rattle.serde_json.specs.Read.{read};
 ghost use Rattle.wcv_listing.specs.Answers.{AnswersListing};
 ghost use Rattle.wcv_listing.specs.Listing.{root_of};
 ghost use Rattle.wcv_listing.specs.Parsed.{data_of, value_in_range};
 ghost use Rattle.wcv_listing.specs.Root.{HasItem, IsSeen, ReadsItems, ReadsMember, ReadsMembers, ReadsRoot, SeenOf};
+ghost use Rattle.wcv_listing.specs.Seen.{view};
 ghost use Rattle.wcv_listing.specs.Tape.{value_here, json_of};
 
 use crate::features::read_features;
@@ -123,15 +125,29 @@ fn read_list_of_items<'a>(
     ensures shorter { OnOk result (length reader.new < length reader.old) }
     ensures err { result ≡ Err ParseError.NotJson → value_in_range 126 reader.old ≡ None }
 {
-    let token = reader.next().ok_or(ParseError::NotJson)?;
+    let Some(token) = reader.next() else {
+        return Err(ParseError::NotJson);
+    };
     match token {
-        Token::BeginArray => read_items(alloc, tape, reader, seen)?,
+        Token::BeginArray => read_items(alloc, tape, reader, seen),
         other => {
-            tape.read_behind(other, reader, MAX_NESTING - 1)?;
             seen.is_list = false;
+            tape.read_behind(other, reader, MAX_NESTING - 1)
         }
     }
-    Ok(())
+}
+
+// What a value says that stands under this key, which is not `items`.
+fn see_value(key: &str, value: Node<'_, '_>, seen: &mut RootSeen)
+    requires { bytes_eq key.now (codes "items") ≡ false }
+    ensures { (ms : Members) → IsSeen seen.old ms → IsSeen seen.new (put key.now (view value.entry) ms) }
+{
+    match key {
+        "version" => seen.version = natural_of(value),
+        "end" => seen.end = natural_of(value),
+        "features" => seen.features = read_features(value),
+        _ => seen.other = true,
+    }
 }
 
 // What stands under a key of the root.
@@ -147,17 +163,10 @@ fn read_member<'a>(
     ensures err { result ≡ Err ParseError.NotJson → value_in_range 126 reader.old ≡ None }
 {
     if key == "items" {
-        read_list_of_items(alloc, tape, reader, seen)?;
-        return Ok(());
+        return read_list_of_items(alloc, tape, reader, seen);
     }
     tape.read(reader, MAX_NESTING - 1)?;
-    let value = Node::root(tape);
-    match key {
-        "version" => seen.version = natural_of(value),
-        "end" => seen.end = natural_of(value),
-        "features" => seen.features = read_features(value),
-        _ => seen.other = true,
-    }
+    see_value(key, Node::root(tape), seen);
     Ok(())
 }
 
@@ -189,15 +198,34 @@ fn read_root<'a>(
     ensures ok { OnOk result (ReadsRoot reader.old reader.new seen.new) }
     ensures err { result ≡ Err ParseError.NotJson → value_in_range 127 reader.old ≡ None }
 {
-    let token = reader.next().ok_or(ParseError::NotJson)?;
+    let Some(token) = reader.next() else {
+        return Err(ParseError::NotJson);
+    };
     match token {
-        Token::BeginObject => read_members(alloc, tape, reader, seen)?,
+        Token::BeginObject => read_members(alloc, tape, reader, seen),
         other => {
-            tape.read_behind(other, reader, MAX_NESTING)?;
             seen.other = true;
+            tape.read_behind(other, reader, MAX_NESTING)
         }
     }
-    Ok(())
+}
+
+// The root, behind which nothing stands.
+fn read_whole<'a>(
+    alloc: Global,
+    tape: &mut Tape<'a>,
+    reader: &mut Reader<'a>,
+    seen: &mut RootSeen,
+) -> Result<(), ParseError>
+    requires { IsSeen seen.old no_members }
+    ensures ok { OnOk result (ReadsRoot reader.old [] seen.new) }
+    ensures err { result ≡ Err ParseError.NotJson → (j : json.Json) → value_in_range 127 reader.old ≢ Some (j, []) }
+{
+    read_root(alloc, tape, reader, seen)?;
+    match reader.next() {
+        None => Ok(()),
+        Some(_) => Err(ParseError::NotJson),
+    }
 }
 
 /// Reads the text, and what its root says.
@@ -209,9 +237,5 @@ pub fn read_text(alloc: Global, text: &str, seen: &mut RootSeen) -> Result<(), P
     let mut scratch = Scratch::new(alloc);
     let mut reader = Reader::new(text, &mut scratch)?;
     let mut tape = Tape::new(alloc);
-    read_root(alloc, &mut tape, &mut reader, seen)?;
-    if reader.next().is_some() {
-        return Err(ParseError::NotJson);
-    }
-    Ok(())
+    read_whole(alloc, &mut tape, &mut reader, seen)
 }

@@ -36,8 +36,12 @@ fn read_field(value: Node<'_, '_>) -> Option<FieldType>
     if !has_only_keys(value, &["type", "mut"]) {
         return None;
     }
-    let storage = read_storage(member_at(value, "type")?)?;
-    let mutable = mark_at(value, "mut")?;
+    let Some(storage) = read_storage(member_at(value, "type")?) else {
+        return None;
+    };
+    let Some(mutable) = mark_at(value, "mut") else {
+        return None;
+    };
     Some(FieldType { storage, mutable })
 }
 
@@ -137,9 +141,15 @@ fn read_super(value: Node<'_, '_>) -> Option<Option<SuperType>>
 fn read_marks(value: Node<'_, '_>) -> Option<(bool, Option<SuperType>, bool)>
     ensures { option_map {U = Bool × (Option SuperType × Bool)} (λ p. (p.0, (p.1, p.2))) result ≡ both (λ (final : Bool) (rest : Option SuperType × Bool). (final, rest)) (final_mark (get (codes "final") (view value.entry))) (both (λ above shared. (above, shared)) (optional super_of (get (codes "super") (view value.entry))) (mark (get (codes "shared") (view value.entry)))) }
 {
-    let is_final = read_final(value)?;
-    let supertype = read_super(value)?;
-    let shared = mark_at(value, "shared")?;
+    let Some(is_final) = read_final(value) else {
+        return None;
+    };
+    let Some(supertype) = read_super(value) else {
+        return None;
+    };
+    let Some(shared) = mark_at(value, "shared") else {
+        return None;
+    };
     Some((is_final, supertype, shared))
 }
 

@@ -1,8 +1,12 @@
 // The body of `type`, with the declarations of component types and instance types.
-ghost use Rattle.std.specs.Prelude.{◌≡◌, IfOk, map, option_map};
+ghost use Rattle.std.specs.Prelude.{◌≡◌, IfOk, map, option_map, option_and_then, codes};
+ghost use Rattle.serde_json.specs.Find.{get};
+ghost use Rattle.wcv_listing.specs.Aliases.{alias_of};
+ghost use Rattle.wcv_listing.specs.CoreForms.{core_type_of};
 ghost use Rattle.wcv_listing.specs.Fields.{array_of};
-ghost use Rattle.wcv_listing.specs.Forms.{resource_of, plain_type_of, declared_export, instance_decl_of, component_decl_of, type_over, type_within, type_of};
+ghost use Rattle.wcv_listing.specs.Forms.{import_of, resource_of, plain_type_of, declared_export, plain_decl_of, instance_decl_of, component_decl_of, type_over, type_within, type_of};
 ghost use Rattle.wcv_listing.specs.Seen.{view};
+ghost use Rattle.wcv_syntax.specs.Model.{core_type_decl, alias_decl, import_decl};
 ghost use Rattle.wcv_syntax.specs.View.{type_view, component_decl_view, instance_decl_view};
 
 use crate::alias::read_alias;
@@ -118,7 +122,6 @@ fn read_instance_decls(
 
 // A declaration of a component type, in which types nest at most so deep.
 #[cycle(types)]
-#[tactic(auto, using(crate::proofs::Made::component_import_made))]
 fn read_component_decl(
     alloc: Global,
     value: Node<'_, '_>,
@@ -127,10 +130,7 @@ fn read_component_decl(
     ensures { IfOk result (λ decl. option_map component_decl_view decl ≡ component_decl_of (type_within depth) (view value.entry)) }
 {
     if has_only_keys(value, &["import"]) {
-        let Some(body) = member_at(value, "import") else {
-            return Ok(None);
-        };
-        Ok(read_import(alloc, body)?.map(ComponentTypeDeclaration::Import))
+        read_import_decl(alloc, value)
     } else {
         Ok(read_instance_decl(alloc, value, depth)?.map(InstanceTypeDeclaration::in_component_type))
     }
@@ -138,7 +138,7 @@ fn read_component_decl(
 
 // A declaration of an instance type, in which types nest at most so deep.
 #[cycle(types)]
-#[tactic(auto, using(crate::proofs::Made::instance_core_type_made, crate::proofs::Made::instance_ty_made, crate::proofs::Made::instance_alias_made))]
+#[tactic(auto, using(crate::proofs::Made::instance_ty_made))]
 fn read_instance_decl(
     alloc: Global,
     value: Node<'_, '_>,
@@ -147,27 +147,14 @@ fn read_instance_decl(
     ensures { IfOk result (λ decl. option_map instance_decl_view decl ≡ instance_decl_of (type_within depth) (view value.entry)) }
 {
     if has_only_keys(value, &["core-type"]) {
-        let Some(body) = member_at(value, "core-type") else {
-            return Ok(None);
-        };
-        Ok(read_core_type(alloc, body)?.map(InstanceTypeDeclaration::CoreType))
+        read_core_type_decl(alloc, value)
     } else if has_only_keys(value, &["type"]) {
         let Some(body) = member_at(value, "type") else {
             return Ok(None);
         };
         Ok(read_type_within(alloc, body, depth)?.map(InstanceTypeDeclaration::Ty))
-    } else if has_only_keys(value, &["export"]) {
-        let Some(body) = member_at(value, "export") else {
-            return Ok(None);
-        };
-        Ok(read_import(alloc, body)?.map(as_export))
-    } else if has_only_keys(value, &["alias"]) {
-        let Some(body) = member_at(value, "alias") else {
-            return Ok(None);
-        };
-        Ok(read_alias(alloc, body)?.map(InstanceTypeDeclaration::Alias))
     } else {
-        Ok(None)
+        read_plain_decl(alloc, value)
     }
 }
 
@@ -180,6 +167,77 @@ fn as_export(body: ComponentImport) -> InstanceTypeDeclaration
         name: body.name,
         ty: body.ty,
     }
+}
+
+// A declared core type.
+#[tactic(auto, using(crate::proofs::Made::instance_core_type_made))]
+fn read_core_type_decl(
+    alloc: Global,
+    value: Node<'_, '_>,
+) -> Result<Option<InstanceTypeDeclaration>, OutOfMemory>
+    ensures { IfOk result (λ decl. option_map instance_decl_view decl ≡ option_map core_type_decl (option_and_then core_type_of (get (codes "core-type") (view value.entry)))) }
+{
+    let Some(body) = member_at(value, "core-type") else {
+        return Ok(None);
+    };
+    Ok(read_core_type(alloc, body)?.map(InstanceTypeDeclaration::CoreType))
+}
+
+// A declared export.
+fn read_export_decl(
+    alloc: Global,
+    value: Node<'_, '_>,
+) -> Result<Option<InstanceTypeDeclaration>, OutOfMemory>
+    ensures { IfOk result (λ decl. option_map instance_decl_view decl ≡ option_map declared_export (option_and_then import_of (get (codes "export") (view value.entry)))) }
+{
+    let Some(body) = member_at(value, "export") else {
+        return Ok(None);
+    };
+    Ok(read_import(alloc, body)?.map(as_export))
+}
+
+// A declared alias.
+#[tactic(auto, using(crate::proofs::Made::instance_alias_made))]
+fn read_alias_decl(
+    alloc: Global,
+    value: Node<'_, '_>,
+) -> Result<Option<InstanceTypeDeclaration>, OutOfMemory>
+    ensures { IfOk result (λ decl. option_map instance_decl_view decl ≡ option_map alias_decl (option_and_then alias_of (get (codes "alias") (view value.entry)))) }
+{
+    let Some(body) = member_at(value, "alias") else {
+        return Ok(None);
+    };
+    Ok(read_alias(alloc, body)?.map(InstanceTypeDeclaration::Alias))
+}
+
+// A declared export or alias.
+fn read_plain_decl(
+    alloc: Global,
+    value: Node<'_, '_>,
+) -> Result<Option<InstanceTypeDeclaration>, OutOfMemory>
+    ensures { IfOk result (λ decl. option_map instance_decl_view decl ≡ plain_decl_of (view value.entry)) }
+{
+    if has_only_keys(value, &["export"]) {
+        read_export_decl(alloc, value)
+    } else if has_only_keys(value, &["alias"]) {
+        read_alias_decl(alloc, value)
+    } else {
+        Ok(None)
+    }
+}
+
+// A declared import of a component type.
+#[tactic(auto, using(crate::proofs::Made::component_import_made))]
+fn read_import_decl(
+    alloc: Global,
+    value: Node<'_, '_>,
+) -> Result<Option<ComponentTypeDeclaration>, OutOfMemory>
+    ensures { IfOk result (λ decl. option_map component_decl_view decl ≡ option_map import_decl (option_and_then import_of (get (codes "import") (view value.entry)))) }
+{
+    let Some(body) = member_at(value, "import") else {
+        return Ok(None);
+    };
+    Ok(read_import(alloc, body)?.map(ComponentTypeDeclaration::Import))
 }
 
 // A type without declarations.

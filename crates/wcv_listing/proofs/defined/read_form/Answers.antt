@@ -31,21 +31,3 @@ returns-in_ok-read_list-in-flags c = under _ (codes "flags") _ c.in-flags.is (gr
 
 pub returns-in_ok-read_list-in-enum : goal.returns-in_ok-read_list-in-enum
 returns-in_ok-read_list-in-enum c = under _ (codes "enum") _ c.in-enum.is (grind (arith, common_steps))
-
-pub returns-in-option : goal.returns-in-option
-returns-in-option c = under _ (codes "option") _ c.in-option.is (search rules)
-
-pub returns-in-result : goal.returns-in-result
-returns-in-result c = under _ (codes "result") _ c.in-result.is (search rules)
-
-pub returns-in-own : goal.returns-in-own
-returns-in-own c = under _ (codes "own") _ c.in-own.is (search rules)
-
-pub returns-in-borrow : goal.returns-in-borrow
-returns-in-borrow c = under _ (codes "borrow") _ c.in-borrow.is (search rules)
-
-pub returns-in-future : goal.returns-in-future
-returns-in-future c = under _ (codes "future") _ c.in-future.is (search rules)
-
-pub returns-in-stream : goal.returns-in-stream
-returns-in-stream c = under _ (codes "stream") _ c.in-stream.is (search rules)
