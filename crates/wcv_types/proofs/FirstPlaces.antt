@@ -1,6 +1,8 @@
 -- Looking up a text in a list of pairs.
-use Rattle.std.proofs.Common.{◌≡◌, ◌⊎◌, inl, inr, ℕ, suc, List, [], ◌∷◌, ◌++◌, length, Bool, true, false, cond, Option, Some, None, is_some, option_map, String, string_bytes, bytes_eq, refl, ap, sym, ◌∙◌, subst, drop, drop-cons, get_or, add-one, ◌<◌, ◌≤◌, ◌+◌}
+use Rattle.std.proofs.Common.{◌≡◌, ◌⊎◌, inl, inr, ℕ, suc, List, [], ◌∷◌, ◌++◌, length, Bool, true, false, cond, Option, Some, None, is_some, option_map, String, string_bytes, bytes_eq, refl, ap, sym, ◌∙◌, subst, take, drop, drop-cons, get_or, add-one, ◌<◌, ◌≤◌, ◌+◌}
 use Rattle.std.proofs.Math.ListN.{drop_of_length-le}
+use Rattle.std.proofs.lemmas.List.{map-append}
+use Rattle.std.proofs.lemmas.Option.{slice_get_read}
 use Rattle.std.proofs.lemmas.Map.Text.{btree_map_updates_text}
 use Rattle.std.specs.BTreeMap.{BTreeMap, Updates, get, get_by_text}
 use Rattle.std.specs.Map.{lookup}
@@ -14,6 +16,7 @@ use Rattle.wcv_core.specs.LabelSet.{mixed}
 use Rattle.wcv_core.specs.TextSet.{LeadsTo, checked, is_text}
 use Rattle.wcv_types.specs.ByName.{AreFirsts, IsFirst, first_place, texts_in, value_at}
 use Rattle.wcv_types.specs.Tree.{Text}
+use Rattle.wcv_types.proofs.Lists.{take-next}
 
 -- one pair on
 pub next_entry : {V : Type 0} (es : List (Text × V)) (i : ℕ) (e : Text × V) → i < length es → e ≡ get_or es i e → drop i es ≡ e ∷ drop (i + 1) es
@@ -23,6 +26,11 @@ pub no_entry : {V : Type 0} (es : List (Text × V)) (i : ℕ) → length es ≤ 
 no_entry es i h = drop_of_length-le es h
 
 -- ## One more text
+
+-- the texts of the pairs before, and one more
+pub texts_next : {V : Type 0} (es : List (Text × V)) (k : ℕ) (e : Text × V) (t : Text) → k < length es → e ≡ get_or es k e → t ≡ e.0 → texts_in (take (k + 1) es) ≡ texts_in (take k es) ++ t ∷ []
+texts_next es k e t w r n =
+    ap (λ j. texts_in (take j es)) (add-one k) ∙ ap texts_in (take-next es k e (slice_get_read es (length es) k e refl w r)) ∙ map-append (λ e. e.0) (take k es) (e ∷ []) ∙ ap (λ (u : Text). texts_in (take k es) ++ u ∷ []) (sym n)
 
 -- where it stands first with one more behind
 abbrev with_last : Text → Text → ℕ → Option ℕ → Option ℕ

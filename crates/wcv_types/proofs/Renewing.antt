@@ -1,10 +1,10 @@
 -- Types under a new identity.
 use Rattle.std.proofs.Common.{◌≡◌, ℕ, suc, [], length, refl, sym, ◌∙◌, ap, subst, arith, append-nil}
-use Rattle.std.specs.Prelude.{slice_get, Some}
+use Rattle.std.specs.Prelude.{slice_get, Some, Result, Ok, Err, IfOk, OnOk}
 use Rattle.std.proofs.lemmas.Option.{same_Some}
 use Rattle.wcv_core.specs.Names.{Name, number, stamp}
 use Rattle.wcv_types.specs.Arena.{Arena}
-use Rattle.wcv_types.specs.Renewed.{renewed, next_name, next_id, with_stamp, NodeAgain, OneMore, Renewed}
+use Rattle.wcv_types.specs.Renewed.{renewed, next_name, next_id, id_with, with_stamp, NodeAgain, OneMore, Renewed}
 use Rattle.wcv_types.specs.Standing.{Stands, with_node, Extends}
 use Rattle.wcv_types.specs.Measure.{size, depth}
 use Rattle.wcv_types.specs.Rename.{rename, without_identities}
@@ -77,6 +77,12 @@ module _ (a b : Arena) where
         grown = grown;
         stay = keeps_trees a b grown;
       }
+
+  -- the id that is given, where memory lasts
+  pub unique_is : {E : Type 0} (id one : ComponentAnyTypeId) (r : Result ℕ E) (P : Type 0) (n : ℕ) → id ≡ one → ((k : ℕ) → P → k ≡ n → Renewed a b one (id_with one k)) → OnOk r P → IfOk r (λ k. k ≡ n) →
+      IfOk r (λ k. Renewed a b id (id_with id k))
+  unique_is id one (Ok k) P n is f p e = subst (λ (i : ComponentAnyTypeId). Renewed a b i (id_with i k)) (sym is) (f k p e)
+  unique_is id one (Err x) P n is f p e = tt
 
 -- ## Trees under a new identity
 

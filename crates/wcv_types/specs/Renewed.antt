@@ -42,6 +42,14 @@ next_id a (any.Func i) = any.Func (record { index = length a.nodes })
 next_id a (any.Instance i) = any.Instance (record { index = length a.nodes })
 next_id a (any.Component i) = any.Component (record { index = length a.nodes })
 
+-- the id of that sort that has this index; of a reference, this stamp
+abbrev pub id_with : ComponentAnyTypeId → ℕ → ComponentAnyTypeId
+id_with (any.Resource r) k = any.Resource (record r { stamp = k })
+id_with (any.Defined i) k = any.Defined (record { index = k })
+id_with (any.Func i) k = any.Func (record { index = k })
+id_with (any.Instance i) k = any.Instance (record { index = k })
+id_with (any.Component i) k = any.Component (record { index = k })
+
 -- the arena with one more stamp
 abbrev pub with_stamp : Arena → Arena
 with_stamp a = record a { stamps = a.stamps + 1 }

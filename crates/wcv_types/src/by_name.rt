@@ -67,28 +67,27 @@ impl Firsts {
         self.place_from(entries, self.by_number.get(&number).copied(), text)
     }
 
-    /// One more text behind those of the list. The answer is where it stood already.
+    /// One more text behind those of the list.
     fn join<V>(
         &mut self,
         alloc: Global,
         before: &[(Text, V)],
         text: &str,
-    ) -> Result<Option<usize>, OutOfMemory>
-        ensures stood { IfOk result (λ o. AreFirsts self.old.by_number self.old.by_bytes (texts_in before.now) → o ≡ first_place text.now (texts_in before.now)) }
-        ensures joins { OnOk result (AreFirsts self.old.by_number self.old.by_bytes (texts_in before.now) → AreFirsts self.new.by_number self.new.by_bytes (texts_in before.now ++ text.now ∷ [])) }
+    ) -> Result<(), OutOfMemory>
+        ensures { OnOk result (AreFirsts self.old.by_number self.old.by_bytes (texts_in before.now) → AreFirsts self.new.by_number self.new.by_bytes (texts_in before.now ++ text.now ∷ [])) }
     {
         let number = mix(text);
         let place = self.by_number.get(&number).copied();
-        let stood = self.place_from(before, place, text);
-        if stood.is_none() {
-            if place.is_none() {
-                self.by_number.insert(number, before.len())?;
-            } else {
-                let key = String::from_str(alloc, text)?;
-                self.by_bytes.insert(key, before.len())?;
-            }
+        if self.place_from(before, place, text).is_some() {
+            return Ok(());
         }
-        Ok(stood)
+        if place.is_none() {
+            self.by_number.insert(number, before.len())?;
+            return Ok(());
+        }
+        let key = String::from_str(alloc, text)?;
+        self.by_bytes.insert(key, before.len())?;
+        Ok(())
     }
 }
 

@@ -1,6 +1,7 @@
 // Imports and exports of a core module by name.
 ghost use Rattle.std.specs.Prelude.{◌≡◌, List, [], ◌∷◌, ◌++◌, length, take, slice_get, option_copied, IfOk, OnOk, OnErr};
 
+use crate::again::copy_text;
 use crate::by_name::ByName;
 use std::alloc::Global;
 use std::marker::Model;
@@ -41,6 +42,19 @@ impl ImportMap {
         Ok(())
     }
 
+    /// Appends a copy of a pair.
+    fn push_copy(
+        &mut self,
+        alloc: Global,
+        entry: &((Text, Text), EntityType),
+    ) -> Result<(), OutOfMemory>
+        ensures { OnOk result (self.new ≡ self.old ++ entry.now ∷ []) }
+    {
+        let module = copy_text(alloc, &entry.0.0)?;
+        let name = copy_text(alloc, &entry.0.1)?;
+        self.push(((module, name), entry.1))
+    }
+
     /// How many pairs there are.
     pub fn len(&self) -> usize
         ensures { result ≡ length self.now }
@@ -62,9 +76,7 @@ impl ImportMap {
         let mut copied = ImportMap::new(alloc);
         let entries = self.as_slice();
         for entry in entries {
-            let module = Text::new(alloc, entry.0.0.as_str())?;
-            let name = Text::new(alloc, entry.0.1.as_str())?;
-            copied.push(((module, name), entry.1))?;
+            copied.push_copy(alloc, entry)?;
         }
         Ok(copied)
     }

@@ -22,28 +22,6 @@ pub fn copy_option(alloc: Global, text: &Option<Text>) -> Result<Option<Text>, O
     }
 }
 
-/// The entry with other parts.
-fn item_again(
-    alloc: Global,
-    item: &ComponentItem,
-    parts: &mut Refill<'_>,
-) -> Result<ComponentItem, OutOfMemory>
-    requires { FillsSlot (entity_slot item.now.ty) parts.old }
-    ensures slot { IfOk result (λ i. entity_slot i.ty ≡ refill_slot (entity_slot item.now.ty) parts.old) }
-    ensures left { OnOk result (parts.new ≡ after_slot (entity_slot item.now.ty) parts.old) }
-    ensures implements { IfOk result (λ i. i.implements ≡ item.now.implements) }
-    ensures suffix { IfOk result (λ i. i.version_suffix ≡ item.now.version_suffix) }
-    ensures external { IfOk result (λ i. i.external_id ≡ item.now.external_id) }
-{
-    let ty = parts.entity(item.ty);
-    Ok(ComponentItem {
-        ty,
-        implements: copy_option(alloc, &item.implements)?,
-        version_suffix: copy_option(alloc, &item.version_suffix)?,
-        external_id: copy_option(alloc, &item.external_id)?,
-    })
-}
-
 /// The entry with other parts joins those that were made.
 fn push_again(
     alloc: Global,
@@ -55,9 +33,8 @@ fn push_again(
     ensures slots { OnOk result ((role : Extern_name → Role) → entry_slots role again.new ≡ entry_slots role again.old ++ (role (entry_name entry.now), refill_slot (entity_slot entry.now.1.ty) parts.old) ∷ []) }
     ensures left { OnOk result (parts.new ≡ after_slot (entity_slot entry.now.1.ty) parts.old) }
 {
-    let name = copy_text(alloc, &entry.0)?;
-    let item = item_again(alloc, &entry.1, parts)?;
-    again.push((name, item))
+    let ty = parts.entity(entry.1.ty);
+    again.push_copy(alloc, entry, ty)
 }
 
 /// The entries with other parts.

@@ -1,5 +1,5 @@
 // What is known of imports and exports, added up.
-ghost use Rattle.std.specs.Prelude.{◌≡◌, ◌++◌, ◌∷◌, [], ℕ, List, All};
+ghost use Rattle.std.specs.Prelude.{◌≡◌, ◌<◌, ◌++◌, ◌∷◌, [], ℕ, List, All, length};
 ghost use Rattle.wcv_core.specs.Names.{Name};
 ghost use Rattle.wcv_types.specs.Entities.{entity_tree, EntityStands, EntryStands};
 ghost use Rattle.wcv_types.specs.EntrySums.{IsTotalOf, IsTotalOfParts, HasEntries};
@@ -8,12 +8,12 @@ ghost use Rattle.wcv_types.specs.Measure.{weight, whole};
 ghost use Rattle.wcv_types.specs.Resources.{mentions_in};
 ghost use Rattle.wcv_types.specs.Standing.{Stands};
 ghost use Rattle.wcv_types.specs.Tree.{Extern_name, Head, Role, Parts, node, none};
-ghost use Rattle.wcv_types.specs.Unfold.{Slot, Slots, Type_tree, any_part, entry_slots, head_of, IsInfoOf, slot_parts, slot_tree, tree_at, trees};
+ghost use Rattle.wcv_types.specs.Unfold.{Slot, Slots, Type_tree, any_part, entry_slots, head_of, IsInfoOf, slot_parts, slot_tree, tree_at, tree_in, trees};
 ghost use Rattle.wcv_types.specs.declared.arena.Node.{Node};
 
 use crate::arena::TypeAlloc;
 use crate::defined_facts::value_facts;
-use crate::facts::{Facts, nothing_abi, reference_facts};
+use crate::facts::{Facts, nothing_abi};
 use crate::ids::ComponentAnyTypeId;
 use crate::info::TypeInfo;
 use crate::item_map::ComponentItem;
@@ -88,17 +88,29 @@ pub fn node_facts(info: TypeInfo, refers: bool) -> Facts
     }
 }
 
-/// What is known of a type.
-fn any_facts(types: &TypeAlloc, id: ComponentAnyTypeId) -> Facts
+/// What is known of the node at this place, as of one entry.
+fn node_total(types: &TypeAlloc, place: u64) -> Total
+    requires { place < length types.now.nodes }
+    ensures { IsTotalOf result (tree_in (trees types.now.nodes) place) }
+{
+    Total::of(types.nodes.facts(place as usize))
+}
+
+/// So of a type.
+fn any_total(types: &TypeAlloc, id: ComponentAnyTypeId) -> Total
     requires { Stands types.now (any_part id) }
-    ensures { IsFactsOf result (tree_at types.now (any_part id)) }
+    ensures { IsTotalOf result (tree_at types.now (any_part id)) }
 {
     match id {
-        ComponentAnyTypeId::Resource(_) => reference_facts(),
-        ComponentAnyTypeId::Defined(id) => types.nodes.facts(id.index as usize),
-        ComponentAnyTypeId::Func(id) => types.nodes.facts(id.index as usize),
-        ComponentAnyTypeId::Instance(id) => types.nodes.facts(id.index as usize),
-        ComponentAnyTypeId::Component(id) => types.nodes.facts(id.index as usize),
+        ComponentAnyTypeId::Resource(_) => Total {
+            size: 1,
+            depth: 1,
+            refers: true,
+        },
+        ComponentAnyTypeId::Defined(id) => node_total(types, id.index),
+        ComponentAnyTypeId::Func(id) => node_total(types, id.index),
+        ComponentAnyTypeId::Instance(id) => node_total(types, id.index),
+        ComponentAnyTypeId::Component(id) => node_total(types, id.index),
     }
 }
 
@@ -108,23 +120,23 @@ fn entity_total(types: &TypeAlloc, ty: ComponentEntityType) -> Total
     ensures { IsTotalOf result (entity_tree (trees types.now.nodes) ty) }
 {
     match ty {
-        ComponentEntityType::Module(id) => Total::of(types.nodes.facts(id.index as usize)),
-        ComponentEntityType::Func(id) => Total::of(types.nodes.facts(id.index as usize)),
+        ComponentEntityType::Module(id) => node_total(types, id.index),
+        ComponentEntityType::Func(id) => node_total(types, id.index),
         ComponentEntityType::Value(ty) => Total::of(value_facts(types, Some(ty))),
         ComponentEntityType::Ty {
             created,
             referenced,
         } => {
-            let of_made = any_facts(types, created);
-            let of_named = any_facts(types, referenced);
+            let of_made = any_total(types, created);
+            let of_named = any_total(types, referenced);
             Total {
-                size: of_made.info.size,
-                depth: of_made.info.depth,
+                size: of_made.size,
+                depth: of_made.depth,
                 refers: of_made.refers | of_named.refers,
             }
         }
-        ComponentEntityType::Instance(id) => Total::of(types.nodes.facts(id.index as usize)),
-        ComponentEntityType::Component(id) => Total::of(types.nodes.facts(id.index as usize)),
+        ComponentEntityType::Instance(id) => node_total(types, id.index),
+        ComponentEntityType::Component(id) => node_total(types, id.index),
     }
 }
 

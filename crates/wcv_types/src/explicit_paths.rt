@@ -1,5 +1,5 @@
 // The first paths that lead to resources, found in one walk.
-ghost use Rattle.std.specs.Prelude.{◌≡◌, ◌++◌, None, All, IfOk, OnOk};
+ghost use Rattle.std.specs.Prelude.{◌≡◌, ◌++◌, [], None, All, IfOk, OnOk};
 ghost use Rattle.std.specs.Map.{lookup};
 ghost use Rattle.wcv_core.specs.Names.{number};
 ghost use Rattle.wcv_types.specs.Entities.{entity_tree, entry_trees, EntityStands, EntryStands};
@@ -184,6 +184,43 @@ fn push_path(
     }
 }
 
+/// The first paths among entries to the resources of the set are found, where none was before.
+fn find_all(
+    types: &TypeAlloc,
+    entries: &[(Text, ComponentItem)],
+    ids: &ResourceSet,
+    found: &mut Paths,
+) -> Result<(), OutOfMemory>
+    requires stand { All (EntryStands types.now) entries.now }
+    requires none { found.old ≡ [] }
+    ensures { OnOk result (Finds ids.now [] (λ r. first_path (number r.index) (entry_trees (trees types.now.nodes) entries.now)) [] found.new) }
+{
+    let mut seen = PlaceSet::new(types.allocator());
+    let mut path = Vec::new(types.allocator());
+    find_among(types, entries, ids, &mut seen, &mut path, found)
+}
+
+/// The paths that were found, in the order of the set.
+fn in_order(
+    types: &TypeAlloc,
+    entries: &[(Text, ComponentItem)],
+    ids: &ResourceSet,
+    found: &Paths,
+) -> Result<Paths, OutOfMemory>
+    requires { Finds ids.now [] (λ r. first_path (number r.index) (entry_trees (trees types.now.nodes) entries.now)) [] found.now }
+    ensures { IfOk result (λ paths. paths ≡ explicit_paths ids.now (entry_trees (trees types.now.nodes) entries.now)) }
+{
+    let _ = entries;
+    let mut paths = Paths::new(types.allocator());
+    for k in 0..ids.len() {
+        match ids.get_index(k) {
+            Some(id) => push_path(*id, found, types.allocator(), &mut paths)?,
+            None => unreachable!(),
+        }
+    }
+    Ok(paths)
+}
+
 impl TypeAlloc {
     /// The first path to each resource of the set that has one, in the order of the set. It looks once at what an
     /// instance exports, however many resources there are, and however many exports have its type; and once more for
@@ -196,24 +233,8 @@ impl TypeAlloc {
         requires { All (EntryStands self.now) exports.now }
         ensures { IfOk result (λ paths. paths ≡ explicit_paths ids.now (entry_trees (trees self.now.nodes) exports.now)) }
     {
-        let mut seen = PlaceSet::new(self.allocator());
-        let mut path = Vec::new(self.allocator());
         let mut found = Paths::new(self.allocator());
-        find_among(
-            self,
-            exports.as_slice(),
-            ids,
-            &mut seen,
-            &mut path,
-            &mut found,
-        )?;
-        let mut paths = Paths::new(self.allocator());
-        for k in 0..ids.len() {
-            match ids.get_index(k) {
-                Some(id) => push_path(*id, &found, self.allocator(), &mut paths)?,
-                None => unreachable!(),
-            }
-        }
-        Ok(paths)
+        find_all(self, exports.as_slice(), ids, &mut found)?;
+        in_order(self, exports.as_slice(), ids, &found)
     }
 }

@@ -243,6 +243,21 @@ fn free_in_list(
     Ok(())
 }
 
+/// So it does where no type was seen before, and nothing is known.
+fn free_in_parts(
+    types: &TypeAlloc,
+    parts: &[Part],
+    free: &mut ResourceSet,
+) -> Result<(), OutOfMemory>
+    requires { All (Stands types.now) parts.now }
+    ensures ok { OnOk result (Gains (λ r. FreeInSome types.now r parts.now) free.old free.new) }
+    ensures err { OnErr result (Continues free.old free.new) }
+{
+    let mut known = FreeSets::new(types.allocator());
+    let mut seen = PlaceSet::new(types.allocator());
+    free_in_list(types, parts, &mut known, &mut seen, free)
+}
+
 impl TypeAlloc {
     /// The resources that are free in the type join the set. Out of memory some of them may have joined it.
     pub fn free_variables_any_type_id(
@@ -271,9 +286,7 @@ impl TypeAlloc {
     {
         let mut parts = Parts::new(self.allocator());
         push_entity(*ty, &mut parts)?;
-        let mut known = FreeSets::new(self.allocator());
-        let mut seen = PlaceSet::new(self.allocator());
-        free_in_list(self, parts.as_slice(), &mut known, &mut seen, free)
+        free_in_parts(self, parts.as_slice(), free)
     }
 
     /// So do those of all items. It looks once at what a type is made of, however many items have the type.
@@ -288,8 +301,6 @@ impl TypeAlloc {
     {
         let mut parts = Parts::new(self.allocator());
         push_entries(items.as_slice(), &mut parts)?;
-        let mut known = FreeSets::new(self.allocator());
-        let mut seen = PlaceSet::new(self.allocator());
-        free_in_list(self, parts.as_slice(), &mut known, &mut seen, free)
+        free_in_parts(self, parts.as_slice(), free)
     }
 }

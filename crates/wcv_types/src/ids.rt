@@ -50,13 +50,13 @@ pub struct ComponentTypeId {
 }
 
 /// The id of the type of a core module.
-#[derive(Clone, Copy, Debug, PartialEq, Eq, Hash, PartialOrd, Ord)]
+#[derive(Clone, Copy, Debug)]
 pub struct ComponentCoreModuleTypeId {
     pub index: u64,
 }
 
 /// The id of the type of a core instance.
-#[derive(Clone, Copy, Debug, PartialEq, Eq, Hash, PartialOrd, Ord)]
+#[derive(Clone, Copy, Debug)]
 pub struct ComponentCoreInstanceTypeId {
     pub index: u64,
 }
@@ -72,14 +72,14 @@ pub enum ComponentAnyTypeId {
 }
 
 /// The id of a core type or of the type of a core module.
-#[derive(Clone, Copy, Debug, PartialEq, Eq, Hash, PartialOrd, Ord)]
+#[derive(Clone, Copy, Debug)]
 pub enum ComponentCoreTypeId {
     Sub(CoreTypeId),
     Module(ComponentCoreModuleTypeId),
 }
 
 /// The id of a type of any sort that may be a part of another.
-#[derive(Clone, Copy, Debug, PartialEq, Eq)]
+#[derive(Clone, Copy, Debug)]
 pub enum Part {
     Defined(ComponentDefinedTypeId),
     Func(ComponentFuncTypeId),

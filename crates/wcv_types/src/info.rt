@@ -7,7 +7,7 @@ use wcv_core::limits::{MAX_DEPTH, MAX_SIZE};
 use wcv_core::{Error, ErrorKind, Refusal, Why};
 
 /// The size and the depth of a type. A number above 4,294,967,295 stands as 4,294,967,295.
-#[derive(Clone, Copy, Debug, PartialEq, Eq)]
+#[derive(Clone, Copy)]
 pub struct TypeInfo {
     pub size: u32,
     pub depth: u32,

@@ -20,12 +20,16 @@ pub struct ComponentItem {
 }
 
 impl ComponentItem {
-    /// An equal item.
-    fn copy(&self, alloc: Global) -> Result<ComponentItem, OutOfMemory>
-        ensures { IfOk result (λ copied. copied ≡ self.now) }
+    /// An equal item, but for its type.
+    fn copy_with(
+        &self,
+        alloc: Global,
+        ty: ComponentEntityType,
+    ) -> Result<ComponentItem, OutOfMemory>
+        ensures { IfOk result (λ copied. copied ≡ record self.now { ty = ty }) }
     {
         Ok(ComponentItem {
-            ty: self.ty,
+            ty,
             implements: copy_option(alloc, &self.implements)?,
             version_suffix: copy_option(alloc, &self.version_suffix)?,
             external_id: copy_option(alloc, &self.external_id)?,
@@ -68,15 +72,27 @@ impl ItemMap {
         Ok(())
     }
 
+    /// Appends a copy of a pair, but for its type.
+    pub(crate) fn push_copy(
+        &mut self,
+        alloc: Global,
+        entry: &(Text, ComponentItem),
+        ty: ComponentEntityType,
+    ) -> Result<(), OutOfMemory>
+        ensures { OnOk result (self.new ≡ self.old ++ (entry.now.0, record entry.now.1 { ty = ty }) ∷ []) }
+    {
+        let item = entry.1.copy_with(alloc, ty)?;
+        let name = copy_text(alloc, &entry.0)?;
+        self.push((name, item))
+    }
+
     /// An equal map.
     pub fn copy(&self, alloc: Global) -> Result<ItemMap, OutOfMemory>
         ensures { IfOk result (λ copied. copied ≡ self.now) }
     {
         let mut copied = ItemMap::new(alloc);
         for entry in &self.entries {
-            let name = copy_text(alloc, &entry.0)?;
-            let item = entry.1.copy(alloc)?;
-            copied.push((name, item))?;
+            copied.push_copy(alloc, entry, entry.1.ty)?;
         }
         Ok(copied)
     }

@@ -14,18 +14,7 @@ use crate::info::TypeInfo;
 use crate::parts::Parts;
 use crate::sorts::{NodeSort, TypeSort};
 use std::alloc::Global;
-use wcv_core::{CoreTypeId, OutOfMemory};
-
-/// A copy of the ids.
-fn copy_ids(alloc: Global, ids: &[CoreTypeId]) -> Result<Vec<CoreTypeId>, OutOfMemory>
-    ensures { IfOk result (λ copied. copied.items ≡ ids.now) }
-{
-    let mut copied = Vec::new(alloc);
-    for id in ids {
-        copied.push(*id)?;
-    }
-    Ok(copied)
-}
+use wcv_core::OutOfMemory;
 
 /// An equal type of a core module.
 fn module_again(alloc: Global, shape: &ModuleType) -> Result<ModuleType, OutOfMemory>
@@ -34,11 +23,13 @@ fn module_again(alloc: Global, shape: &ModuleType) -> Result<ModuleType, OutOfMe
     ensures exports { IfOk result (λ s. s.exports ≡ shape.now.exports) }
     ensures types { IfOk result (λ s. s.types.items ≡ shape.now.types.items) }
 {
+    let types = Vec::from_slice(alloc, &shape.types)?;
+    let exports = shape.exports.copy(alloc)?;
     Ok(ModuleType {
         info: shape.info,
         imports: shape.imports.copy(alloc)?,
-        exports: shape.exports.copy(alloc)?,
-        types: copy_ids(alloc, &shape.types)?,
+        exports,
+        types,
     })
 }
 

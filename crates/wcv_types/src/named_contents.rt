@@ -71,22 +71,57 @@ fn needs_of_exports(
     ensures needed { IfOk result (λ needed. Needs types.now (λ ids. all_pass (ids ++ identities set.now) (slot_parts (trees types.now.nodes) (entry_slots export exports.now))) [] needed) }
     ensures known { OnOk result (AllNeeded types.now set.now known.new) }
 {
-    let mut created = TypeSet::new(types.allocator());
     let mut needed = TypeSet::new(types.allocator());
-    let mut seen = PlaceSet::new(types.allocator());
-    for entry in exports {
-        need_entity(
-            types,
-            entry.1.ty,
-            set,
-            &created,
-            known,
-            &mut seen,
-            &mut needed,
-        )?;
-        push_created(entry.1.ty, &mut created)?;
-    }
+    need_exports(types, exports, set, known, &mut needed)?;
     Ok(needed)
+}
+
+/// The same, into a set that is empty.
+#[cycle(needing)]
+fn need_exports(
+    types: &TypeAlloc,
+    exports: &[(Text, ComponentItem)],
+    set: &TypeSet,
+    known: &mut NeededSets,
+    needed: &mut TypeSet,
+) -> Result<(), OutOfMemory>
+    requires stand { All (EntryStands types.now) exports.now }
+    requires set { AllStand types.now set.now }
+    requires known { AllNeeded types.now set.now known.old }
+    requires needed { needed.old ≡ [] }
+    ensures needed { OnOk result (Needs types.now (λ ids. all_pass (ids ++ identities set.now) (slot_parts (trees types.now.nodes) (entry_slots export exports.now))) [] needed.new) }
+    ensures known { OnOk result (AllNeeded types.now set.now known.new) }
+{
+    let mut created = TypeSet::new(types.allocator());
+    let mut seen = PlaceSet::new(types.allocator());
+    need_each(types, exports, set, &mut created, known, &mut seen, needed)
+}
+
+/// The same, where nothing was created and nothing was seen before.
+#[cycle(needing)]
+fn need_each(
+    types: &TypeAlloc,
+    exports: &[(Text, ComponentItem)],
+    set: &TypeSet,
+    created: &mut TypeSet,
+    known: &mut NeededSets,
+    seen: &mut PlaceSet,
+    needed: &mut TypeSet,
+) -> Result<(), OutOfMemory>
+    requires stand { All (EntryStands types.now) exports.now }
+    requires set { AllStand types.now set.now }
+    requires created { created.old ≡ [] }
+    requires known { AllNeeded types.now set.now known.old }
+    requires seen { seen.old ≡ [] }
+    requires needed { needed.old ≡ [] }
+    ensures needed { OnOk result (Needs types.now (λ ids. all_pass (ids ++ identities set.now) (slot_parts (trees types.now.nodes) (entry_slots export exports.now))) [] needed.new) }
+    ensures known { OnOk result (AllNeeded types.now set.now known.new) }
+{
+    for entry in exports {
+        need_entity(types, entry.1.ty, set, created, known, seen, needed)?;
+        push_created(entry.1.ty, created)?;
+    }
+    Ok(())
 }
 
 /// What a type needs to pass as an export of an instance type.
@@ -175,6 +210,47 @@ fn need_entity(
     }
 }
 
+/// Whether a type needs nothing to pass.
+fn needs_none(
+    types: &TypeAlloc,
+    id: ComponentAnyTypeId,
+    set: &TypeSet,
+    created: &TypeSet,
+    known: &mut NeededSets,
+    seen: &mut PlaceSet,
+    needed: &mut TypeSet,
+) -> Result<bool, OutOfMemory>
+    requires id { Stands types.now (any_part id) }
+    requires set { AllStand types.now set.now }
+    requires created { created.now ≡ [] }
+    requires known { AllNeeded types.now set.now known.old }
+    requires seen { seen.old ≡ [] }
+    requires needed { needed.old ≡ [] }
+    ensures { IfOk result (λ b. b ≡ passes (identities set.now) (tree_at types.now (any_part id))) }
+{
+    need_type(types, id, set, created, known, seen, needed)?;
+    Ok(needed.len() == 0)
+}
+
+/// Whether it passes, where nothing was seen before.
+fn passes_by(
+    types: &TypeAlloc,
+    id: ComponentAnyTypeId,
+    set: &TypeSet,
+    known: &mut NeededSets,
+    seen: &mut PlaceSet,
+) -> Result<bool, OutOfMemory>
+    requires id { Stands types.now (any_part id) }
+    requires set { AllStand types.now set.now }
+    requires known { AllNeeded types.now set.now known.old }
+    requires seen { seen.old ≡ [] }
+    ensures { IfOk result (λ b. b ≡ passes (identities set.now) (tree_at types.now (any_part id))) }
+{
+    let created = TypeSet::new(types.allocator());
+    let mut needed = TypeSet::new(types.allocator());
+    needs_none(types, id, set, &created, known, seen, &mut needed)
+}
+
 impl TypeAlloc {
     /// Whether the contents of a type are named by a set: the parameters and the result of a function, what a
     /// defined type is made of, the exports of an instance. A resource and a component have none. The exports of
@@ -190,11 +266,8 @@ impl TypeAlloc {
         requires set { AllStand self.now set.now }
         ensures { IfOk result (λ b. b ≡ passes (identities set.now) (tree_at self.now (any_part id.now))) }
     {
-        let created = TypeSet::new(self.allocator());
         let mut known = NeededSets::new(self.allocator());
         let mut seen = PlaceSet::new(self.allocator());
-        let mut needed = TypeSet::new(self.allocator());
-        need_type(self, *id, set, &created, &mut known, &mut seen, &mut needed)?;
-        Ok(needed.len() == 0)
+        passes_by(self, *id, set, &mut known, &mut seen)
     }
 }

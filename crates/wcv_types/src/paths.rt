@@ -46,14 +46,12 @@ impl Paths {
         ensures ok { OnOk result (self.new ≡ self.old ++ (resource, path) ∷ []) }
         ensures err { OnErr result (self.new ≡ self.old) }
     {
+        if self.map.is_none() {
+            self.map = Some(Box::new(self.alloc, IndexMapAppendOnly::new(self.alloc))?);
+        }
         match &mut self.map {
             Some(map) => map.insert(resource, path),
-            None => {
-                let mut map = IndexMapAppendOnly::new(self.alloc);
-                map.insert(resource, path)?;
-                self.map = Some(Box::new(self.alloc, map)?);
-                Ok(())
-            }
+            None => unreachable!(),
         }
     }
 

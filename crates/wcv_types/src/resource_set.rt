@@ -41,19 +41,15 @@ impl ResourceSet {
         ensures ok { OnOk result (self.new ≡ with_resource self.old entry) }
         ensures err { OnErr result (self.new ≡ self.old) }
     {
+        if self.ids.is_none() {
+            self.ids = Some(Box::new(self.alloc, IndexSet::new(self.alloc))?);
+        }
         match &mut self.ids {
             Some(ids) => match ids.insert(entry) {
                 Ok(_) => Ok(()),
                 Err(_) => Err(OutOfMemory),
             },
-            None => {
-                let mut ids = IndexSet::new(self.alloc);
-                if ids.insert(entry).is_err() {
-                    return Err(OutOfMemory);
-                }
-                self.ids = Some(Box::new(self.alloc, ids)?);
-                Ok(())
-            }
+            None => unreachable!(),
         }
     }
 

@@ -11,7 +11,7 @@ use crate::info::TypeInfo;
 use wcv_core::{PrimitiveValType, Text};
 
 /// A value type: a primitive, or a node of the arena.
-#[derive(Clone, Copy, Debug, PartialEq, Eq)]
+#[derive(Clone, Copy)]
 pub enum ComponentValType {
     Primitive(PrimitiveValType),
     Ty(ComponentDefinedTypeId),
@@ -73,7 +73,7 @@ pub struct ComponentFuncType {
 }
 
 /// The type of what is imported or exported.
-#[derive(Clone, Copy, Debug, PartialEq, Eq)]
+#[derive(Clone, Copy)]
 pub enum ComponentEntityType {
     Module(ComponentCoreModuleTypeId),
     Func(ComponentFuncTypeId),

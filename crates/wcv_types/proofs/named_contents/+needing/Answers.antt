@@ -39,21 +39,21 @@ need_entity-returns-in-Instance-clause-seen t c =
 
 -- ## Exports
 
-pub needs_of_exports-loop-entry-init : goal.needs_of_exports-loop-entry-init
-needs_of_exports-loop-entry-init t c = (
-  none_gone c.args.types.now c.args.set.now c.args.exports.now c.new-created.result c.new-needed.result c.new-created.ensures c.new-needed.ensures,
+pub need_each-loop-entry-init : goal.need_each-loop-entry-init
+need_each-loop-entry-init t c = (
+  none_gone c.args.types.now c.args.set.now c.args.exports.now c.args.created.now c.args.needed.now c.requires.created c.requires.needed,
   c.requires.known,
-  none_seen c.args.types.now c.new-created.result c.args.set.now c.new-needed.result c.new-seen.result c.new-seen.ensures,
+  none_seen c.args.types.now c.args.created.now c.args.set.now c.args.needed.now c.args.seen.now c.requires.seen,
 )
 
-pub needs_of_exports-need_entity-requires : goal.needs_of_exports-need_entity-requires
-needs_of_exports-need_entity-requires t c =
+pub need_each-need_entity-requires : goal.need_each-need_entity-requires
+need_each-need_entity-requires t c =
     let r = entry_rank c.args.exports.now c.loop-entry.entry-index c.entry-item.result c.loop-entry-test.true c.entry-item.is in
     let stands : EntityStands c.args.types.now c.entry-item.result.1.ty = search rules in
     (omega (arith, r, c.decreases), (stands, (c.requires.set, (c.loop-entry.invariant.0.created, (c.loop-entry.invariant.1, (c.loop-entry.invariant.0.left.stand, c.loop-entry.invariant.2))))))
 
-pub needs_of_exports-loop-entry-preserved : goal.needs_of_exports-loop-entry-preserved
-needs_of_exports-loop-entry-preserved t c =
+pub need_each-loop-entry-preserved : goal.need_each-loop-entry-preserved
+need_each-loop-entry-preserved t c =
     let stands : EntityStands c.args.types.now c.entry-item.result.1.ty = search rules in (
       one_gone c.args.types.now c.args.set.now c.args.exports.now c.loop-entry.entry-index c.entry-item.result c.loop-entry.created c.push_created.new.set c.loop-entry.needed c.need_entity.new.needed c.loop-entry-test.true c.entry-item.is stands
           c.loop-entry.invariant.0 c.in_ok-need_entity.ensures.needed c.in_ok-push_created.ensures,
@@ -61,8 +61,8 @@ needs_of_exports-loop-entry-preserved t c =
       seen_beside c.args.types.now c.loop-entry.created c.args.set.now c.need_entity.new.needed c.need_entity.new.seen c.entry-item.result.1.ty c.push_created.new.set c.in_ok-push_created.ensures stands c.in_ok-need_entity.ensures.seen,
     )
 
-pub needs_of_exports-returns-clause-needed : goal.needs_of_exports-returns-clause-needed
-needs_of_exports-returns-clause-needed t c =
+pub need_each-returns-clause-needed : goal.need_each-returns-clause-needed
+need_each-returns-clause-needed t c =
     all_gone c.args.types.now c.args.set.now c.args.exports.now c.loop-entry.entry-index c.loop-entry.created c.loop-entry.needed c.loop-entry-test.false c.loop-entry.invariant.0
 
 -- ## An instance type

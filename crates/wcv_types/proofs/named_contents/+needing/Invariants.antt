@@ -8,19 +8,25 @@ use Rattle.wcv_types.proofs.Needing.{GoneThrough}
 use Rattle.wcv_types.proofs.named_contents.+needing.Given as goal
 
 abbrev pub decreases-need_instance : goal.decreases-need_instance
-decreases-need_instance l = 4 * rank (part.Instance l.id)
+decreases-need_instance l = 6 * rank (part.Instance l.id)
 
 abbrev pub decreases-need_type : goal.decreases-need_type
-decreases-need_type l = 4 * rank (any_part l.id) + 1
+decreases-need_type l = 6 * rank (any_part l.id) + 1
 
 abbrev pub decreases-need_entity : goal.decreases-need_entity
-decreases-need_entity l = 4 * slot_rank (entity_slot l.ty) + 2
+decreases-need_entity l = 6 * slot_rank (entity_slot l.ty) + 2
 
 abbrev pub decreases-needs_of_exports : goal.decreases-needs_of_exports
-decreases-needs_of_exports l = 4 * entries_rank l.exports.now + 3
+decreases-needs_of_exports l = 6 * entries_rank l.exports.now + 5
+
+abbrev pub decreases-need_exports : goal.decreases-need_exports
+decreases-need_exports l = 6 * entries_rank l.exports.now + 4
+
+abbrev pub decreases-need_each : goal.decreases-need_each
+decreases-need_each l = 6 * entries_rank l.exports.now + 3
 
 -- those before are gone through, what they created is kept apart, and what was seen is named where all that is needed is
-abbrev pub invariant-needs_of_exports-loop-entry : goal.invariant-needs_of_exports-loop-entry
-invariant-needs_of_exports-loop-entry l =
+abbrev pub invariant-need_each-loop-entry : goal.invariant-need_each-loop-entry
+invariant-need_each-loop-entry l =
     GoneThrough l.types l.set l.exports l.entry-index l.created l.needed × AllNeeded l.types l.set l.known ×
     AllSeen l.types l.created l.set l.needed l.seen

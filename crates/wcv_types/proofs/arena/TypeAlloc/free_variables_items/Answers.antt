@@ -10,8 +10,8 @@ use Rattle.wcv_types.specs.declared.item_map.ComponentItem.{ComponentItem}
 use Rattle.wcv_types.proofs.Gathered.{entries_all, gains_entries}
 use Rattle.wcv_types.proofs.arena.TypeAlloc.free_variables_items.Goals as goal
 
-pub free_in_list-requires-clause-stand : goal.free_in_list-requires-clause-stand
-free_in_list-requires-clause-stand c =
+pub free_in_parts-requires : goal.free_in_parts-requires
+free_in_parts-requires c =
     let e =
     c.as_slice-2.ensures ∙ c.in_ok-push_entries.ensures ∙ ap (λ (es : List (Text × ComponentItem)). c.new-parts.result ++ entry_parts es) c.as_slice.ensures ∙
     ap (λ (qs : List Part). qs ++ entry_parts c.args.items.now) c.new-parts.ensures in
@@ -22,5 +22,5 @@ returns-clause-ok c =
     let e =
     c.as_slice-2.ensures ∙ c.in_ok-push_entries.ensures ∙ ap (λ (es : List (Text × ComponentItem)). c.new-parts.result ++ entry_parts es) c.as_slice.ensures ∙
     ap (λ (qs : List Part). qs ++ entry_parts c.args.items.now) c.new-parts.ensures in
-    on_ok_weaker c.free_in_list.result
-    (λ g. gains_entries c.args.self.now c.args.items.now c.args.free.now c.free_in_list.new.free (subst (λ (qs : List Part). Gains (λ r. FreeInSome c.args.self.now r qs) c.args.free.now c.free_in_list.new.free) e g)) c.free_in_list.ensures.ok
+    on_ok_weaker c.free_in_parts.result
+    (λ g. gains_entries c.args.self.now c.args.items.now c.args.free.now c.free_in_parts.new.free (subst (λ (qs : List Part). Gains (λ r. FreeInSome c.args.self.now r qs) c.args.free.now c.free_in_parts.new.free) e g)) c.free_in_parts.ensures.ok

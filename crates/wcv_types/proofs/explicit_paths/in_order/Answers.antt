@@ -1,4 +1,4 @@
-use Rattle.std.proofs.Common.{rules, ◌≡◌, List, ◌++◌, sym, ◌∙◌, ap, subst, None}
+use Rattle.std.proofs.Common.{◌≡◌, List, [], ◌++◌, refl, sym, ◌∙◌, ap, subst, None}
 use Rattle.std.specs.Prelude.{ℕ, Some, Option, slice_get, option_copied}
 use Rattle.std.specs.Map.{lookup}
 use Rattle.wcv_core.specs.Names.{number}
@@ -10,22 +10,21 @@ use Rattle.wcv_types.specs.Unfold.{trees}
 use Rattle.wcv_types.specs.declared.ids.ResourceId.{ResourceId}
 use Rattle.wcv_types.proofs.Finding.{found_first}
 use Rattle.wcv_types.proofs.Leading.{paths_next, not_before}
-use Rattle.wcv_types.proofs.arena.TypeAlloc.explicit_resource_paths.Goals as goal
+use Rattle.wcv_types.proofs.explicit_paths.in_order.Goals as goal
 
 pub loop-k-preserved : goal.loop-k-preserved
 loop-k-preserved c =
-    let es = entry_trees (trees c.args.self.now.nodes) c.args.exports.now in
+    let es = entry_trees (trees c.args.types.now.nodes) c.args.entries.now in
     let r : ResourceId = c.in-Some.id.now in
     let at : slice_get c.args.ids.now c.loop-k.k ≡ Some r = sym c.get_index.ensures ∙ ap option_copied c.in-Some.is in
-    let first : path_to r c.find_among.new.found ≡ first_path (number r.index) es =
-    found_first c.args.ids.now _ (λ q. first_path (number q.index) (entry_trees (trees c.args.self.now.nodes) c.as_slice.result.now)) _ c.find_among.new.found c.loop-k.k r (search rules) (search rules) c.in_ok-find_among.ensures.found at ∙
-    ap (λ ds. first_path (number r.index) (entry_trees (trees c.args.self.now.nodes) ds)) c.as_slice.ensures in
+    let first : path_to r c.args.found.now ≡ first_path (number r.index) es =
+    found_first c.args.ids.now [] (λ q. first_path (number q.index) es) [] c.args.found.now c.loop-k.k r refl refl c.requires at in
     c.in_ok-push_path-in-Some.ensures ∙ ap (λ (o : Option (List ℕ)). c.loop-k.paths ++ with_path r o) first ∙ ap (λ (ps : List (ResourceId × List ℕ)). ps ++ with_path r (first_path (number r.index) es)) c.loop-k.invariant ∙
     sym (paths_next c.args.ids.now c.loop-k.k r es at)
 
 pub push_path-requires : goal.push_path-requires
 push_path-requires c =
-    let es = entry_trees (trees c.args.self.now.nodes) c.args.exports.now in
+    let es = entry_trees (trees c.args.types.now.nodes) c.args.entries.now in
     let r : ResourceId = c.in-Some.id.now in
     let at : slice_get c.args.ids.now c.loop-k.k ≡ Some r = sym c.get_index.ensures ∙ ap option_copied c.in-Some.is in
     subst (λ (ps : List (ResourceId × List ℕ)). lookup (same_resource r) ps ≡ None) (sym c.loop-k.invariant) (not_before c.args.ids.now c.loop-k.k r es c.len-k-end.ensures.unique at)
