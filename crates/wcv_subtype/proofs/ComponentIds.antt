@@ -72,73 +72,65 @@ module _ (a : Arena) (i : ℕ) (s : ComponentType) (x : Type_tree) (e : x ≡ un
       subst (λ (w : Type_tree). es ≡ read_as f (going to (imported w)) ++ read_as g (going from (defined_by w)) → over es h ≡ component_at (head w) (λ r. f (to r)) (λ r. g (from r)) h) (sym e)
       (own_over (number i) (map resource_path s.imported_resources) (map resource_path s.defined_resources) f g h to from es)
 
-  imported_are : going (λ r. r) (firsts (map resource_path s.imported_resources)) ≡ going (λ r. r) (imported x)
+  pub imported_are : going (λ r. r) (firsts (map resource_path s.imported_resources)) ≡ going (λ r. r) (imported x)
   imported_are = ap (λ (w : Type_tree). going (λ r. r) (imported w)) (sym e)
 
   defined_are : going (λ r. r) (firsts (map resource_path s.defined_resources)) ≡ going (λ r. r) (defined_by x)
   defined_are = ap (λ (w : Type_tree). going (λ r. r) (defined_by w)) (sym e)
 
   -- as the right component reads them
-  pub right_over : (k : ℕ) (g : Reading Atom) (ins outs : List (Name × Name)) (es : List (Name × Atom)) → ins ≡ going (λ r. r) (firsts (map resource_path s.imported_resources)) → outs ≡ going (λ r. r) (firsts (map resource_path s.defined_resources)) →
-      es ≡ read_as (owned_in k) ins ++ read_as (made_in k) outs → over es g ≡ right_at k (head x) g
-  right_over k g ins outs es p q m = own_read (owned_in k) (made_in k) g (λ r. r) (λ r. r) es (m ∙ (λ j. read_as (owned_in k) ((p ∙ imported_are) j) ++ read_as (made_in k) ((q ∙ defined_are) j)))
+  pub right_over : (k : ℕ) (g : Reading Atom) (es : List (Name × Atom)) → es ≡ read_as (owned_in k) (going (λ r. r) (firsts (map resource_path s.imported_resources))) ++ read_as (made_in k) (going (λ r. r) (firsts (map resource_path s.defined_resources))) →
+      over es g ≡ right_at k (head x) g
+  right_over k g es m = own_read (owned_in k) (made_in k) g (λ r. r) (λ r. r) es (m ∙ (λ j. read_as (owned_in k) (imported_are j) ++ read_as (made_in k) (defined_are j)))
 
   module _ (j : ℕ) (t : ComponentType) (y : Type_tree) (h : y ≡ unfolded a j (n.Component t)) where
     -- what stands for the imported resources in the imports of the other, and for the defined ones in its exports
-    abbrev pub imported_pairs : List (Name × Name)
-    imported_pairs = counterparts_of (map resource_path s.imported_resources) (named_trees (trees a.nodes) s.imports) (named_trees (trees a.nodes) t.imports)
-
-    abbrev pub defined_pairs : List (Name × Name)
-    defined_pairs = counterparts_of (map resource_path s.defined_resources) (named_trees (trees a.nodes) s.exports) (named_trees (trees a.nodes) t.exports)
-
-    pub imported_go : imported_pairs ≡ going (imported_in x y) (imported x)
+    pub imported_go : counterparts_of (map resource_path s.imported_resources) (named_trees (trees a.nodes) s.imports) (named_trees (trees a.nodes) t.imports) ≡ going (imported_in x y) (imported x)
     imported_go =
         (λ l. counterparts_of (map resource_path s.imported_resources) (sym (import_names a i s x e) l) (sym (import_names a j t y h) l)) ∙
         ap (λ (w : Type_tree). going (counterpart (imported_paths (head w)) (named_imports x) (named_imports y)) (imported w)) (sym e)
 
-    pub defined_go : defined_pairs ≡ going (defined_in x y) (defined_by x)
+    pub defined_go : counterparts_of (map resource_path s.defined_resources) (named_trees (trees a.nodes) s.exports) (named_trees (trees a.nodes) t.exports) ≡ going (defined_in x y) (defined_by x)
     defined_go =
         (λ l. counterparts_of (map resource_path s.defined_resources) (sym (component_names a i s x e) l) (sym (component_names a j t y h) l)) ∙
         ap (λ (w : Type_tree). going (counterpart (made_paths (head w)) (named_exports x) (named_exports y)) (defined_by w)) (sym e)
 
-    -- ## Where both are to be the same
+  -- ## Where both are to be the same
 
+  module _ (y : Type_tree) where
     pub pair_told : (one two : Bool) → one ≡ one_to_one (λ r. false) (imported_in x y) (imported x) → two ≡ one_to_one (λ r. member r (firsts (map resource_path s.imported_resources))) (defined_in x y) (defined_by x) →
         own_pair_up x y ≡ (one && two)
     pair_told one two p q = λ l. sym p l && (ap (λ (w : Type_tree). one_to_one (λ r. member r (imported w)) (defined_in x y) (defined_by x)) e ∙ sym q) l
 
-    pub pair_no : (one : Bool) → one ≡ one_to_one (λ r. false) (imported_in x y) (imported x) → one ≡ false → own_pair_up x y ≡ false
-    pair_no one p f = ap (λ (b : Bool). b && one_to_one (λ r. member r (imported x)) (defined_in x y) (defined_by x)) (sym p ∙ f)
+    pub paired_left : (k : ℕ) (f : Reading Atom) (ins : List (Name × Name)) (es : List (Name × Atom)) → ins ≡ going (imported_in x y) (imported x) →
+        es ≡ read_as (owned_in k) ins ++ read_as (made_in k) (going (λ r. r) (firsts (map resource_path s.defined_resources))) → over es f ≡ component_at (head x) (λ r. owned_in k (imported_in x y r)) (made_in k) f
+    paired_left k f ins es p m = own_read (owned_in k) (made_in k) f (imported_in x y) (λ r. r) es (m ∙ (λ l. read_as (owned_in k) (p l) ++ read_as (made_in k) (defined_are l)))
 
-    pub paired_left : (k : ℕ) (f : Reading Atom) (ins outs : List (Name × Name)) (es : List (Name × Atom)) → ins ≡ imported_pairs → outs ≡ going (λ r. r) (firsts (map resource_path s.defined_resources)) →
-        es ≡ read_as (owned_in k) ins ++ read_as (made_in k) outs → over es f ≡ component_at (head x) (λ r. owned_in k (imported_in x y r)) (made_in k) f
-    paired_left k f ins outs es p q m =
-        own_read (owned_in k) (made_in k) f (imported_in x y) (λ r. r) es (m ∙ (λ l. read_as (owned_in k) ((p ∙ imported_go) l) ++ read_as (made_in k) ((q ∙ defined_are) l)))
-
-    pub paired_exports : (k : ℕ) (f : Reading Atom) (ins outs : List (Name × Name)) (es : List (Name × Atom)) → ins ≡ imported_pairs → outs ≡ defined_pairs →
+    pub paired_exports : (k : ℕ) (f : Reading Atom) (ins outs : List (Name × Name)) (es : List (Name × Atom)) → ins ≡ going (imported_in x y) (imported x) → outs ≡ going (defined_in x y) (defined_by x) →
         es ≡ read_as (owned_in k) ins ++ read_as (made_in k) outs → over es f ≡ component_at (head x) (λ r. owned_in k (imported_in x y r)) (λ r. made_in k (defined_in x y r)) f
-    paired_exports k f ins outs es p q m =
-        own_read (owned_in k) (made_in k) f (imported_in x y) (defined_in x y) es (m ∙ (λ l. read_as (owned_in k) ((p ∙ imported_go) l) ++ read_as (made_in k) ((q ∙ defined_go) l)))
+    paired_exports k f ins outs es p q m = own_read (owned_in k) (made_in k) f (imported_in x y) (defined_in x y) es (m ∙ (λ l. read_as (owned_in k) (p l) ++ read_as (made_in k) (q l)))
 
     -- ## Where the one is to match the other
 
-    pub none_made_told : (k : ℕ) (g u : Reading Atom) (ins : List (Name × Name)) (es : List (Name × Atom)) → u ≡ right_at k (head y) g → ins ≡ imported_pairs → es ≡ read_as u ins →
-        list_all (λ (q : Name × Atom). cond (is_made_in k q.1) false true) es ≡ opens_by_none_made k g x y
-    none_made_told k g u ins es v p m =
-        ap (list_all (λ (q : Name × Atom). cond (is_made_in k q.1) false true)) (m ∙ (λ l. read_as (v l) ((p ∙ imported_go) l)) ∙ read-going (right_at k (head y) g) (imported_in x y) (imported x)) ∙
-        list_all-map (λ (q : Name × Atom). cond (is_made_in k q.1) false true) (λ (r : Name). (r, opened_at k g x y r)) (imported x)
+    pub opened_left : (k : ℕ) (f g u : Reading Atom) (es : List (Name × Atom)) → u ≡ right_at k (head y) g →
+        es ≡ read_as u (going (imported_in x y) (imported x)) ++ read_as (made_in k) (going (λ r. r) (firsts (map resource_path s.defined_resources))) → over es f ≡ left_at k f g x y
+    opened_left k f g u es v m =
+        own_read (right_at k (head y) g) (made_in k) f (imported_in x y) (λ r. r) es (m ∙ (λ l. read_as (v l) (going (imported_in x y) (imported x)) ++ read_as (made_in k) (defined_are l)))
 
-    pub opened_left : (k : ℕ) (f g u : Reading Atom) (ins outs : List (Name × Name)) (es : List (Name × Atom)) → u ≡ right_at k (head y) g → ins ≡ imported_pairs → outs ≡ going (λ r. r) (firsts (map resource_path s.defined_resources)) →
-        es ≡ read_as u ins ++ read_as (made_in k) outs → over es f ≡ left_at k f g x y
-    opened_left k f g u ins outs es v p q m =
-        own_read (right_at k (head y) g) (made_in k) f (imported_in x y) (λ r. r) es (m ∙ (λ l. read_as (v l) ((p ∙ imported_go) l) ++ read_as (made_in k) ((q ∙ defined_are) l)))
+pub pair_no : (x y : Type_tree) (one : Bool) → one ≡ one_to_one (λ r. false) (imported_in x y) (imported x) → one ≡ false → own_pair_up x y ≡ false
+pair_no x y one p f = ap (λ (b : Bool). b && one_to_one (λ r. member r (imported x)) (defined_in x y) (defined_by x)) (sym p ∙ f)
+
+pub none_made_told : (x y : Type_tree) (k : ℕ) (g u : Reading Atom) (es : List (Name × Atom)) → u ≡ right_at k (head y) g → es ≡ read_as u (going (imported_in x y) (imported x)) →
+    list_all (λ (q : Name × Atom). cond (is_made_in k q.1) false true) es ≡ opens_by_none_made k g x y
+none_made_told x y k g u es v m =
+    ap (list_all (λ (q : Name × Atom). cond (is_made_in k q.1) false true)) (m ∙ (λ l. read_as (v l) (going (imported_in x y) (imported x))) ∙ read-going (right_at k (head y) g) (imported_in x y) (imported x)) ∙
+    list_all-map (λ (q : Name × Atom). cond (is_made_in k q.1) false true) (λ (r : Name). (r, opened_at k g x y r)) (imported x)
 
 -- those that the right component defines are read as what the left one has for them
-pub opened_exports : (a : Arena) (i : ℕ) (s : ComponentType) (x : Type_tree) (e : x ≡ unfolded a i (n.Component s)) (j : ℕ) (t : ComponentType) (y : Type_tree) (h : y ≡ unfolded a j (n.Component t))
-    (k : ℕ) (f g u : Reading Atom) (ins outs : List (Name × Name)) (es : List (Name × Atom)) → u ≡ left_at k f g x y → ins ≡ going (λ r. r) (firsts (map resource_path t.imported_resources)) →
-    outs ≡ defined_pairs a j t y h i s x e → es ≡ read_as (owned_in k) ins ++ read_as u outs → over es g ≡ exports_at k f g x y
-opened_exports a i s x e j t y h k f g u ins outs es v p q m =
-    own_read a j t y h (owned_in k) (left_at k f g x y) g (λ r. r) (defined_in y x) es (m ∙ (λ l. read_as (owned_in k) ((p ∙ imported_are a j t y h) l) ++ read_as (v l) ((q ∙ defined_go a j t y h i s x e) l)))
+pub opened_exports : (a : Arena) (j : ℕ) (t : ComponentType) (y : Type_tree) (h : y ≡ unfolded a j (n.Component t)) (x : Type_tree) (k : ℕ) (f g u : Reading Atom) (es : List (Name × Atom)) → u ≡ left_at k f g x y →
+    es ≡ read_as (owned_in k) (going (λ r. r) (imported y)) ++ read_as u (going (defined_in y x) (defined_by y)) → over es g ≡ exports_at k f g x y
+opened_exports a j t y h x k f g u es v m =
+    own_read a j t y h (owned_in k) (left_at k f g x y) g (λ r. r) (defined_in y x) es (m ∙ (λ l. read_as (owned_in k) (going (λ r. r) (imported y)) ++ read_as (v l) (going (defined_in y x) (defined_by y))))
 
 -- ## Entries
 

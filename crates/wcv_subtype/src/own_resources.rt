@@ -4,10 +4,11 @@ ghost use Rattle.std.specs.List.{list_all};
 ghost use Rattle.wcv_core.specs.Names.{Name, member};
 ghost use Rattle.wcv_types.specs.Sets.{resource_names};
 ghost use Rattle.wcv_types.specs.Standing.{Stands};
-ghost use Rattle.wcv_types.specs.Tree.{firsts, head};
+ghost use Rattle.wcv_types.specs.Tree.{firsts, head, imported};
 ghost use Rattle.wcv_types.specs.Unfold.{resource_path, tree_at};
 ghost use Rattle.wcv_types.specs.declared.ids.Part.TheVariants as p;
-ghost use Rattle.wcv_matching.specs.OnePass.{imported_paths, is_made_in, made_in, made_paths, one_to_one as are_one_to_one, owned_in};
+ghost use Rattle.wcv_matching.specs.OnePass.{defined_in, imported_in, imported_paths, is_made_in, made_in, made_paths, one_to_one as are_one_to_one, owned_in};
+ghost use Rattle.wcv_matching.specs.SameTypes.{defined_by};
 ghost use Rattle.wcv_subtype.specs.Extent.{walks};
 ghost use Rattle.wcv_subtype.specs.IdCounterparts.{lands_on};
 ghost use Rattle.wcv_subtype.specs.OwnResources.{going, read_as, Opened, Paired};
@@ -19,7 +20,7 @@ use std::alloc::Global;
 use std::collections::BTreeMap;
 use std::sync::ledger::Ledger;
 use wcv_core::OutOfMemory;
-use wcv_types::{ComponentTypeId, Paths, ResourceId, ResourceSet, Steps, TypeAlloc};
+use wcv_types::{ComponentType, ComponentTypeId, Paths, ResourceId, ResourceSet, Steps, TypeAlloc};
 
 /// What the own resources of two component types are read as: on the left and on the right in the imports, and what
 /// is read otherwise in the exports. That is the left side where both are to be the same, and else the right one.
@@ -80,21 +81,6 @@ fn push_own(
         atoms.push((pair.0, atom))?;
     }
     Ok(())
-}
-
-/// The imported and the defined resources of a component type, as atoms of the level for those that they go with.
-fn own_atoms(
-    alloc: Global,
-    level: u64,
-    imported: &[(ResourceId, ResourceId)],
-    defined: &[(ResourceId, ResourceId)],
-) -> Result<Vec<(ResourceId, ResourceAtom)>, OutOfMemory>
-    ensures { IfOk result (λ atoms. atoms_of atoms.items ≡ read_as (owned_in level) (map lands_on imported.now) ++ read_as (made_in level) (map lands_on defined.now)) }
-{
-    let mut atoms = Vec::new(alloc);
-    push_own(&mut atoms, false, level, imported)?;
-    push_own(&mut atoms, true, level, defined)?;
-    Ok(atoms)
 }
 
 /// Each resource joins the list, as what the one that it goes with is read as.
@@ -164,6 +150,137 @@ fn one_to_one(
     Ok(true)
 }
 
+/// What each resource that the one component type imports goes to in the other.
+fn imported_counterparts<L: Ledger>(
+    types: &TypeAlloc,
+    a: ComponentTypeId,
+    b: ComponentTypeId,
+    steps: &mut Steps<L>,
+) -> Result<Vec<(ResourceId, ResourceId)>, OutOfMemory>
+    requires a { Stands types.now (p.Component a) }
+    requires b { Stands types.now (p.Component b) }
+    ensures found { IfOk result (λ found. map lands_on found.items ≡ going (imported_in (tree_at types.now (p.Component a)) (tree_at types.now (p.Component b))) (imported (tree_at types.now (p.Component a)))) }
+    ensures counted { steps.new ≤ steps.old + walks (imported_paths (head (tree_at types.now (p.Component a)))) }
+{
+    let x = types.get(a);
+    let y = types.get(b);
+    let found = counterparts(types, &x.imported_resources, &x.imports, &y.imports, steps)?;
+    Ok(found)
+}
+
+/// What each resource that the one component type defines goes to in the other.
+fn defined_counterparts<L: Ledger>(
+    types: &TypeAlloc,
+    a: ComponentTypeId,
+    b: ComponentTypeId,
+    steps: &mut Steps<L>,
+) -> Result<Vec<(ResourceId, ResourceId)>, OutOfMemory>
+    requires a { Stands types.now (p.Component a) }
+    requires b { Stands types.now (p.Component b) }
+    ensures found { IfOk result (λ found. map lands_on found.items ≡ going (defined_in (tree_at types.now (p.Component a)) (tree_at types.now (p.Component b))) (defined_by (tree_at types.now (p.Component a)))) }
+    ensures counted { steps.new ≤ steps.old + walks (made_paths (head (tree_at types.now (p.Component a)))) }
+{
+    let x = types.get(a);
+    let y = types.get(b);
+    let found = counterparts(types, &x.defined_resources, &x.exports, &y.exports, steps)?;
+    Ok(found)
+}
+
+/// Resources join the list, each as the atom of the level for itself, as those that a component type defines.
+fn push_made(
+    alloc: Global,
+    atoms: &mut Vec<(ResourceId, ResourceAtom)>,
+    level: u64,
+    defined: &Paths,
+) -> Result<(), OutOfMemory>
+    ensures { OnOk result (atoms_of atoms.new.items ≡ atoms_of atoms.old.items ++ read_as (made_in level) (going (λ r. r) (firsts (map resource_path defined.now)))) }
+{
+    let made = themselves(alloc, defined)?;
+    push_own(atoms, true, level, &made)?;
+    Ok(())
+}
+
+/// Resources, each as the atom of the level for itself, as those that a component type imports.
+fn imported_atoms(
+    alloc: Global,
+    level: u64,
+    imported: &Paths,
+) -> Result<Vec<(ResourceId, ResourceAtom)>, OutOfMemory>
+    ensures { IfOk result (λ atoms. atoms_of atoms.items ≡ read_as (owned_in level) (going (λ r. r) (firsts (map resource_path imported.now)))) }
+{
+    let owned = themselves(alloc, imported)?;
+    let mut atoms = Vec::new(alloc);
+    push_own(&mut atoms, false, level, &owned)?;
+    Ok(atoms)
+}
+
+/// The own resources of a component type, each as the atom of the level for itself.
+fn own_atoms(
+    alloc: Global,
+    level: u64,
+    of: &ComponentType,
+) -> Result<Vec<(ResourceId, ResourceAtom)>, OutOfMemory>
+    ensures { IfOk result (λ atoms. atoms_of atoms.items ≡ read_as (owned_in level) (going (λ r. r) (firsts (map resource_path of.now.imported_resources))) ++ read_as (made_in level) (going (λ r. r) (firsts (map resource_path of.now.defined_resources)))) }
+{
+    let mut atoms = imported_atoms(alloc, level, &of.imported_resources)?;
+    push_made(alloc, &mut atoms, level, &of.defined_resources)?;
+    Ok(atoms)
+}
+
+/// Imported resources, each as the atom of the level for the one that it goes with, and those that a component type
+/// defines, each as that for itself.
+fn left_atoms(
+    alloc: Global,
+    level: u64,
+    imported: &[(ResourceId, ResourceId)],
+    of: &ComponentType,
+) -> Result<Vec<(ResourceId, ResourceAtom)>, OutOfMemory>
+    ensures { IfOk result (λ atoms. atoms_of atoms.items ≡ read_as (owned_in level) (map lands_on imported.now) ++ read_as (made_in level) (going (λ r. r) (firsts (map resource_path of.now.defined_resources)))) }
+{
+    let mut atoms = Vec::new(alloc);
+    push_own(&mut atoms, false, level, imported)?;
+    push_made(alloc, &mut atoms, level, &of.defined_resources)?;
+    Ok(atoms)
+}
+
+/// Imported and defined resources, each as the atom of the level for the one that it goes with.
+fn pair_atoms(
+    alloc: Global,
+    level: u64,
+    imported: &[(ResourceId, ResourceId)],
+    defined: &[(ResourceId, ResourceId)],
+) -> Result<Vec<(ResourceId, ResourceAtom)>, OutOfMemory>
+    ensures { IfOk result (λ atoms. atoms_of atoms.items ≡ read_as (owned_in level) (map lands_on imported.now) ++ read_as (made_in level) (map lands_on defined.now)) }
+{
+    let mut atoms = Vec::new(alloc);
+    push_own(&mut atoms, false, level, imported)?;
+    push_own(&mut atoms, true, level, defined)?;
+    Ok(atoms)
+}
+
+/// How two component types read their own resources, where these pair up so.
+fn atoms_of_pairs(
+    alloc: Global,
+    level: u64,
+    imported: &[(ResourceId, ResourceId)],
+    defined: &[(ResourceId, ResourceId)],
+    x: &ComponentType,
+    y: &ComponentType,
+) -> Result<OwnAtoms, OutOfMemory>
+    ensures left { IfOk result (λ own. atoms_of own.left.items ≡ read_as (owned_in level) (map lands_on imported.now) ++ read_as (made_in level) (going (λ r. r) (firsts (map resource_path x.now.defined_resources)))) }
+    ensures right { IfOk result (λ own. atoms_of own.right.items ≡ read_as (owned_in level) (going (λ r. r) (firsts (map resource_path y.now.imported_resources))) ++ read_as (made_in level) (going (λ r. r) (firsts (map resource_path y.now.defined_resources)))) }
+    ensures exports { IfOk result (λ own. atoms_of own.exports.items ≡ read_as (owned_in level) (map lands_on imported.now) ++ read_as (made_in level) (map lands_on defined.now)) }
+{
+    let left = left_atoms(alloc, level, imported, x)?;
+    let right = own_atoms(alloc, level, y)?;
+    let exports = pair_atoms(alloc, level, imported, defined)?;
+    Ok(OwnAtoms {
+        left,
+        right,
+        exports,
+    })
+}
+
 /// How two component types that are to be the same read their own resources, if these pair up.
 pub(crate) fn paired_atoms<L: Ledger>(
     types: &TypeAlloc,
@@ -180,25 +297,62 @@ pub(crate) fn paired_atoms<L: Ledger>(
     let x = types.get(a);
     let y = types.get(b);
     let alloc = types.allocator();
-    let imported = counterparts(types, &x.imported_resources, &x.imports, &y.imports, steps)?;
+    let imported = imported_counterparts(types, a, b, steps)?;
     if !one_to_one(alloc, &Paths::new(alloc), &imported)? {
         return Ok(None);
     }
-    let defined = counterparts(types, &x.defined_resources, &x.exports, &y.exports, steps)?;
+    let defined = defined_counterparts(types, a, b, steps)?;
     if !one_to_one(alloc, &x.imported_resources, &defined)? {
         return Ok(None);
     }
-    let made = themselves(alloc, &x.defined_resources)?;
-    let left = own_atoms(alloc, level, &imported, &made)?;
-    let owned = themselves(alloc, &y.imported_resources)?;
-    let made = themselves(alloc, &y.defined_resources)?;
-    let right = own_atoms(alloc, level, &owned, &made)?;
-    let exports = own_atoms(alloc, level, &imported, &defined)?;
-    Ok(Some(OwnAtoms {
-        left,
-        right,
-        exports,
-    }))
+    let own = atoms_of_pairs(alloc, level, &imported, &defined, x, y)?;
+    Ok(Some(own))
+}
+
+/// The resources that a component type imports, as what those of another that they go with are read as, where the
+/// readings have that one's own too.
+fn opened_imports<L: Ledger>(
+    types: &TypeAlloc,
+    readings: &mut Readings,
+    own: &[(ResourceId, ResourceAtom)],
+    a: ComponentTypeId,
+    b: ComponentTypeId,
+    steps: &mut Steps<L>,
+) -> Result<Vec<(ResourceId, ResourceAtom)>, OutOfMemory>
+    requires a { Stands types.now (p.Component a) }
+    requires b { Stands types.now (p.Component b) }
+    ensures read { IfOk result (λ atoms. atoms_of atoms.items ≡ read_as (over (atoms_of own.now) (reads readings.old)) (going (imported_in (tree_at types.now (p.Component a)) (tree_at types.now (p.Component b))) (imported (tree_at types.now (p.Component a))))) }
+    ensures stays { OnOk result (reads readings.new ≡ reads readings.old) }
+    ensures counted { steps.new ≤ steps.old + walks (imported_paths (head (tree_at types.now (p.Component a)))) }
+{
+    let imported = imported_counterparts(types, a, b, steps)?;
+    let mut atoms = Vec::new(types.allocator());
+    push_read_under(types.allocator(), readings, own, &mut atoms, &imported)?;
+    Ok(atoms)
+}
+
+/// The resources that a component type defines, as what those of another that they go with are read as, where the
+/// readings have that one's own too, behind those that it imports, each as the atom of the level for itself.
+fn opened_exports<L: Ledger>(
+    types: &TypeAlloc,
+    readings: &mut Readings,
+    own: &[(ResourceId, ResourceAtom)],
+    level: u64,
+    a: ComponentTypeId,
+    b: ComponentTypeId,
+    steps: &mut Steps<L>,
+) -> Result<Vec<(ResourceId, ResourceAtom)>, OutOfMemory>
+    requires a { Stands types.now (p.Component a) }
+    requires b { Stands types.now (p.Component b) }
+    ensures read { IfOk result (λ atoms. atoms_of atoms.items ≡ read_as (owned_in level) (going (λ r. r) (imported (tree_at types.now (p.Component a)))) ++ read_as (over (atoms_of own.now) (reads readings.old)) (going (defined_in (tree_at types.now (p.Component a)) (tree_at types.now (p.Component b))) (defined_by (tree_at types.now (p.Component a))))) }
+    ensures stays { OnOk result (reads readings.new ≡ reads readings.old) }
+    ensures counted { steps.new ≤ steps.old + walks (made_paths (head (tree_at types.now (p.Component a)))) }
+{
+    let x = types.get(a);
+    let defined = defined_counterparts(types, a, b, steps)?;
+    let mut atoms = imported_atoms(types.allocator(), level, &x.imported_resources)?;
+    push_read_under(types.allocator(), readings, own, &mut atoms, &defined)?;
+    Ok(atoms)
 }
 
 /// How a component type and one that it is to match read their own resources, if none that is imported is opened by
@@ -221,22 +375,18 @@ pub(crate) fn opened_atoms<L: Ledger>(
 {
     let x = types.get(a);
     let y = types.get(b);
-    let alloc = types.allocator();
-    let owned = themselves(alloc, &y.imported_resources)?;
-    let made = themselves(alloc, &y.defined_resources)?;
-    let right_atoms = own_atoms(alloc, level, &owned, &made)?;
-    let imported = counterparts(types, &x.imported_resources, &x.imports, &y.imports, steps)?;
-    let mut left_atoms = Vec::new(alloc);
-    push_read_under(alloc, right, &right_atoms, &mut left_atoms, &imported)?;
+    let right_atoms = own_atoms(types.allocator(), level, y)?;
+    let mut left_atoms = opened_imports(types, right, &right_atoms, a, b, steps)?;
     if !none_made(level, &left_atoms) {
         return Ok(None);
     }
-    let made = themselves(alloc, &x.defined_resources)?;
-    push_own(&mut left_atoms, true, level, &made)?;
-    let defined = counterparts(types, &y.defined_resources, &y.exports, &x.exports, steps)?;
-    let mut exports = Vec::new(alloc);
-    push_own(&mut exports, false, level, &owned)?;
-    push_read_under(alloc, left, &left_atoms, &mut exports, &defined)?;
+    push_made(
+        types.allocator(),
+        &mut left_atoms,
+        level,
+        &x.defined_resources,
+    )?;
+    let exports = opened_exports(types, left, &left_atoms, level, b, a, steps)?;
     Ok(Some(OwnAtoms {
         left: left_atoms,
         right: right_atoms,
