@@ -50,13 +50,13 @@ pub struct ComponentTypeId {
 }
 
 /// The id of the type of a core module.
-#[derive(Clone, Copy, Debug)]
+#[derive(Clone, Copy, Debug, PartialEq, Eq)]
 pub struct ComponentCoreModuleTypeId {
     pub index: u64,
 }
 
 /// The id of the type of a core instance.
-#[derive(Clone, Copy, Debug)]
+#[derive(Clone, Copy, Debug, PartialEq, Eq)]
 pub struct ComponentCoreInstanceTypeId {
     pub index: u64,
 }
@@ -79,7 +79,7 @@ pub enum ComponentCoreTypeId {
 }
 
 /// The id of a type of any sort that may be a part of another.
-#[derive(Clone, Copy, Debug)]
+#[derive(Clone, Copy, Debug, PartialEq, Eq)]
 pub enum Part {
     Defined(ComponentDefinedTypeId),
     Func(ComponentFuncTypeId),
