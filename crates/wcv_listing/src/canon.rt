@@ -79,8 +79,12 @@ fn type_and_slot_of(body: Node<'_, '_>) -> Option<(ValType, u32)>
     if !has_only_keys(body, &["type", "slot"]) {
         return None;
     }
-    let ty = read_core_value(member_at(body, "type")?)?;
-    let slot = index_at(body, "slot")?;
+    let Some(ty) = read_core_value(member_at(body, "type")?) else {
+        return None;
+    };
+    let Some(slot) = index_at(body, "slot") else {
+        return None;
+    };
     Some((ty, slot))
 }
 
@@ -91,8 +95,12 @@ fn type_and_table_of(body: Node<'_, '_>) -> Option<(u32, u32)>
     if !has_only_keys(body, &["type", "table"]) {
         return None;
     }
-    let ty = index_at(body, "type")?;
-    let table = index_at(body, "table")?;
+    let Some(ty) = index_at(body, "type") else {
+        return None;
+    };
+    let Some(table) = index_at(body, "table") else {
+        return None;
+    };
     Some((ty, table))
 }
 
@@ -103,8 +111,12 @@ fn type_and_async_of(body: Node<'_, '_>) -> Option<(u32, bool)>
     if !has_only_keys(body, &["type", "async"]) {
         return None;
     }
-    let ty = index_at(body, "type")?;
-    let async_ = mark_at(body, "async")?;
+    let Some(ty) = index_at(body, "type") else {
+        return None;
+    };
+    let Some(async_) = mark_at(body, "async") else {
+        return None;
+    };
     Some((ty, async_))
 }
 

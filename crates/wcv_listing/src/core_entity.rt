@@ -25,8 +25,12 @@ fn read_maximum(value: Node<'_, '_>) -> Option<Option<u64>>
 fn read_limits(value: Node<'_, '_>) -> Option<(u64, Option<u64>)>
     ensures { result ≡ both (λ (min : ℕ) (max : Option ℕ). (min, max)) (natural_in (codes "min") (view value.entry)) (optional natural (get (codes "max") (view value.entry))) }
 {
-    let min = natural_at(value, "min")?;
-    let max = read_maximum(value)?;
+    let Some(min) = natural_at(value, "min") else {
+        return None;
+    };
+    let Some(max) = read_maximum(value) else {
+        return None;
+    };
     Some((min, max))
 }
 

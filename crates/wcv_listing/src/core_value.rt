@@ -24,8 +24,12 @@ pub fn mark_at(value: Node<'_, '_>, key: &str) -> Option<bool>
 pub fn marks_at(value: Node<'_, '_>, first: &str, second: &str) -> Option<(bool, bool)>
     ensures { result ≡ both (λ (a b : Bool). (a, b)) (mark (get first.now (view value.entry))) (mark (get second.now (view value.entry))) }
 {
-    let a = mark_at(value, first)?;
-    let b = mark_at(value, second)?;
+    let Some(a) = mark_at(value, first) else {
+        return None;
+    };
+    let Some(b) = mark_at(value, second) else {
+        return None;
+    };
     Some((a, b))
 }
 
@@ -91,16 +95,24 @@ pub fn read_ref_type(value: Node<'_, '_>) -> Option<RefType>
     ensures { result ≡ ref_type_of (view value.entry) }
 {
     if has_only_keys(value, &["ref", "null"]) {
-        let heap = member_at(value, "ref").and_then(read_heap)?;
-        let nullable = mark_at(value, "null")?;
+        let Some(heap) = member_at(value, "ref").and_then(read_heap) else {
+            return None;
+        };
+        let Some(nullable) = mark_at(value, "null") else {
+            return None;
+        };
         Some(RefType {
             nullable,
             shared: false,
             heap,
         })
     } else if has_only_keys(value, &["ref", "null", "shared"]) {
-        let heap = member_at(value, "ref").and_then(read_named_heap)?;
-        let (nullable, shared) = marks_at(value, "null", "shared")?;
+        let Some(heap) = member_at(value, "ref").and_then(read_named_heap) else {
+            return None;
+        };
+        let Some((nullable, shared)) = marks_at(value, "null", "shared") else {
+            return None;
+        };
         Some(RefType {
             nullable,
             shared,

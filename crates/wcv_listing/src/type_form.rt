@@ -270,7 +270,9 @@ fn read_resource(value: Node<'_, '_>) -> Option<ComponentType>
     if !has_only_keys(value, &["rep", "dtor"]) {
         return None;
     }
-    let rep = read_core_value(member_at(value, "rep")?)?;
+    let Some(rep) = read_core_value(member_at(value, "rep")?) else {
+        return None;
+    };
     let dtor = match member_at(value, "dtor") {
         None => None,
         Some(index) => Some(index_of(index)?),
