@@ -31,8 +31,8 @@ import make_components
 import make_listings
 
 ROOT = os.path.dirname(os.path.dirname(os.path.abspath(__file__)))
-PARSE = [f"{ROOT}/crates/bench_parse/out/bench_parse"]
 READ = [f"{ROOT}/crates/bench_read/out/bench_read"]
+PARSE = [*READ, "parse"]
 VALIDATE = [f"{ROOT}/crates/wcv/out/wcv", "validate"]
 MAKE = [f"{ROOT}/crates/wcv/out/wcv", "make", "1000"]
 
@@ -47,7 +47,7 @@ def run_once(words, file):
         os.execv(words[0], words)
     _, status, used = os.wait4(child, 0)
     if status:
-        sys.exit(f"{words[0]} ended with {os.waitstatus_to_exitcode(status)} on {file}")
+        sys.exit(f"{' '.join(words)} ended with {os.waitstatus_to_exitcode(status)} on {file}")
     return time.perf_counter() - started, used.ru_utime, used.ru_utime + used.ru_stime
 
 
@@ -59,7 +59,7 @@ def peak_memory(words, file):
         written = sum(map(len, iter(lambda: ran.stdout.read(1 << 20), b"")))
         peak = int(ran.stderr.read()) * 1024
     if ran.returncode:
-        sys.exit(f"{words[0]} ended with {ran.returncode} on {file}")
+        sys.exit(f"{' '.join(words)} ended with {ran.returncode} on {file}")
     return peak, written
 
 

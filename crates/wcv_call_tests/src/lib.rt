@@ -1,5 +1,5 @@
-//! Tests of the public calls of the crates below the program that no listing reaches. The expected values were written by
-//! hand.
+//! Tests of the public calls that no listing reaches, and of runs over ends that fail in mid-stream. The expected values
+//! were written by hand.
 #![tactic(auto)]
 
 #[cfg(test)]
@@ -10,6 +10,10 @@ mod base;
 mod core_types;
 #[cfg(test)]
 mod depth;
+#[cfg(test)]
+mod ends;
+#[cfg(test)]
+mod fakes;
 #[cfg(test)]
 mod items;
 #[cfg(test)]
@@ -34,6 +38,8 @@ mod sorts;
 mod state;
 #[cfg(test)]
 mod states;
+#[cfg(test)]
+mod streams;
 #[cfg(test)]
 mod tables;
 #[cfg(test)]
