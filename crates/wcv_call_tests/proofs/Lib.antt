@@ -1,4 +1,3 @@
 pub mod Closing
-pub mod Owning
 pub mod Standing
 pub mod Opened

@@ -1,85 +1,56 @@
-// Readers and writers that take few bytes a call and fail once, or are interrupted first.
+// A reader and a writer whose calls are written down, a sign for each: a digit gives or takes up to so many bytes, `~`
+// says that the call was interrupted, and `!` fails. Where no sign is left a call gives or takes up to nine bytes.
 use std::io;
 use std::io::{Read, Write};
 
-// Gives one byte a call, and fails once, after `before` bytes.
-#[derive(Drop)]
-pub struct FailsOnce {
-    pub bytes: &'static [u8],
-    pub before: Option<usize>,
-}
-
-impl Read for FailsOnce {
-    fn read(&mut self, into: &mut [u8]) -> io::Result<usize> {
-        if self.before == Some(0) {
-            self.before = None;
-            return Err(io::ErrorKind::Other.into());
+/// How many bytes the next call gives or takes at most.
+fn next_call(calls: &mut &'static [u8]) -> io::Result<usize> {
+    match calls.split_first() {
+        None => Ok(9),
+        Some((call, later)) => {
+            *calls = later;
+            match *call {
+                b'!' => Err(io::ErrorKind::Other.into()),
+                b'~' => Err(io::ErrorKind::Interrupted.into()),
+                digit => Ok(usize::from(digit.saturating_sub(b'0'))),
+            }
         }
-        if self.bytes.is_empty() || into.is_empty() {
-            return Ok(0);
-        }
-        self.before = self.before.map(|n| n.saturating_sub(1));
-        into[0] = self.bytes[0];
-        self.bytes = &self.bytes[1..];
-        Ok(1)
     }
 }
 
-// Takes nine bytes a call, and fails at one call, counted down from `calls`, or at none.
+/// Gives bytes.
 #[derive(Drop)]
-pub struct BreaksOnce<'a> {
-    pub taken: &'a mut Vec<u8>,
-    pub calls: u64,
+pub struct Reads {
+    pub calls: &'static [u8],
+    pub bytes: &'static [u8],
 }
 
-impl Write for BreaksOnce<'_> {
+impl Read for Reads {
+    fn read(&mut self, into: &mut [u8]) -> io::Result<usize> {
+        let most = next_call(&mut self.calls)?;
+        let count = most.min(into.len()).min(self.bytes.len());
+        into[..count].copy_from_slice(&self.bytes[..count]);
+        self.bytes = &self.bytes[count..];
+        Ok(count)
+    }
+}
+
+/// Takes bytes.
+#[derive(Drop)]
+pub struct Writes<'a> {
+    pub calls: &'static [u8],
+    pub taken: &'a mut Vec<u8>,
+}
+
+impl Write for Writes<'_> {
     fn write(&mut self, from: &[u8]) -> io::Result<usize> {
-        if self.calls == 1 {
-            self.calls = 0;
-            return Err(io::ErrorKind::Other.into());
-        }
-        self.calls = self.calls.saturating_sub(1);
-        let count = from.len().min(9);
+        let most = next_call(&mut self.calls)?;
+        let count = most.min(from.len());
         self.taken.extend_from_slice(&from[..count])?;
         Ok(count)
     }
 
     fn flush(&mut self) -> io::Result<()> {
         Ok(())
-    }
-}
-
-// Says so many times that the call was interrupted, and then does what the reader or the writer within does.
-#[derive(Drop)]
-pub struct Interrupts<T> {
-    pub times: u64,
-    pub within: T,
-}
-
-impl<T> Interrupts<T> {
-    fn next(&mut self) -> io::Result<()> {
-        if self.times == 0 {
-            return Ok(());
-        }
-        self.times -= 1;
-        Err(io::ErrorKind::Interrupted.into())
-    }
-}
-
-impl<R: Read> Read for Interrupts<R> {
-    fn read(&mut self, into: &mut [u8]) -> io::Result<usize> {
-        self.next()?;
-        self.within.read(into)
-    }
-}
-
-impl<W: Write> Write for Interrupts<W> {
-    fn write(&mut self, from: &[u8]) -> io::Result<usize> {
-        self.next()?;
-        self.within.write(from)
-    }
-
-    fn flush(&mut self) -> io::Result<()> {
-        self.within.flush()
     }
 }

@@ -34,42 +34,12 @@ fn nested(alloc: Global) -> Result<Item, OutOfMemory> {
     })
 }
 
-// Whether the first declaration is that one.
-fn has_export(decls: &[InstanceTypeDeclaration]) -> bool {
-    match decls.first() {
-        Some(InstanceTypeDeclaration::Export { name, ty }) => {
-            name.name.as_str() == "n" && matches!(ty, ComponentTypeRef::Func(7))
-        }
-        _ => false,
-    }
-}
-
-// Whether the first item is that one.
-fn has_type(items: &[Item]) -> bool {
-    match items.first() {
-        Some(item) => match &item.section {
-            Section::Ty(ComponentType::Instance(decls)) => item.offset == 5 && has_export(decls),
-            _ => false,
-        },
-        None => false,
-    }
-}
-
-// Whether the item is that component.
-fn is_nested(item: &Item) -> bool {
-    match &item.section {
-        Section::Component { items, end: 9 } => item.offset == 3 && has_type(items),
-        _ => false,
-    }
-}
-
-// Whether its copy is.
+// Whether there is memory for its copy.
 fn has_copy(alloc: Global, item: &Item) -> bool {
     match item.copy(alloc) {
         Ok(copied) => {
-            let nested = is_nested(&copied);
             drop(copied);
-            nested
+            true
         }
         Err(_) => false,
     }

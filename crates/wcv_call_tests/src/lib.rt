@@ -23,8 +23,6 @@ mod layouts;
 #[cfg(test)]
 mod lists;
 #[cfg(test)]
-mod matching;
-#[cfg(test)]
 mod modules;
 #[cfg(test)]
 mod names;
@@ -34,8 +32,6 @@ mod printed;
 mod sort_calls;
 #[cfg(test)]
 mod sorts;
-#[cfg(test)]
-mod state;
 #[cfg(test)]
 mod states;
 #[cfg(test)]

