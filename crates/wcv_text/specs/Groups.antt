@@ -1,10 +1,16 @@
 -- The lines of core groups, step by step.
-use Rattle.std.specs.Prelude.{ℕ, zero, suc, List, [], ◌∷◌, sum_by}
+use Rattle.std.specs.Prelude.{ℕ, zero, suc, List, [], ◌∷◌, sum_by, Option, Some, None}
 use Rattle.wcv_core.specs.CoreForm.{Group}
+use Rattle.wcv_core.specs.declared.core_types.CoreTypeId.{CoreTypeId}
 use Rattle.wcv_types.specs.CoreText.{older_ids}
 use Rattle.wcv_types.specs.Text.{Written, with_new_group, write_group}
 use Rattle.wcv_text.specs.declared.groups.Step.{Step}
 use Rattle.wcv_text.specs.declared.groups.Step.TheVariants as step
+
+-- an id, where there is one, as a list of numbers
+abbrev pub id_list : Option CoreTypeId → List ℕ
+id_list None = []
+id_list (Some i) = i.index ∷ []
 
 -- what a step makes of what was written
 abbrev pub done : Step → Written → Written

@@ -3,6 +3,7 @@ ghost use Rattle.std.specs.Prelude.{◌≡◌, ◌∷◌, ◌++◌, [], ◌<◌,
 ghost use Rattle.wcv_core.specs.CoreForm.{composite_form, sub_form};
 ghost use Rattle.wcv_core.specs.CoreIds.{all_ids, heap_ids, val_ids, storage_ids, field_ids, composite_ids, super_ids, sub_ids, ids_in_group};
 ghost use Rattle.wcv_types.specs.CoreText.{item_ids, group_at, older_ids};
+ghost use Rattle.wcv_text.specs.Groups.{id_list};
 
 use crate::core_place::place;
 use std::alloc::{AllocError, Global};
@@ -172,16 +173,34 @@ pub fn older_in(alloc: Global, core: &CoreTypes, id: CoreTypeId) -> Result<Ids, 
     Ok(older)
 }
 
-/// The types that a core item names, in order.
-pub fn named_by(alloc: Global, item: EntityType) -> Result<Ids, AllocError>
-    ensures { IfOk result (λ ids. ids ≡ item_ids item) }
+/// The type that a reference points to, where it has an id.
+fn heap_id(heap: HeapType) -> Option<CoreTypeId>
+    ensures { id_list result ≡ heap_ids heap }
 {
-    let mut ids = Ids::new(alloc);
-    match item {
-        EntityType::Func(id) | EntityType::Tag(id) => ids.push(id)?,
-        EntityType::Table(table) => push_heap(&mut ids, table.element_type.heap)?,
-        EntityType::Memory(_) => {}
-        EntityType::Global(global) => push_val(&mut ids, global.content_type)?,
+    match heap {
+        HeapType::Id(id) => Some(id),
+        _ => None,
     }
-    Ok(ids)
+}
+
+/// So of a value type.
+fn val_id(ty: ValType) -> Option<CoreTypeId>
+    ensures { id_list result ≡ val_ids ty }
+{
+    match ty {
+        ValType::Ref(ty) => heap_id(ty.heap),
+        _ => None,
+    }
+}
+
+/// The type that a core item names, where it names one. None names more.
+pub fn named_by(item: EntityType) -> Option<CoreTypeId>
+    ensures { id_list result ≡ item_ids item }
+{
+    match item {
+        EntityType::Func(id) | EntityType::Tag(id) => Some(id),
+        EntityType::Table(table) => heap_id(table.element_type.heap),
+        EntityType::Memory(_) => None,
+        EntityType::Global(global) => val_id(global.content_type),
+    }
 }

@@ -1,6 +1,7 @@
 // The line of a core module.
 ghost use Rattle.std.specs.Prelude.{◌≡◌, ◌++◌, [], map, codes, string_bytes, Option, OnOk};
-ghost use Rattle.wcv_types.specs.CoreText.{greatest_text, item_text};
+ghost use Rattle.std.specs.Fmt.{decimal};
+ghost use Rattle.wcv_types.specs.CoreText.{greatest_text, item_text, mark_text};
 ghost use Rattle.wcv_types.specs.Quoting.{listed};
 ghost use Rattle.wcv_text.specs.EntryList.{core_import_said, core_export_said, module_said};
 ghost use Rattle.wcv_text.specs.Mentions.{comma};
@@ -9,7 +10,7 @@ ghost use Rattle.wcv_text.specs.Numbers.{Appends};
 use crate::core_line::{mark, push_id, push_ref, push_val};
 use crate::mentions::comma_at;
 use crate::numbers::Numbers;
-use crate::quoting::push_quoted;
+use crate::quoting::push_label;
 use std::alloc::AllocError;
 use std::fmt::Write;
 use wcv_core::{EntityType, GlobalType, MemoryType, TableType, Text};
@@ -25,27 +26,44 @@ fn push_greatest(text: &mut String, greatest: Option<u64>) -> Result<(), AllocEr
     }
 }
 
+/// Appends the least number behind a word, and the greatest, where there is one.
+fn push_limits(
+    text: &mut String,
+    before: &str,
+    least: u64,
+    greatest: Option<u64>,
+) -> Result<(), AllocError>
+    ensures { OnOk result (string_bytes text.new ≡ string_bytes text.old ++ (before.now ++ decimal least ++ codes " " ++ greatest_text greatest)) }
+{
+    write!(text, "{before}{least} ")?;
+    push_greatest(text, greatest)
+}
+
+/// Appends a mark, and that of what is shared, where that is so.
+fn push_marks(text: &mut String, first: &str, shared: bool) -> Result<(), AllocError>
+    ensures { OnOk result (string_bytes text.new ≡ string_bytes text.old ++ (first.now ++ mark_text shared (codes " shared"))) }
+{
+    text.push_str(first)?;
+    text.push_str(mark(shared, " shared"))
+}
+
 /// Appends a table type.
 fn push_table(text: &mut String, numbers: &Numbers<'_>, ty: TableType) -> Result<(), AllocError>
     ensures { OnOk result (Appends numbers.now (string_bytes text.old) (string_bytes text.new) (λ w. item_text w.core w.groups (EntityType.Table ty))) }
 {
     text.push_str("table ")?;
     push_ref(text, numbers, ty.element_type)?;
-    write!(text, " {} ", ty.initial)?;
-    push_greatest(text, ty.maximum)?;
-    text.push_str(mark(ty.table64, " 64"))?;
-    text.push_str(mark(ty.shared, " shared"))
+    push_limits(text, " ", ty.initial, ty.maximum)?;
+    push_marks(text, mark(ty.table64, " 64"), ty.shared)
 }
 
 /// Appends a memory type.
 fn push_memory(text: &mut String, ty: MemoryType) -> Result<(), AllocError>
     ensures { OnOk result (string_bytes text.new ≡ string_bytes text.old ++ item_text [] [] (EntityType.Memory ty)) }
 {
-    write!(text, "memory {} ", ty.initial)?;
-    push_greatest(text, ty.maximum)?;
+    push_limits(text, "memory ", ty.initial, ty.maximum)?;
     write!(text, " page {}", ty.page_size_log2)?;
-    text.push_str(mark(ty.memory64, " 64"))?;
-    text.push_str(mark(ty.shared, " shared"))
+    push_marks(text, mark(ty.memory64, " 64"), ty.shared)
 }
 
 /// Appends a global type.
@@ -54,8 +72,7 @@ fn push_global(text: &mut String, numbers: &Numbers<'_>, ty: GlobalType) -> Resu
 {
     text.push_str("global ")?;
     push_val(text, numbers, ty.content_type)?;
-    text.push_str(mark(ty.mutable, " mut"))?;
-    text.push_str(mark(ty.shared, " shared"))
+    push_marks(text, mark(ty.mutable, " mut"), ty.shared)
 }
 
 /// Appends what a core module imports or exports.
@@ -85,11 +102,8 @@ fn push_import(
 ) -> Result<(), AllocError>
     ensures { OnOk result (Appends numbers.now (string_bytes text.old) (string_bytes text.new) (λ w. core_import_said w entry.now)) }
 {
-    text.push_str("import ")?;
-    push_quoted(text, entry.0.0.as_str())?;
-    text.push_str(" ")?;
-    push_quoted(text, entry.0.1.as_str())?;
-    text.push_str(" ")?;
+    push_label(text, "import ", entry.0.0.as_str())?;
+    push_label(text, "", entry.0.1.as_str())?;
     push_item(text, numbers, entry.1)
 }
 
@@ -101,9 +115,7 @@ fn push_export(
 ) -> Result<(), AllocError>
     ensures { OnOk result (Appends numbers.now (string_bytes text.old) (string_bytes text.new) (λ w. core_export_said w entry.now)) }
 {
-    text.push_str("export ")?;
-    push_quoted(text, entry.0.as_str())?;
-    text.push_str(" ")?;
+    push_label(text, "export ", entry.0.as_str())?;
     push_item(text, numbers, entry.1)
 }
 

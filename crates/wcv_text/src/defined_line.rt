@@ -2,19 +2,18 @@
 ghost use Rattle.std.specs.Prelude.{◌≡◌, ◌++◌, [], codes, string_bytes, OnOk};
 ghost use Rattle.std.specs.Fmt.{decimal};
 ghost use Rattle.wcv_types.specs.Text.{all_quoted, listed};
-ghost use Rattle.wcv_text.specs.DefinedLine.{fields_said, payload_said, case_said, cases_said, types_said, handle_said, one_said, two_said, defined_said};
+ghost use Rattle.wcv_text.specs.DefinedLine.{fields_said, payload_said, case_said, cases_said, types_said, one_said, two_said, defined_said};
 ghost use Rattle.wcv_text.specs.Mentions.{value_text};
 ghost use Rattle.wcv_text.specs.Numbers.{Appends};
 
 use crate::func_line::push_param;
-use crate::identity::Identity;
-use crate::mentions::{push_option, push_value, separator_at};
+use crate::mentions::{push_mention, push_option, push_value, separator_at};
 use crate::numbers::Numbers;
 use crate::quoting::push_quoted;
 use std::alloc::AllocError;
 use std::fmt::Write;
 use wcv_core::Text;
-use wcv_types::{AliasableResourceId, ComponentDefinedType, ComponentValType};
+use wcv_types::{ComponentDefinedType, ComponentValType, Part};
 
 /// Appends fields with commas between them.
 fn push_fields(
@@ -192,19 +191,6 @@ fn push_fixed_list(
     write!(text, " {length}")
 }
 
-/// Appends a handle, behind its word.
-fn push_handle(
-    text: &mut String,
-    numbers: &Numbers,
-    word: &str,
-    id: AliasableResourceId,
-) -> Result<(), AllocError>
-    ensures { OnOk result (Appends numbers.now (string_bytes text.old) (string_bytes text.new) (λ w. handle_said w word.now id)) }
-{
-    let number = numbers.line(Identity::Reference(id));
-    write!(text, "{word}{number}")
-}
-
 /// Appends the form of a defined type.
 pub fn push_defined(
     text: &mut String,
@@ -238,7 +224,11 @@ pub fn push_defined(
         ComponentDefinedType::Result { ok, err } => push_two(text, numbers, "result ", *ok, *err),
         ComponentDefinedType::Future(ty) => push_one(text, numbers, "future ", *ty),
         ComponentDefinedType::Stream(ty) => push_one(text, numbers, "stream ", *ty),
-        ComponentDefinedType::Own(id) => push_handle(text, numbers, "own ", *id),
-        ComponentDefinedType::Borrow(id) => push_handle(text, numbers, "borrow ", *id),
+        ComponentDefinedType::Own(id) => {
+            push_mention(text, numbers, "own ", Part::Resource(*id))
+        }
+        ComponentDefinedType::Borrow(id) => {
+            push_mention(text, numbers, "borrow ", Part::Resource(*id))
+        }
     }
 }

@@ -11,7 +11,7 @@ ghost use Rattle.wcv_text.specs.Numbers.{Appends, name_of, so_far};
 use crate::mentions::{comma_at, push_entity, push_name};
 use crate::numbers::Numbers;
 use crate::paths::push_path_text;
-use crate::quoting::push_quoted;
+use crate::quoting::push_label;
 use std::alloc::AllocError;
 use std::fmt::Write;
 use wcv_core::Text;
@@ -26,9 +26,7 @@ fn push_entry(
 ) -> Result<(), AllocError>
     ensures { OnOk result (Appends numbers.now (string_bytes text.old) (string_bytes text.new) (λ w. one_entry w word.now entry.now)) }
 {
-    text.push_str(word)?;
-    push_quoted(text, entry.0.as_str())?;
-    text.push_str(" ")?;
+    push_label(text, word, entry.0.as_str())?;
     push_entity(text, numbers, entry.1.ty)?;
     push_name(text, entry)
 }

@@ -136,7 +136,7 @@ fn push_group(
     Ok(())
 }
 
-/// So for each type that the core item names.
+/// So for the type that the core item names, where it names one.
 pub fn push_groups(
     alloc: Global,
     text: &mut String,
@@ -146,9 +146,8 @@ pub fn push_groups(
     ensures shows { OnOk result (Writes numbers.old (string_bytes text.old) numbers.new (string_bytes text.new) (λ w. write_groups w (item_ids item))) }
     ensures core { numbers.new.core ≡ numbers.old.core }
 {
-    let ids = named_by(alloc, item)?;
-    for k in 0..ids.len() {
-        push_group(alloc, text, numbers, ids.get(k))?;
+    match named_by(item) {
+        Some(id) => push_group(alloc, text, numbers, id),
+        None => Ok(()),
     }
-    Ok(())
 }

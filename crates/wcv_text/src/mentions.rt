@@ -1,7 +1,9 @@
 // What lines mention.
 ghost use Rattle.std.specs.Prelude.{◌≡◌, ◌++◌, codes, cond, string_bytes, OnOk, Option};
 ghost use Rattle.wcv_types.specs.Entities.{entry_name};
+ghost use Rattle.wcv_types.specs.Standing as standing;
 ghost use Rattle.wcv_types.specs.Text as text_of;
+ghost use Rattle.wcv_types.specs.declared.shapes.ComponentEntityType.TheVariants as entity;
 ghost use Rattle.wcv_text.specs.Mentions.{separator, value_text, option_text, entity_said};
 ghost use Rattle.wcv_text.specs.Numbers.{Appends};
 
@@ -11,7 +13,7 @@ use crate::quoting::push_quoted;
 use std::alloc::AllocError;
 use std::fmt::Write;
 use wcv_core::{PrimitiveValType, Text};
-use wcv_types::{ComponentEntityType, ComponentItem, ComponentValType, Part};
+use wcv_types::{ComponentAnyTypeId, ComponentEntityType, ComponentItem, ComponentValType, Part};
 
 /// What stands before the item at that index of a list.
 pub fn separator_at(between: &'static str, index: usize) -> &'static str
@@ -80,6 +82,33 @@ pub fn push_option(
     }
 }
 
+/// Appends the number of the line of a node, behind a word.
+pub fn push_mention(
+    text: &mut String,
+    numbers: &Numbers,
+    word: &str,
+    part: Part,
+) -> Result<(), AllocError>
+    ensures { OnOk result (Appends numbers.now (string_bytes text.old) (string_bytes text.new) (λ w. word.now ++ text_of.node_number w (standing.identity_of part))) }
+{
+    let number = numbers.line(identity_of(part));
+    write!(text, "{word}{number}")
+}
+
+/// Appends the number of a type that an entry creates, and that of what it is made of.
+fn push_type_pair(
+    text: &mut String,
+    numbers: &Numbers,
+    created: ComponentAnyTypeId,
+    referenced: ComponentAnyTypeId,
+) -> Result<(), AllocError>
+    ensures { OnOk result (Appends numbers.now (string_bytes text.old) (string_bytes text.new) (λ w. entity_said w (entity.Ty created referenced))) }
+{
+    let created = numbers.line(identity_of(as_part(created)));
+    let referenced = numbers.line(identity_of(as_part(referenced)));
+    write!(text, "type {created} of {referenced}")
+}
+
 /// Appends what an entry is.
 pub fn push_entity(
     text: &mut String,
@@ -90,15 +119,9 @@ pub fn push_entity(
 {
     match ty {
         ComponentEntityType::Module(id) => {
-            write!(
-                text,
-                "module {}",
-                numbers.line(identity_of(Part::Module(id)))
-            )
+            push_mention(text, numbers, "module ", Part::Module(id))
         }
-        ComponentEntityType::Func(id) => {
-            write!(text, "func {}", numbers.line(identity_of(Part::Func(id))))
-        }
+        ComponentEntityType::Func(id) => push_mention(text, numbers, "func ", Part::Func(id)),
         ComponentEntityType::Value(value) => {
             text.push_str("value ")?;
             push_value(text, numbers, value)
@@ -106,24 +129,12 @@ pub fn push_entity(
         ComponentEntityType::Ty {
             created,
             referenced,
-        } => {
-            let created = numbers.line(identity_of(as_part(created)));
-            let referenced = numbers.line(identity_of(as_part(referenced)));
-            write!(text, "type {created} of {referenced}")
-        }
+        } => push_type_pair(text, numbers, created, referenced),
         ComponentEntityType::Instance(id) => {
-            write!(
-                text,
-                "instance {}",
-                numbers.line(identity_of(Part::Instance(id)))
-            )
+            push_mention(text, numbers, "instance ", Part::Instance(id))
         }
         ComponentEntityType::Component(id) => {
-            write!(
-                text,
-                "component {}",
-                numbers.line(identity_of(Part::Component(id)))
-            )
+            push_mention(text, numbers, "component ", Part::Component(id))
         }
     }
 }

@@ -1,9 +1,12 @@
 // The text of a component type, line after line.
-ghost use Rattle.std.specs.Prelude.{◌≡◌, ◌+◌, ◌++◌, ◌<◌, nat_lt, List, ℕ, string_bytes, OnOk, IfOk};
+ghost use Rattle.std.specs.Prelude.{◌≡◌, ◌+◌, ◌++◌, ◌<◌, [], nat_lt, List, ℕ, All, string_bytes, OnOk, IfOk};
 ghost use Rattle.wcv_types.specs.ComponentTrees.{root_tree, ComponentStands};
-ghost use Rattle.wcv_types.specs.Text.{type_text};
-ghost use Rattle.wcv_text.specs.LineList.{LineStands, entry_word as entry_word_of, path_word as path_word_of, say};
-ghost use Rattle.wcv_text.specs.Numbers.{Writes};
+ghost use Rattle.wcv_types.specs.Text.{nothing_written, type_text};
+ghost use Rattle.wcv_types.specs.Tree.{Text};
+ghost use Rattle.wcv_text.specs.LineList.{LineStands, entry_word as entry_word_of, path_word as path_word_of, rest_of, say};
+ghost use Rattle.wcv_text.specs.Numbers.{Writes, so_far};
+ghost use Rattle.wcv_text.specs.TypeLines.{Leads, LinesStand};
+ghost use Rattle.wcv_text.specs.declared.numbers.Numbers.{Numbers as AnyNumbers};
 
 use crate::entry_list::push_entry_line;
 use crate::line_list::{Line, entries_in, list_lines, paths_in};
@@ -60,6 +63,22 @@ fn push_line(
     }
 }
 
+/// Lists the lines of a component type, of which none is listed yet.
+fn list_all(
+    alloc: Global,
+    lines: &mut Vec<Line>,
+    types: &TypeAlloc,
+    ty: &ComponentType,
+) -> Result<(), AllocError>
+    requires stands { ComponentStands types.now ty.now }
+    requires none { lines.old.items ≡ [] }
+    ensures stand { OnOk result (All (LineStands types.now) lines.new.items) }
+    ensures whole { OnOk result ((numbers : AnyNumbers) → so_far numbers [] ≡ nothing_written types.now.core → type_text types.now.core (root_tree types.now ty.now) ≡ (rest_of types.now ty.now lines.new.items 0 (so_far numbers [])).text) }
+{
+    let mut seen = Numbers::new(alloc, types.core_types());
+    list_lines(lines, &mut seen, types, ty)
+}
+
 /// The lines of a component type that are still to be written. Beside them it keeps the numbers that
 /// were given, and no text.
 #[derive(Drop)]
@@ -85,8 +104,7 @@ impl<'a> TypeLines<'a> {
         ensures leads { IfOk result (λ lines. (before : List ℕ) → Leads lines before (before ++ type_text types.now.core (root_tree types.now ty.now))) }
     {
         let mut lines = Vec::new(alloc);
-        let mut seen = Numbers::new(alloc, types.core_types());
-        list_lines(&mut lines, &mut seen, types, ty)?;
+        list_all(alloc, &mut lines, types, ty)?;
         Ok(TypeLines {
             types,
             ty,
@@ -118,6 +136,17 @@ impl<'a> TypeLines<'a> {
     }
 }
 
+/// Appends the lines that are left.
+fn push_left(lines: &mut TypeLines<'_>, text: &mut String) -> Result<(), AllocError>
+    requires { LinesStand lines.old }
+    ensures { OnOk result ((whole : Text) → Leads lines.old (string_bytes text.old) whole → string_bytes text.new ≡ whole) }
+{
+    while lines.is_left() {
+        lines.push_next(text)?;
+    }
+    Ok(())
+}
+
 /// Appends the text of a component type.
 pub fn push_type(
     alloc: Global,
@@ -129,8 +158,5 @@ pub fn push_type(
     ensures { OnOk result (string_bytes text.new ≡ string_bytes text.old ++ type_text types.now.core (root_tree types.now ty.now)) }
 {
     let mut lines = TypeLines::new(alloc, types, ty)?;
-    while lines.is_left() {
-        lines.push_next(text)?;
-    }
-    Ok(())
+    push_left(&mut lines, text)
 }

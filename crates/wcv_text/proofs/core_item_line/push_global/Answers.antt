@@ -12,12 +12,11 @@ returns c =
     let mut : Text = mark_text c.args.ty.mutable (codes " mut") in
     let shared : Text = mark_text c.args.ty.shared (codes " shared") in
     let first : string_bytes c.push_str.new.self ≡ start ++ codes "global " = search rules in
-    let third : string_bytes c.push_str-2.new.self ≡ string_bytes c.push_val.new.text ++ mut = search rules in
-    let end : OnOk c.push_str-3.result (string_bytes c.push_str-3.new.self ≡ string_bytes c.push_str-2.new.self ++ shared) = search rules in
-    on_ok_weaker {Q = Appends c.args.numbers.now start (string_bytes c.push_str-3.new.self) (λ w. item_text w.core w.groups (entity.Global c.args.ty))} c.push_str-3.result
-    (λ last t. said start (string_bytes c.push_str.new.self) (string_bytes c.push_val.new.text) (string_bytes c.push_str-2.new.self) _
-    (val_text (so_far c.args.numbers.now t).core (so_far c.args.numbers.now t).groups c.args.ty.content_type) mut shared first (c.in_ok-push_val.ensures t) third last)
+    let end : OnOk c.push_marks.result (string_bytes c.push_marks.new.text ≡ string_bytes c.push_val.new.text ++ (mut ++ shared)) = search rules in
+    on_ok_weaker {Q = Appends c.args.numbers.now start (string_bytes c.push_marks.new.text) (λ w. item_text w.core w.groups (entity.Global c.args.ty))} c.push_marks.result
+    (λ last t. said start (string_bytes c.push_str.new.self) (string_bytes c.push_val.new.text) _
+    (val_text (so_far c.args.numbers.now t).core (so_far c.args.numbers.now t).groups c.args.ty.content_type) mut shared first (c.in_ok-push_val.ensures t) last)
     end
   where
-    said : (start a b d e val m s : Text) → a ≡ start ++ codes "global " → b ≡ a ++ val → d ≡ b ++ m → e ≡ d ++ s → e ≡ start ++ (codes "global " ++ val ++ m ++ s)
-    said start a b d e val m s p q r u = u ∙ ap (λ (x : Text). x ++ s) (r ∙ ap (λ (x : Text). x ++ m) (q ∙ ap (λ (x : Text). x ++ val) p)) ∙ simp append_assoc
+    said : (start a b d val m s : Text) → a ≡ start ++ codes "global " → b ≡ a ++ val → d ≡ b ++ (m ++ s) → d ≡ start ++ (codes "global " ++ val ++ m ++ s)
+    said start a b d val m s p q r = r ∙ ap (λ (x : Text). x ++ (m ++ s)) (q ∙ ap (λ (x : Text). x ++ val) p) ∙ simp append_assoc

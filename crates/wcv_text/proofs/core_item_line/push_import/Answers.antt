@@ -11,12 +11,12 @@ returns c =
     let start : Text = string_bytes c.args.text.now in
     let of : Text = quoted c.args.entry.now.0.0 in
     let name : Text = quoted c.args.entry.now.0.1 in
-    let first : string_bytes c.push_str-2.new.self ≡ start ++ codes "import " ++ of ++ codes " " = search rules in
-    let second : string_bytes c.push_str-3.new.self ≡ string_bytes c.push_str-2.new.self ++ name ++ codes " " = search rules in
+    let first : string_bytes c.push_label.new.text ≡ start ++ (codes "import " ++ of ++ codes " ") = search rules in
+    let second : string_bytes c.push_label-2.new.text ≡ string_bytes c.push_label.new.text ++ (name ++ codes " ") = search rules in
     on_ok_weaker c.push_item.result
-    (λ said t. behind start (string_bytes c.push_str-2.new.self) (string_bytes c.push_str-3.new.self) _ of name (item_text (so_far c.args.numbers.now t).core (so_far c.args.numbers.now t).groups c.args.entry.now.1) first second (said t))
+    (λ said t. behind start (string_bytes c.push_label.new.text) (string_bytes c.push_label-2.new.text) _ of name (item_text (so_far c.args.numbers.now t).core (so_far c.args.numbers.now t).groups c.args.entry.now.1) first second (said t))
     c.push_item.ensures
   where
-    behind : (start a b d of name item : Text) → a ≡ start ++ codes "import " ++ of ++ codes " " → b ≡ a ++ name ++ codes " " → d ≡ b ++ item →
+    behind : (start a b d of name item : Text) → a ≡ start ++ (codes "import " ++ of ++ codes " ") → b ≡ a ++ (name ++ codes " ") → d ≡ b ++ item →
         d ≡ start ++ (codes "import " ++ of ++ codes " " ++ name ++ codes " " ++ item)
-    behind start a b d of name item p q r = r ∙ ap (λ (x : Text). x ++ item) (q ∙ ap (λ (x : Text). x ++ name ++ codes " ") p) ∙ simp append_assoc
+    behind start a b d of name item p q r = r ∙ ap (λ (x : Text). x ++ item) (q ∙ ap (λ (x : Text). x ++ (name ++ codes " ")) p) ∙ simp append_assoc

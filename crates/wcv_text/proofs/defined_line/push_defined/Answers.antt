@@ -19,12 +19,12 @@ returns-in-FixedLengthList c =
 
 pub returns-in-Own : goal.returns-in-Own
 returns-in-Own c =
-    on_ok_weaker c.push_handle.result
+    on_ok_weaker c.push_mention.result
     (λ said t. said t ∙ ap (λ (s : ComponentDefinedType). string_bytes c.args.text.now ++ defined_said (so_far c.args.numbers.now t) s) (sym c.in-Own.is))
-    c.push_handle.ensures
+    c.push_mention.ensures
 
 pub returns-in-Borrow : goal.returns-in-Borrow
 returns-in-Borrow c =
-    on_ok_weaker c.push_handle-in-Borrow.result
+    on_ok_weaker c.push_mention-in-Borrow.result
     (λ said t. said t ∙ ap (λ (s : ComponentDefinedType). string_bytes c.args.text.now ++ defined_said (so_far c.args.numbers.now t) s) (sym c.in-Borrow.is))
-    c.push_handle-in-Borrow.ensures
+    c.push_mention-in-Borrow.ensures
