@@ -15,15 +15,15 @@ ghost use Rattle.wcv_subtype.specs.IdPasses.{named_trees};
 ghost use Rattle.wcv_subtype.specs.Readings.{reads};
 
 use crate::compared::Compared;
-use crate::own_resources::{opened_atoms, owned_atoms};
+use crate::own_resources::{OwnAtoms, opened_atoms, owned_atoms};
 use crate::passes::entity_passes;
 use crate::readings::Readings;
 use crate::visits::visited;
 use std::sync::ledger::Ledger;
 use wcv_core::{Error, ErrorKind, Excerpt, OutOfMemory, Text};
 use wcv_types::{
-    ByName, ComponentEntityType, ComponentInstanceTypeId, ComponentItem, ComponentTypeId,
-    ComponentValType, ItemMap, Steps, TypeAlloc,
+    ByName, ComponentEntityType, ComponentInstanceTypeId, ComponentItem, ComponentType,
+    ComponentTypeId, ComponentValType, ItemMap, Steps, TypeAlloc,
 };
 
 /// What the entity is, as messages name it.
@@ -54,6 +54,54 @@ fn unfit(a: &ComponentEntityType, b: &ComponentEntityType, offset: u64) -> Error
     )
 }
 
+/// The refusal of what stands under the name, and is not as expected.
+pub(crate) fn unfit_under(
+    role: &str,
+    name: &Text,
+    found: &ComponentEntityType,
+    expected: &ComponentEntityType,
+    offset: u64,
+) -> Error
+    ensures kind { error_kind result ≡ ErrorKind.Mismatch }
+    ensures offset { error_offset result ≡ offset }
+{
+    Error::told(
+        ErrorKind::Mismatch,
+        offset,
+        format_args!(
+            "{} `{}`: expected {} of another type, found {}",
+            role,
+            Excerpt(name.as_str()),
+            sort_name(expected),
+            sort_name(found)
+        ),
+    )
+}
+
+/// The refusal where nothing stands under the name. It says what there is.
+pub(crate) fn absent_under(
+    role: &str,
+    name: &Text,
+    expected: &ComponentEntityType,
+    there_is: &str,
+    offset: u64,
+) -> Error
+    ensures kind { error_kind result ≡ ErrorKind.Mismatch }
+    ensures offset { error_offset result ≡ offset }
+{
+    Error::told(
+        ErrorKind::Mismatch,
+        offset,
+        format_args!(
+            "{} `{}`: expected {}, and there is {}",
+            role,
+            Excerpt(name.as_str()),
+            sort_name(expected),
+            there_is
+        ),
+    )
+}
+
 /// The refusal by an import or an export that is not there, or is not as expected.
 fn unfit_entry(
     role: &str,
@@ -65,29 +113,9 @@ fn unfit_entry(
     ensures kind { error_kind result ≡ ErrorKind.Mismatch }
     ensures offset { error_offset result ≡ offset }
 {
-    let name = name.as_str();
     match found {
-        Some(found) => Error::told(
-            ErrorKind::Mismatch,
-            offset,
-            format_args!(
-                "{} `{}`: expected {} of another type, found {}",
-                role,
-                Excerpt(name),
-                sort_name(expected),
-                sort_name(&found)
-            ),
-        ),
-        None => Error::told(
-            ErrorKind::Mismatch,
-            offset,
-            format_args!(
-                "{} `{}`: expected {}, and there is none",
-                role,
-                Excerpt(name),
-                sort_name(expected)
-            ),
-        ),
+        Some(found) => unfit_under(role, name, &found, expected, offset),
+        None => absent_under(role, name, expected, "none", offset),
     }
 }
 
@@ -147,7 +175,7 @@ fn first_unfit<L: Ledger>(
 {
     let by_name = a.by_name(types.allocator())?;
     let mut compared = Compared::new(types.allocator());
-    unfit_among(
+    let done = unfit_among(
         types,
         role,
         &mut compared,
@@ -157,12 +185,18 @@ fn first_unfit<L: Ledger>(
         b,
         offset,
         steps,
-    )
+    );
+    drop(compared);
+    drop(by_name);
+    done
 }
 
-/// The refusal by the first export of the right instance type that does not match.
-fn unfit_instance<L: Ledger>(
+/// The refusal by the first export of the right instance type that does not match, where both sides read no resource
+/// otherwise yet.
+fn unfit_export<L: Ledger>(
     types: &TypeAlloc,
+    left: &mut Readings,
+    right: &mut Readings,
     a: ComponentInstanceTypeId,
     b: ComponentInstanceTypeId,
     offset: u64,
@@ -176,19 +210,71 @@ fn unfit_instance<L: Ledger>(
     let x = visited(types, a, steps);
     let y = visited(types, b, steps);
     let alloc = types.allocator();
-    let mut left = Readings::new(alloc);
-    let mut right = Readings::new(alloc);
     left.enter(&owned_atoms(alloc, 0, &x.defined_resources)?)?;
     right.enter(&owned_atoms(alloc, 0, &y.defined_resources)?)?;
     first_unfit(
-        types, "export", &mut left, &mut right, &x.exports, &y.exports, offset, steps,
+        types, "export", left, right, &x.exports, &y.exports, offset, steps,
     )
 }
 
-/// The refusal by the first import of the left component type, or else the first export of the right one, that does
-/// not match.
-fn unfit_component<L: Ledger>(
+/// The same, beginning with resources as they are given.
+fn unfit_instance<L: Ledger>(
     types: &TypeAlloc,
+    a: ComponentInstanceTypeId,
+    b: ComponentInstanceTypeId,
+    offset: u64,
+    steps: &mut Steps<L>,
+) -> Result<(), Error>
+    requires a { Stands types.now (p.Instance a) }
+    requires b { Stands types.now (p.Instance b) }
+    ensures unfit { IfErr result (IsRefusal offset) }
+    ensures counted { steps.new ≤ steps.old + (extent (tree_at types.now (p.Instance a)) + extent (tree_at types.now (p.Instance b))) }
+{
+    let mut left = Readings::new(types.allocator());
+    let mut right = Readings::new(types.allocator());
+    let done = unfit_export(types, &mut left, &mut right, a, b, offset, steps);
+    drop(right);
+    drop(left);
+    done
+}
+
+/// The refusal by the first import of the left component type, or else the first export of the right one, that does
+/// not match, where both sides read their own resources so.
+fn unfit_opened<L: Ledger>(
+    types: &TypeAlloc,
+    left: &mut Readings,
+    right: &mut Readings,
+    own: &OwnAtoms,
+    x: &ComponentType,
+    y: &ComponentType,
+    offset: u64,
+    steps: &mut Steps<L>,
+) -> Result<(), Error>
+    requires left_imports { All (EntryStands types.now) x.now.imports }
+    requires left_exports { All (EntryStands types.now) x.now.exports }
+    requires right_imports { All (EntryStands types.now) y.now.imports }
+    requires right_exports { All (EntryStands types.now) y.now.exports }
+    requires imports_apart { NamesDiffer x.now.imports }
+    requires exports_apart { NamesDiffer y.now.exports }
+    ensures unfit { IfErr result (IsRefusal offset) }
+    ensures counted { steps.new ≤ steps.old + ((entries_extent (named_trees (trees types.now.nodes) x.now.imports) + entries_extent (named_trees (trees types.now.nodes) x.now.exports)) + (entries_extent (named_trees (trees types.now.nodes) y.now.imports) + entries_extent (named_trees (trees types.now.nodes) y.now.exports))) }
+{
+    left.enter(&own.left)?;
+    right.enter(&own.right)?;
+    first_unfit(
+        types, "import", right, left, &y.imports, &x.imports, offset, steps,
+    )?;
+    right.enter(&own.exports)?;
+    first_unfit(
+        types, "export", left, right, &x.exports, &y.exports, offset, steps,
+    )
+}
+
+/// The same, where both sides read no resource otherwise yet.
+fn unfit_in_component<L: Ledger>(
+    types: &TypeAlloc,
+    left: &mut Readings,
+    right: &mut Readings,
     a: ComponentTypeId,
     b: ComponentTypeId,
     offset: u64,
@@ -201,22 +287,34 @@ fn unfit_component<L: Ledger>(
 {
     let x = visited(types, a, steps);
     let y = visited(types, b, steps);
-    let alloc = types.allocator();
-    let mut left = Readings::new(alloc);
-    let mut right = Readings::new(alloc);
-    let own = match opened_atoms(types, &mut left, &mut right, 0, a, b, steps)? {
+    let own = match opened_atoms(types, left, right, 0, a, b, steps)? {
         Some(own) => own,
         None => return Ok(()),
     };
-    left.enter(&own.left)?;
-    right.enter(&own.right)?;
-    first_unfit(
-        types, "import", &mut right, &mut left, &y.imports, &x.imports, offset, steps,
-    )?;
-    right.enter(&own.exports)?;
-    first_unfit(
-        types, "export", &mut left, &mut right, &x.exports, &y.exports, offset, steps,
-    )
+    let done = unfit_opened(types, left, right, &own, x, y, offset, steps);
+    drop(own);
+    done
+}
+
+/// The same, beginning with resources as they are given.
+fn unfit_component<L: Ledger>(
+    types: &TypeAlloc,
+    a: ComponentTypeId,
+    b: ComponentTypeId,
+    offset: u64,
+    steps: &mut Steps<L>,
+) -> Result<(), Error>
+    requires a { Stands types.now (p.Component a) }
+    requires b { Stands types.now (p.Component b) }
+    ensures unfit { IfErr result (IsRefusal offset) }
+    ensures counted { steps.new ≤ steps.old + (extent (tree_at types.now (p.Component a)) + extent (tree_at types.now (p.Component b))) }
+{
+    let mut left = Readings::new(types.allocator());
+    let mut right = Readings::new(types.allocator());
+    let done = unfit_in_component(types, &mut left, &mut right, a, b, offset, steps);
+    drop(right);
+    drop(left);
+    done
 }
 
 /// The refusal of an entity that does not match: of instances it names the export, and of components the import or
@@ -267,7 +365,7 @@ fn entity_matches<L: Ledger>(
     let mut left = Readings::new(types.allocator());
     let mut right = Readings::new(types.allocator());
     let mut compared = Compared::new(types.allocator());
-    entity_passes(
+    let matches = entity_passes(
         types,
         false,
         &mut compared,
@@ -277,7 +375,11 @@ fn entity_matches<L: Ledger>(
         *a,
         *b,
         steps,
-    )
+    );
+    drop(compared);
+    drop(right);
+    drop(left);
+    matches
 }
 
 /// Whether the one may stand where the other is expected. It takes at most as many steps as both types are large, one for

@@ -1,5 +1,5 @@
 // What stands on the other side for the own resources of a component type, by the paths that are recorded for them.
-ghost use Rattle.std.specs.Prelude.{◌≡◌, ◌+◌, ◌≤◌, ℕ, true, None, map, is_some, option_map, option_copied, Some, All, IfOk, IfSome, OnOk};
+ghost use Rattle.std.specs.Prelude.{◌≡◌, ◌+◌, ◌≤◌, ℕ, [], true, None, map, is_some, option_map, option_copied, Some, All, IfOk, IfSome, OnOk};
 ghost use Rattle.std.specs.BTreeMap.{get_by};
 ghost use Rattle.std.specs.Ordering.{nat_cmp};
 ghost use Rattle.wcv_types.specs.Entities.{entity_tree, EntityStands, EntryStands};
@@ -102,7 +102,7 @@ impl<'a> Exports<'a> {
         match exports_of(types, ty, steps) {
             Some(exports) => {
                 let map = exports.by_name(types.allocator())?;
-                self.maps.insert(place, map)?;
+                drop(self.maps.insert(place, map)?);
                 Ok(())
             }
             None => unreachable!(),
@@ -188,6 +188,36 @@ fn follow<'a, L: Ledger>(
     Ok(resource_of(types, there))
 }
 
+/// The own resources join a list that has none, with what stands for each among the entries of the other side: itself,
+/// where its path leads to none. The maps of exports are kept from one to the next.
+fn push_counterparts<'a, L: Ledger>(
+    types: &'a TypeAlloc,
+    seen: &mut Exports<'a>,
+    found: &mut Vec<(ResourceId, ResourceId)>,
+    paths: &Paths,
+    entries: &ItemMap,
+    others: &ByName<'_, ComponentItem>,
+    steps: &mut Steps<L>,
+) -> Result<(), OutOfMemory>
+    requires seen { AreExports types.now seen.old.maps }
+    requires none { found.old.items ≡ [] }
+    requires entries { All (EntryStands types.now) entries.now }
+    requires others { All (EntryStands types.now) others.now }
+    ensures found { OnOk result (map lands_on found.new.items ≡ counterparts_of (map resource_path paths.now) (named_trees (trees types.now.nodes) entries.now) (named_trees (trees types.now.nodes) others.now)) }
+    ensures counted { steps.new ≤ steps.old + walks (map resource_path paths.now) }
+{
+    for k in 0..paths.len() {
+        match paths.get_index(k) {
+            Some((resource, path)) => {
+                let other = follow(types, seen, path.positions(), entries, others, steps)?;
+                found.push((*resource, other.unwrap_or(*resource)))?;
+            }
+            None => unreachable!(),
+        }
+    }
+    Ok(())
+}
+
 /// The own resources with what stands for each among the entries of the other side: itself, where its path leads to none.
 pub(crate) fn counterparts_in<L: Ledger>(
     types: &TypeAlloc,
@@ -201,19 +231,14 @@ pub(crate) fn counterparts_in<L: Ledger>(
     ensures found { IfOk result (λ found. map lands_on found.items ≡ counterparts_of (map resource_path paths.now) (named_trees (trees types.now.nodes) entries.now) (named_trees (trees types.now.nodes) others.now)) }
     ensures counted { steps.new ≤ steps.old + walks (map resource_path paths.now) }
 {
-    let alloc = types.allocator();
-    let mut found = Vec::new(alloc);
-    let mut seen = Exports::new(alloc);
-    for k in 0..paths.len() {
-        match paths.get_index(k) {
-            Some((resource, path)) => {
-                let other = follow(types, &mut seen, path.positions(), entries, others, steps)?;
-                found.push((*resource, other.unwrap_or(*resource)))?;
-            }
-            None => unreachable!(),
-        }
+    let mut found = Vec::new(types.allocator());
+    let mut seen = Exports::new(types.allocator());
+    let done = push_counterparts(types, &mut seen, &mut found, paths, entries, others, steps);
+    drop(seen);
+    match done {
+        Ok(()) => Ok(found),
+        Err(err) => Err(err),
     }
-    Ok(found)
 }
 
 /// So where the other side is not yet by its names: nothing is made where there is no resource.
@@ -234,5 +259,7 @@ pub(crate) fn counterparts<L: Ledger>(
         return Ok(Vec::new(alloc));
     }
     let by_name = others.by_name(alloc)?;
-    counterparts_in(types, paths, entries, &by_name, steps)
+    let found = counterparts_in(types, paths, entries, &by_name, steps);
+    drop(by_name);
+    found
 }

@@ -16,7 +16,7 @@ use wcv_core::OutOfMemory;
 use wcv_types::{ComponentEntityType, ComponentValType, NodeStore, Part, Steps};
 
 /// The types that an entity is.
-#[derive(Clone, Copy, Debug)]
+#[derive(Clone, Copy)]
 pub enum Held {
     Nothing,
     One(Part),

@@ -12,7 +12,7 @@ use wcv_core::{IndexMapAppendOnly, OutOfMemory};
 use wcv_types::{AliasableResourceId, ComponentAnyTypeId, Part, ResourceId};
 
 /// Where a type goes.
-#[derive(Clone, Copy, Debug, PartialEq, Eq)]
+#[derive(Clone, Copy)]
 pub struct Kept {
     pub to: ComponentAnyTypeId,
     /// It was given, and not added by a rebuilding.

@@ -23,7 +23,7 @@ ghost use Rattle.wcv_subtype.specs.Openings.{named_args, ArgumentStands, Fits, G
 ghost use Rattle.wcv_subtype.specs.Readings.{atoms_of, given_as, reads, resource_name};
 
 use crate::compared::Compared;
-use crate::comparisons::sort_name;
+use crate::comparisons::{absent_under, unfit_under};
 use crate::counterparts::{Exports, counterparts_in};
 use crate::giving::give;
 use crate::map::Remapping;
@@ -33,7 +33,7 @@ use crate::visits::visited;
 use std::alloc::Global;
 use std::marker::Model;
 use std::sync::ledger::Ledger;
-use wcv_core::{Error, ErrorKind, Excerpt, OutOfMemory, Text};
+use wcv_core::{Error, ErrorKind, OutOfMemory, Text};
 use wcv_types::{
     ByName, ComponentEntityType, ComponentItem, ComponentTypeId, ItemMap, ResourceId, Steps,
     TypeAlloc,
@@ -129,27 +129,9 @@ fn unfit_argument(
     ensures kind { error_kind result ≡ ErrorKind.Mismatch }
     ensures offset { error_offset result ≡ offset }
 {
-    let name = name.as_str();
     match found {
-        Some(found) => Error::told(
-            ErrorKind::Mismatch,
-            offset,
-            format_args!(
-                "import `{}`: expected {} of another type, found {}",
-                Excerpt(name),
-                sort_name(expected),
-                sort_name(&found)
-            ),
-        ),
-        None => Error::told(
-            ErrorKind::Mismatch,
-            offset,
-            format_args!(
-                "import `{}`: expected {}, and there is no argument of that name",
-                Excerpt(name),
-                sort_name(expected)
-            ),
-        ),
+        Some(found) => unfit_under("import", name, &found, expected, offset),
+        None => absent_under("import", name, expected, "no argument of that name", offset),
     }
 }
 
@@ -252,7 +234,7 @@ fn open_imports<L: Ledger>(
 {
     let mut seen = Exports::new(types.allocator());
     let mut compared = Compared::new(types.allocator());
-    open_each(
+    let opened = open_each(
         types,
         &mut seen,
         &mut compared,
@@ -262,7 +244,10 @@ fn open_imports<L: Ledger>(
         opening,
         offset,
         steps,
-    )
+    );
+    drop(compared);
+    drop(seen);
+    opened
 }
 
 /// What opens the imports by the arguments, where resources go as the list says.

@@ -1,149 +1,33 @@
 // Whether one type is the same as another, or may stand where it is expected, by one pass over both.
-ghost use Rattle.std.specs.Prelude.{◌≡◌, ◌+◌, ◌*◌, ◌≤◌, true, false, bytes_eq, cond, is_some, All, IfOk, option_copied};
+ghost use Rattle.std.specs.Prelude.{◌≡◌, ◌+◌, ◌≤◌, true, false, bytes_eq, cond, is_some, All, IfOk};
 ghost use Rattle.std.specs.List.{list_all};
 ghost use Rattle.std.specs.Map.{lookup};
 ghost use Rattle.wcv_types.specs.ByName.{NamesDiffer};
 ghost use Rattle.wcv_types.specs.Entities.{any_part, entity_tree, EntityStands, EntryStands};
 ghost use Rattle.wcv_types.specs.Standing.{Stands};
-ghost use Rattle.wcv_types.specs.Tree.{owned};
 ghost use Rattle.wcv_types.specs.Unfold.{tree_at, trees};
-ghost use Rattle.wcv_types.specs.Sets.{has_resource, resource_names};
 ghost use Rattle.wcv_types.specs.declared.ids.Part.TheVariants as p;
-ghost use Rattle.wcv_matching.specs.AtomTests.{id_tests};
 ghost use Rattle.wcv_subtype.specs.Compared.{ArePassed, PassedIf};
 ghost use Rattle.wcv_subtype.specs.Extent.{entries_extent, extent};
-ghost use Rattle.wcv_subtype.specs.IdPasses.{Answers, AnswersEntries, AnswersTypes, StaysIf, same_resource, as_entity, as_resource, modules_pass, named_trees, OwnsBy};
+ghost use Rattle.wcv_subtype.specs.IdPasses.{Answers, AnswersEntries, AnswersTypes, StaysIf, same_resource, as_entity, as_resource, named_trees};
 ghost use Rattle.wcv_matching.specs.Matching.{Reading};
-ghost use Rattle.wcv_matching.specs.OnePass.{Atom, owned_in, same_members};
-ghost use Rattle.wcv_subtype.specs.Readings.{atoms_of, over, read_by, reads};
+ghost use Rattle.wcv_matching.specs.OnePass.{Atom};
+ghost use Rattle.wcv_subtype.specs.Readings.{atoms_of, over, reads};
 
 use crate::compared::Compared;
+use crate::modules::modules_pass;
+use crate::names::names_fit;
 use crate::own_resources::{opened_atoms, owned_atoms, paired_atoms};
+use crate::owned::same_owned;
 use crate::readings::{Readings, ResourceAtom};
 use crate::values::{same_func, same_value};
 use crate::visits::visited;
-use std::alloc::Global;
 use std::sync::ledger::Ledger;
-use wcv_core::{ErrorKind, OutOfMemory};
-use wcv_matching::shapes_match;
+use wcv_core::OutOfMemory;
 use wcv_types::{
-    ComponentAnyTypeId, ComponentCoreModuleTypeId, ComponentEntityType, ComponentInstanceTypeId,
-    ComponentTypeId, ComponentValType, ItemMap, ResourceId, ResourceSet, Steps, TypeAlloc,
+    ByName, ComponentAnyTypeId, ComponentEntityType, ComponentInstanceTypeId, ComponentItem,
+    ComponentTypeId, ComponentValType, ItemMap, ResourceId, Steps, TypeAlloc,
 };
-
-/// Whether the one core module matches the other.
-fn module_matches(
-    types: &TypeAlloc,
-    a: ComponentCoreModuleTypeId,
-    b: ComponentCoreModuleTypeId,
-) -> Result<bool, OutOfMemory>
-    requires a { Stands types.now (p.Module a) }
-    requires b { Stands types.now (p.Module b) }
-    ensures { IfOk result (λ matches. matches ≡ (id_tests types.now.core).modules (tree_at types.now (p.Module a)) (tree_at types.now (p.Module b))) }
-{
-    types.modules_within();
-    let _count = types.core_types().len();
-    match shapes_match(types, types.get(a), types.get(b), 0) {
-        Ok(()) => Ok(true),
-        Err(err) => match err.kind() {
-            ErrorKind::OutOfMemory => Err(OutOfMemory),
-            _ => Ok(false),
-        },
-    }
-}
-
-/// Whether each resource of the one set is in the other.
-fn all_among(a: &ResourceSet, b: &ResourceSet) -> bool
-    ensures { result ≡ list_all (has_resource b.now) a.now }
-{
-    for k in 0..a.len() {
-        if let Some(resource) = a.get_index(k) {
-            if !b.contains(resource) {
-                return false;
-            }
-        }
-    }
-    true
-}
-
-/// The resources of its own that an instance type has.
-fn owned_resources(types: &TypeAlloc, id: ComponentAnyTypeId) -> Option<&ResourceSet>
-    requires { Stands types.now (any_part id) }
-    ensures { OwnsBy (option_copied result) (tree_at types.now (any_part id)) }
-{
-    match id {
-        ComponentAnyTypeId::Instance(id) => Some(&types.get(id).defined_resources),
-        _ => None,
-    }
-}
-
-/// Whether both types own the same resources, as instance types do.
-fn same_owned(types: &TypeAlloc, a: ComponentAnyTypeId, b: ComponentAnyTypeId) -> bool
-    requires a { Stands types.now (any_part a) }
-    requires b { Stands types.now (any_part b) }
-    ensures { result ≡ same_members (owned (tree_at types.now (any_part a))) (owned (tree_at types.now (any_part b))) }
-{
-    match owned_resources(types, a) {
-        Some(x) => match owned_resources(types, b) {
-            Some(y) => all_among(x, y) && all_among(y, x),
-            None => x.len() == 0,
-        },
-        None => match owned_resources(types, b) {
-            Some(y) => y.len() == 0,
-            None => true,
-        },
-    }
-}
-
-/// Whether each of the names of the one list stands in the other.
-fn names_among(alloc: Global, a: &ItemMap, b: &ItemMap) -> Result<bool, OutOfMemory>
-    ensures { IfOk result (λ among. among ≡ list_all (λ e. is_some (lookup (bytes_eq e.0) b.now)) a.now) }
-{
-    let by_name = b.by_name(alloc)?;
-    for k in 0..a.len() {
-        if let Some(entry) = a.get_index(k) {
-            if by_name.get(&entry.0).is_none() {
-                return Ok(false);
-            }
-        }
-    }
-    Ok(true)
-}
-
-/// Whether the names of the one list stand in the other, where that is asked.
-fn names_fit(alloc: Global, exact: bool, a: &ItemMap, b: &ItemMap) -> Result<bool, OutOfMemory>
-    ensures { IfOk result (λ fit. fit ≡ cond exact (list_all (λ e. is_some (lookup (bytes_eq e.0) b.now)) a.now) true) }
-{
-    if exact {
-        names_among(alloc, a, b)
-    } else {
-        Ok(true)
-    }
-}
-
-/// Whether the one core module matches the other, and where they are to be the same also the other way round. It takes a
-/// step for each of them, for all that they import and export.
-fn modules_pass<L: Ledger>(
-    types: &TypeAlloc,
-    exact: bool,
-    a: ComponentCoreModuleTypeId,
-    b: ComponentCoreModuleTypeId,
-    steps: &mut Steps<L>,
-) -> Result<bool, OutOfMemory>
-    requires a { Stands types.now (p.Module a) }
-    requires b { Stands types.now (p.Module b) }
-    ensures passes { IfOk result (λ passes. passes ≡ modules_pass (id_tests types.now.core) exact (tree_at types.now (p.Module a)) (tree_at types.now (p.Module b))) }
-    ensures counted { steps.new ≤ steps.old + (extent (tree_at types.now (p.Module a)) + extent (tree_at types.now (p.Module b))) }
-{
-    types.nodes_fit();
-    let _ = visited(types, a, steps);
-    let _ = visited(types, b, steps);
-    if exact {
-        Ok(module_matches(types, a, b)? && module_matches(types, b, a)?)
-    } else {
-        module_matches(types, a, b)
-    }
-}
 
 /// The type as an entity, where it is no resource.
 fn as_entity(id: ComponentAnyTypeId) -> Option<ComponentEntityType>
@@ -188,6 +72,48 @@ fn same_resource(
     }
 }
 
+/// Whether each of the right entries has one of its name on the left that passes with it, where the names of the left
+/// ones stand on the right if they are to be the same.
+#[cycle(passing)]
+fn entries_pass_by_name<L: Ledger>(
+    types: &TypeAlloc,
+    exact: bool,
+    compared: &mut Compared,
+    left: &mut Readings,
+    right: &mut Readings,
+    level: u64,
+    a: &ByName<'_, ComponentItem>,
+    b: &ItemMap,
+    steps: &mut Steps<L>,
+) -> Result<bool, OutOfMemory>
+    requires a { All (EntryStands types.now) a.now }
+    requires b { All (EntryStands types.now) b.now }
+    requires apart { NamesDiffer b.now }
+    requires names { cond exact (list_all (λ e. is_some (lookup (bytes_eq e.0) b.now)) a.now) true ≡ true }
+    requires compared { ArePassed types.now (reads left.old) (reads right.old) compared.old }
+    ensures answers { IfOk result (AnswersEntries types.now.core exact level (reads left.old) (reads right.old) (named_trees (trees types.now.nodes) a.now) (named_trees (trees types.now.nodes) b.now)) }
+    ensures left { IfOk result (λ passes. StaysIf passes (reads left.old) (reads left.new)) }
+    ensures right { IfOk result (λ passes. StaysIf passes (reads right.old) (reads right.new)) }
+    ensures compared { IfOk result (λ passes. PassedIf passes types.now (reads left.old) (reads right.old) compared.new) }
+    ensures counted { steps.new ≤ steps.old + (entries_extent (named_trees (trees types.now.nodes) a.now) + entries_extent (named_trees (trees types.now.nodes) b.now)) }
+{
+    for k in 0..b.len() {
+        if let Some(entry) = b.get_index(k) {
+            match a.get(&entry.0) {
+                Some(item) => {
+                    if !entity_passes(
+                        types, exact, compared, left, right, level, item.ty, entry.1.ty, steps,
+                    )? {
+                        return Ok(false);
+                    }
+                }
+                None => return Ok(false),
+            }
+        }
+    }
+    Ok(true)
+}
+
 /// Whether the entries of the one list pass with those of the other: each of the right one has one of its name on
 /// the left that passes with it, and where they are to be the same, the names of the left one stand on the right.
 #[cycle(passing)]
@@ -216,21 +142,11 @@ fn entries_pass<L: Ledger>(
         return Ok(false);
     }
     let by_name = a.by_name(types.allocator())?;
-    for k in 0..b.len() {
-        if let Some(entry) = b.get_index(k) {
-            match by_name.get(&entry.0) {
-                Some(item) => {
-                    if !entity_passes(
-                        types, exact, compared, left, right, level, item.ty, entry.1.ty, steps,
-                    )? {
-                        return Ok(false);
-                    }
-                }
-                None => return Ok(false),
-            }
-        }
-    }
-    Ok(true)
+    let passes = entries_pass_by_name(
+        types, exact, compared, left, right, level, &by_name, b, steps,
+    );
+    drop(by_name);
+    passes
 }
 
 /// Whether the one entity passes with the other: whether they are the same where that is asked, or else whether the
@@ -498,7 +414,9 @@ fn entries_pass_afresh<L: Ledger>(
     ensures counted { steps.new ≤ steps.old + (entries_extent (named_trees (trees types.now.nodes) a.now) + entries_extent (named_trees (trees types.now.nodes) b.now)) }
 {
     let mut compared = Compared::new(types.allocator());
-    entries_pass(types, exact, &mut compared, left, right, level, a, b, steps)
+    let passes = entries_pass(types, exact, &mut compared, left, right, level, a, b, steps);
+    drop(compared);
+    passes
 }
 
 /// Whether two component types are the same: their own resources pair up, and with these paired so do their imports

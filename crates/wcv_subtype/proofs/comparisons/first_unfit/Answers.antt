@@ -1,5 +1,5 @@
 use Rattle.wcv_subtype.specs.Readings.{reads}
 use Rattle.wcv_subtype.proofs.comparisons.first_unfit.Goals as goal
 
-pub unfit_among-requires-clause-compared : goal.unfit_among-requires-clause-compared
-unfit_among-requires-clause-compared g c = c.new-compared.ensures c.args.types.now (reads c.args.left.now) (reads c.args.right.now)
+pub unfit_among-done-requires-clause-compared : goal.unfit_among-done-requires-clause-compared
+unfit_among-done-requires-clause-compared g c = c.new-compared.ensures c.args.types.now (reads c.args.left.now) (reads c.args.right.now)

@@ -1,6 +1,8 @@
-use Rattle.std.proofs.Common.{◌≡◌, arith, refl, false, true, sym, ap, ◌∙◌, subst, Bool, ◌&&◌, bytes_eq, Some, None}
-use Rattle.wcv_types.specs.Entities.{any_part, EntityStands}
-use Rattle.wcv_types.specs.Tree.{owned}
+use Rattle.std.proofs.Common.{◌≡◌, arith, refl, false, true, sym, ap, ◌∙◌, subst, List, Bool, cond, is_some, ◌&&◌, bytes_eq, Some, None}
+use Rattle.std.specs.Prelude.{All, IfOk}
+use Rattle.std.specs.List.{list_all}
+use Rattle.wcv_types.specs.Entities.{any_part, EntityStands, EntryStands}
+use Rattle.wcv_types.specs.Tree.{Text, owned}
 use Rattle.wcv_matching.specs.OnePass.{same_members}
 use Rattle.wcv_subtype.specs.Readings.{atoms_of, over}
 use Rattle.wcv_types.specs.Unfold.{trees, tree_at}
@@ -14,11 +16,12 @@ use Rattle.wcv_subtype.proofs.ComponentIds.{entries_moved, exports_below, import
 use Rattle.wcv_subtype.proofs.Comparing.{not_passed, passed_as}
 use Rattle.wcv_subtype.proofs.Exporting.{component_stands}
 use Rattle.wcv_subtype.proofs.Extents.{component_extent, entries_next, found_is, instance_extent, matched_next, matched_within}
-use Rattle.wcv_subtype.specs.IdPasses.{named_trees}
+use Rattle.wcv_subtype.specs.Extent.{entries_extent}
+use Rattle.wcv_subtype.specs.IdPasses.{AnswersEntries, named_trees, tallest}
 use Rattle.wcv_subtype.proofs.PassIds.{module_case, func_case, value_case, type_case, instance_case, component_case, not_stays, no_names, one_differs, one_agrees, all_agree, told, untold, lower, found_stands, instance_lower, instance_stands, if_ok, instances_answer, types_told, answers_are}
 use Rattle.wcv_subtype.proofs.PassSteps.{entities_differ, module_apart, func_apart, value_apart, type_apart, instance_apart, component_apart, entity_of, no_resource, resources_by_ids}
 use Rattle.wcv_subtype.proofs.passes.+passing.Goals as goal
-use Rattle.wcv_subtype.proofs.passes.+passing.Goals.{entries_pass-in-Some+in-Some-get+in_ok-entity_passes-in-Some-get+else-not-branch-2, entries_pass-in_default}
+use Rattle.wcv_subtype.proofs.passes.+passing.Goals.{entries_pass_by_name-in-Some+in-Some-get+in_ok-entity_passes-in-Some-get+else-not-branch, entries_pass_by_name-in_default}
 
 -- ## An entity
 
@@ -99,50 +102,84 @@ entity_compared-returns-in_default-b-5 g t c = record {
 pub entries_pass-returns-then-not-branch-clause-answers : goal.entries_pass-returns-then-not-branch-clause-answers
 entries_pass-returns-then-not-branch-clause-answers g t c = no_names c.args.types.now.core (trees c.args.types.now.nodes) c.args.exact c.args.level (reads c.args.left.now) (reads c.args.right.now) c.args.a.now c.args.b.now (sym c.in_ok-names_fit.ensures ∙ c.if-not-branch.true)
 
-pub entries_pass-entity_passes-requires : goal.entries_pass-entity_passes-requires
-entries_pass-entity_passes-requires g t c κs inside =
+pub entries_pass_by_name-entity_passes-requires : goal.entries_pass_by_name-entity_passes-requires
+entries_pass_by_name-entity_passes-requires g t c κs inside =
     let y = c.in-Some.entry.now in
-    let e : lookup (bytes_eq y.0) c.args.a.now ≡ Some c.in-Some-get.item.now = sym (c.in-Some-get.ensures ∙ ap (lookup (bytes_eq y.0)) c.in_ok-by_name.ensures) in
+    let e : lookup (bytes_eq y.0) c.args.a.now ≡ Some c.in-Some-get.item.now = sym c.in-Some-get.ensures in
     let l = lower c.args.types.now.core (trees c.args.types.now.nodes) c.args.exact c.args.level (reads c.args.left.now) (reads c.args.right.now) c.args.a.now c.args.b.now c.loop-k.k y c.in-Some-get.item.now (sym c.in-Some.ensures) e in
     (omega (arith, l.0, l.1, c.decreases), (inside, (found_stands c.args.types.now c.args.a.now y.0 c.in-Some-get.item.now c.requires.a e, (entry_within (λ (w : ComponentItem). EntityStands c.args.types.now w.ty) c.args.b.now c.loop-k.k y c.requires.b c.in-Some.ensures, c.loop-k.invariant.compared))))
 
-pub entries_pass-returns-then-not-branch-2-clause-answers : goal.entries_pass-returns-then-not-branch-2-clause-answers
-entries_pass-returns-then-not-branch-2-clause-answers g t c =
+pub entries_pass_by_name-returns-then-not-branch-clause-answers : goal.entries_pass_by_name-returns-then-not-branch-clause-answers
+entries_pass_by_name-returns-then-not-branch-clause-answers g t c =
     let y = c.in-Some.entry.now in
-    let e : lookup (bytes_eq y.0) c.args.a.now ≡ Some c.in-Some-get.item.now = sym (c.in-Some-get.ensures ∙ ap (lookup (bytes_eq y.0)) c.in_ok-by_name.ensures) in
-    one_differs c.args.types.now.core (trees c.args.types.now.nodes) c.args.exact c.args.level (reads c.args.left.now) (reads c.args.right.now) c.args.a.now c.args.b.now c.loop-k.k (sym c.in_ok-names_fit.ensures ∙ c.if-not-branch.false) y (sym c.in-Some.ensures) c.loop-k.invariant.left
+    let e : lookup (bytes_eq y.0) c.args.a.now ≡ Some c.in-Some-get.item.now = sym c.in-Some-get.ensures in
+    one_differs c.args.types.now.core (trees c.args.types.now.nodes) c.args.exact c.args.level (reads c.args.left.now) (reads c.args.right.now) c.args.a.now c.args.b.now c.loop-k.k c.requires.names y (sym c.in-Some.ensures) c.loop-k.invariant.left
     (told c.args.types.now.core (trees c.args.types.now.nodes) c.args.exact c.args.level (reads c.args.left.now) (reads c.args.right.now) c.args.a.now c.args.b.now c.loop-k.k y c.in-Some-get.item.now (reads c.loop-k.left) (reads c.loop-k.right) (sym c.in-Some.ensures) e c.loop-k.invariant.same_left c.loop-k.invariant.same_right
-    (answers_are c.args.types.now.core c.args.exact c.args.level (reads c.loop-k.left) (reads c.loop-k.right) _ _ c.in_ok-entity_passes-in-Some-get.ensures.answers c.if-not-branch-2.true))
+    (answers_are c.args.types.now.core c.args.exact c.args.level (reads c.loop-k.left) (reads c.loop-k.right) _ _ c.in_ok-entity_passes-in-Some-get.ensures.answers c.if-not-branch.true))
 
-pub entries_pass-returns-in-None-clause-answers : goal.entries_pass-returns-in-None-clause-answers
-entries_pass-returns-in-None-clause-answers g t c =
+pub entries_pass_by_name-returns-in-None-clause-answers : goal.entries_pass_by_name-returns-in-None-clause-answers
+entries_pass_by_name-returns-in-None-clause-answers g t c =
     let y = c.in-Some.entry.now in
-    let e : lookup (bytes_eq y.0) c.args.a.now ≡ None = sym (c.in-None.ensures ∙ ap (lookup (bytes_eq y.0)) c.in_ok-by_name.ensures) in
-    one_differs c.args.types.now.core (trees c.args.types.now.nodes) c.args.exact c.args.level (reads c.args.left.now) (reads c.args.right.now) c.args.a.now c.args.b.now c.loop-k.k (sym c.in_ok-names_fit.ensures ∙ c.if-not-branch.false) y (sym c.in-Some.ensures) c.loop-k.invariant.left (untold c.args.types.now.core (trees c.args.types.now.nodes) c.args.exact c.args.level (reads c.args.left.now) (reads c.args.right.now) c.args.a.now c.args.b.now c.loop-k.k y e)
+    let e : lookup (bytes_eq y.0) c.args.a.now ≡ None = sym c.in-None.ensures in
+    one_differs c.args.types.now.core (trees c.args.types.now.nodes) c.args.exact c.args.level (reads c.args.left.now) (reads c.args.right.now) c.args.a.now c.args.b.now c.loop-k.k c.requires.names y (sym c.in-Some.ensures) c.loop-k.invariant.left (untold c.args.types.now.core (trees c.args.types.now.nodes) c.args.exact c.args.level (reads c.args.left.now) (reads c.args.right.now) c.args.a.now c.args.b.now c.loop-k.k y e)
 
-pub entries_pass-loop-k-preserved : goal.entries_pass-loop-k-preserved
-entries_pass-loop-k-preserved g t c = elim c.match-get_index.branch [
-  | entries_pass-in-Some+in-Some-get+in_ok-entity_passes-in-Some-get+else-not-branch-2 w ↦
+pub entries_pass_by_name-loop-k-preserved : goal.entries_pass_by_name-loop-k-preserved
+entries_pass_by_name-loop-k-preserved g t c = elim c.match-get_index.branch [
+  | entries_pass_by_name-in-Some+in-Some-get+in_ok-entity_passes-in-Some-get+else-not-branch w ↦
       (let y = w.in-Some.entry.now in
-      let e : lookup (bytes_eq y.0) c.args.a.now ≡ Some w.in-Some-get.item.now = sym (w.in-Some-get.ensures ∙ ap (lookup (bytes_eq y.0)) c.in_ok-by_name.ensures) in
+      let e : lookup (bytes_eq y.0) c.args.a.now ≡ Some w.in-Some-get.item.now = sym w.in-Some-get.ensures in
       record {
         left = one_agrees c.args.types.now.core (trees c.args.types.now.nodes) c.args.exact c.args.level (reads c.args.left.now) (reads c.args.right.now) c.args.a.now c.args.b.now c.loop-k.k y (sym w.in-Some.ensures) c.loop-k.invariant.left
             (told c.args.types.now.core (trees c.args.types.now.nodes) c.args.exact c.args.level (reads c.args.left.now) (reads c.args.right.now) c.args.a.now c.args.b.now c.loop-k.k y w.in-Some-get.item.now (reads c.loop-k.left) (reads c.loop-k.right) (sym w.in-Some.ensures) e c.loop-k.invariant.same_left c.loop-k.invariant.same_right
-            (answers_are c.args.types.now.core c.args.exact c.args.level (reads c.loop-k.left) (reads c.loop-k.right) _ _ w.in_ok-entity_passes-in-Some-get.ensures.answers w.if-not-branch-2.false));
-        same_left = ap reads w.left-is ∙ w.in_ok-entity_passes-in-Some-get.ensures.left w.if-not-branch-2.false ∙ c.loop-k.invariant.same_left;
+            (answers_are c.args.types.now.core c.args.exact c.args.level (reads c.loop-k.left) (reads c.loop-k.right) _ _ w.in_ok-entity_passes-in-Some-get.ensures.answers w.if-not-branch.false));
+        same_left = ap reads w.left-is ∙ w.in_ok-entity_passes-in-Some-get.ensures.left w.if-not-branch.false ∙ c.loop-k.invariant.same_left;
         counted = omega (arith, entries_next (trees c.args.types.now.nodes) c.args.b.now c.loop-k.k y (sym w.in-Some.ensures), matched_next (trees c.args.types.now.nodes) (named_trees (trees c.args.types.now.nodes) c.args.a.now) c.args.b.now c.loop-k.k y (sym w.in-Some.ensures), found_is (trees c.args.types.now.nodes) c.args.a.now y.0 w.in-Some-get.item.now e, w.in_ok-entity_passes-in-Some-get.ensures.counted, c.loop-k.invariant.counted, w.steps-is);
-        same_right = ap reads w.right-is ∙ w.in_ok-entity_passes-in-Some-get.ensures.right w.if-not-branch-2.false ∙ c.loop-k.invariant.same_right;
-        compared = passed_as c.args.types.now (reads c.loop-k.left) (reads c.loop-k.right) _ _ _ _ (ap reads w.left-is ∙ w.in_ok-entity_passes-in-Some-get.ensures.left w.if-not-branch-2.false) (ap reads w.right-is ∙ w.in_ok-entity_passes-in-Some-get.ensures.right w.if-not-branch-2.false) w.compared-is
-            (w.in_ok-entity_passes-in-Some-get.ensures.compared w.if-not-branch-2.false);
+        same_right = ap reads w.right-is ∙ w.in_ok-entity_passes-in-Some-get.ensures.right w.if-not-branch.false ∙ c.loop-k.invariant.same_right;
+        compared = passed_as c.args.types.now (reads c.loop-k.left) (reads c.loop-k.right) _ _ _ _ (ap reads w.left-is ∙ w.in_ok-entity_passes-in-Some-get.ensures.left w.if-not-branch.false) (ap reads w.right-is ∙ w.in_ok-entity_passes-in-Some-get.ensures.right w.if-not-branch.false) w.compared-is
+            (w.in_ok-entity_passes-in-Some-get.ensures.compared w.if-not-branch.false);
       })
-  | entries_pass-in_default w ↦ not_past c.args.b.now c.loop-k.k (omega arith) w.in_default.ensures
+  | entries_pass_by_name-in_default w ↦ not_past c.args.b.now c.loop-k.k (omega arith) w.in_default.ensures
 ]
 
-pub entries_pass-returns-clause-answers : goal.entries_pass-returns-clause-answers
-entries_pass-returns-clause-answers g t c = all_agree c.args.types.now.core (trees c.args.types.now.nodes) c.args.exact c.args.level (reads c.args.left.now) (reads c.args.right.now) c.args.a.now c.args.b.now c.loop-k.k (sym c.in_ok-names_fit.ensures ∙ c.if-not-branch.false) (omega arith) c.loop-k.invariant.left
+pub entries_pass_by_name-returns-clause-answers : goal.entries_pass_by_name-returns-clause-answers
+entries_pass_by_name-returns-clause-answers g t c = all_agree c.args.types.now.core (trees c.args.types.now.nodes) c.args.exact c.args.level (reads c.args.left.now) (reads c.args.right.now) c.args.a.now c.args.b.now c.loop-k.k c.requires.names (omega arith) c.loop-k.invariant.left
 
-pub entries_pass-returns-clause-compared : goal.entries_pass-returns-clause-compared
-entries_pass-returns-clause-compared g t c h = passed_as c.args.types.now (reads c.loop-k.left) (reads c.loop-k.right) _ _ _ _ (sym c.loop-k.invariant.same_left) (sym c.loop-k.invariant.same_right) refl c.loop-k.invariant.compared
+pub entries_pass_by_name-returns-clause-compared : goal.entries_pass_by_name-returns-clause-compared
+entries_pass_by_name-returns-clause-compared g t c h = passed_as c.args.types.now (reads c.loop-k.left) (reads c.loop-k.right) _ _ _ _ (sym c.loop-k.invariant.same_left) (sym c.loop-k.invariant.same_right) refl c.loop-k.invariant.compared
+
+-- the same, where the left ones are not yet by their names
+
+pub entries_pass-entries_pass_by_name-passes-requires : goal.entries_pass-entries_pass_by_name-passes-requires
+entries_pass-entries_pass_by_name-passes-requires g t c κs inside =
+    let ts = trees c.args.types.now.nodes in
+    let es : List (Text × ComponentItem) = c.in_ok-by_name.by_name in
+    let is : es ≡ c.args.a.now = c.in_ok-by_name.ensures in
+    let named = ap (λ (xs : List (Text × ComponentItem)). tallest (named_trees ts xs)) is in (
+      omega (arith, named, c.decreases),
+      (
+        inside,
+        (
+          subst (λ (xs : List (Text × ComponentItem)). All (EntryStands c.args.types.now) xs) (sym is) c.requires.a,
+          (
+            c.requires.b,
+            (
+              c.requires.apart,
+              (subst (λ (xs : List (Text × ComponentItem)). cond c.args.exact (list_all (λ (e : Text × ComponentItem). is_some (lookup (bytes_eq e.0) c.args.b.now)) xs) true ≡ true) (sym is) (sym c.in_ok-names_fit.ensures ∙ c.if-not-branch.false), c.requires.compared),
+            ),
+          ),
+        ),
+      ),
+    )
+
+pub entries_pass-returns-clause-answers : goal.entries_pass-returns-clause-answers
+entries_pass-returns-clause-answers g t c =
+    let ts = trees c.args.types.now.nodes in
+    subst (λ (xs : List (Text × ComponentItem)). IfOk c.entries_pass_by_name-passes.result (AnswersEntries c.args.types.now.core c.args.exact c.args.level (reads c.args.left.now) (reads c.args.right.now) (named_trees ts xs) (named_trees ts c.args.b.now))) c.in_ok-by_name.ensures c.entries_pass_by_name-passes.ensures.answers
+
+pub entries_pass-returns-clause-counted : goal.entries_pass-returns-clause-counted
+entries_pass-returns-clause-counted g t c =
+    let named = ap (λ (xs : List (Text × ComponentItem)). entries_extent (named_trees (trees c.args.types.now.nodes) xs)) c.in_ok-by_name.ensures in
+    omega (arith, named, c.entries_pass_by_name-passes.ensures.counted)
 
 -- ## Pairs that are known
 
@@ -171,8 +208,8 @@ entity_compared-returns-in-Module-b-clause-compared g t c = if_ok c.modules_pass
 
 -- ## Entries under own resources
 
-pub entries_pass_afresh-entries_pass-requires : goal.entries_pass_afresh-entries_pass-requires
-entries_pass_afresh-entries_pass-requires g t c κs inside = (omega (arith, c.decreases), (inside, (c.requires.a, (c.requires.b, (c.requires.apart, c.new-compared.ensures _ _ _)))))
+pub entries_pass_afresh-entries_pass-passes-requires : goal.entries_pass_afresh-entries_pass-passes-requires
+entries_pass_afresh-entries_pass-passes-requires g t c κs inside = (omega (arith, c.decreases), (inside, (c.requires.a, (c.requires.b, (c.requires.apart, c.new-compared.ensures _ _ _)))))
 
 pub entries_pass_under-returns-then-own_nothing-clause-answers : goal.entries_pass_under-returns-then-own_nothing-clause-answers
 entries_pass_under-returns-then-own_nothing-clause-answers g t c =
@@ -335,33 +372,33 @@ types_pass-returns-in-None-clause-answers g t c d l r =
 
 -- ## Steps
 
-pub entries_pass-returns-in_err-entity_passes-in-Some-get-clause-counted : goal.entries_pass-returns-in_err-entity_passes-in-Some-get-clause-counted
-entries_pass-returns-in_err-entity_passes-in-Some-get-clause-counted g t c =
+pub entries_pass_by_name-returns-in_err-entity_passes-in-Some-get-clause-counted : goal.entries_pass_by_name-returns-in_err-entity_passes-in-Some-get-clause-counted
+entries_pass_by_name-returns-in_err-entity_passes-in-Some-get-clause-counted g t c =
     let y = c.in-Some.entry.now in
-    let e : lookup (bytes_eq y.0) c.args.a.now ≡ Some c.in-Some-get.item.now = sym (c.in-Some-get.ensures ∙ ap (lookup (bytes_eq y.0)) c.in_ok-by_name.ensures) in
+    let e : lookup (bytes_eq y.0) c.args.a.now ≡ Some c.in-Some-get.item.now = sym c.in-Some-get.ensures in
     let n = entries_next (trees c.args.types.now.nodes) c.args.b.now c.loop-k.k y (sym c.in-Some.ensures) in
     let m = matched_next (trees c.args.types.now.nodes) (named_trees (trees c.args.types.now.nodes) c.args.a.now) c.args.b.now c.loop-k.k y (sym c.in-Some.ensures) in
     let f = found_is (trees c.args.types.now.nodes) c.args.a.now y.0 c.in-Some-get.item.now e in
     let w = matched_within (trees c.args.types.now.nodes) (named_trees (trees c.args.types.now.nodes) c.args.a.now) c.args.b.now c.requires.apart in
     omega (arith, n, m, f, w, c.in_err-entity_passes-in-Some-get.ensures.counted, c.loop-k.invariant.counted)
 
-pub entries_pass-returns-then-not-branch-2-clause-counted : goal.entries_pass-returns-then-not-branch-2-clause-counted
-entries_pass-returns-then-not-branch-2-clause-counted g t c =
+pub entries_pass_by_name-returns-then-not-branch-clause-counted : goal.entries_pass_by_name-returns-then-not-branch-clause-counted
+entries_pass_by_name-returns-then-not-branch-clause-counted g t c =
     let y = c.in-Some.entry.now in
-    let e : lookup (bytes_eq y.0) c.args.a.now ≡ Some c.in-Some-get.item.now = sym (c.in-Some-get.ensures ∙ ap (lookup (bytes_eq y.0)) c.in_ok-by_name.ensures) in
+    let e : lookup (bytes_eq y.0) c.args.a.now ≡ Some c.in-Some-get.item.now = sym c.in-Some-get.ensures in
     let n = entries_next (trees c.args.types.now.nodes) c.args.b.now c.loop-k.k y (sym c.in-Some.ensures) in
     let m = matched_next (trees c.args.types.now.nodes) (named_trees (trees c.args.types.now.nodes) c.args.a.now) c.args.b.now c.loop-k.k y (sym c.in-Some.ensures) in
     let f = found_is (trees c.args.types.now.nodes) c.args.a.now y.0 c.in-Some-get.item.now e in
     let w = matched_within (trees c.args.types.now.nodes) (named_trees (trees c.args.types.now.nodes) c.args.a.now) c.args.b.now c.requires.apart in
     omega (arith, n, m, f, w, c.in_ok-entity_passes-in-Some-get.ensures.counted, c.loop-k.invariant.counted)
 
-pub entries_pass-returns-in-None-clause-counted : goal.entries_pass-returns-in-None-clause-counted
-entries_pass-returns-in-None-clause-counted g t c =
+pub entries_pass_by_name-returns-in-None-clause-counted : goal.entries_pass_by_name-returns-in-None-clause-counted
+entries_pass_by_name-returns-in-None-clause-counted g t c =
     let w = matched_within (trees c.args.types.now.nodes) (named_trees (trees c.args.types.now.nodes) c.args.a.now) c.args.b.now c.requires.apart in
     omega (arith, w, c.loop-k.invariant.counted)
 
-pub entries_pass-returns-clause-counted : goal.entries_pass-returns-clause-counted
-entries_pass-returns-clause-counted g t c =
+pub entries_pass_by_name-returns-clause-counted : goal.entries_pass_by_name-returns-clause-counted
+entries_pass_by_name-returns-clause-counted g t c =
     let w = matched_within (trees c.args.types.now.nodes) (named_trees (trees c.args.types.now.nodes) c.args.a.now) c.args.b.now c.requires.apart in
     omega (arith, w, c.loop-k.invariant.counted)
 

@@ -12,42 +12,45 @@ use Rattle.wcv_subtype.specs.Extent.{entries_extent, matched_extent}
 use Rattle.wcv_subtype.specs.Readings.{reads}
 use Rattle.wcv_subtype.proofs.passes.+passing.Given as goal
 
+abbrev pub decreases-entries_pass_by_name : goal.decreases-entries_pass_by_name
+decreases-entries_pass_by_name g l = 5 * (tallest (named_trees (trees l.types.now.nodes) l.a.now) + tallest (named_trees (trees l.types.now.nodes) l.b.now)) + 4
+
 abbrev pub decreases-entries_pass : goal.decreases-entries_pass
-decreases-entries_pass g l = 4 * (tallest (named_trees (trees l.types.now.nodes) l.a.now) + tallest (named_trees (trees l.types.now.nodes) l.b.now)) + 4
+decreases-entries_pass g l = 5 * (tallest (named_trees (trees l.types.now.nodes) l.a.now) + tallest (named_trees (trees l.types.now.nodes) l.b.now)) + 5
 
 abbrev pub decreases-entity_passes : goal.decreases-entity_passes
-decreases-entity_passes g l = 4 * (height (entity_tree (trees l.types.now.nodes) l.a) + height (entity_tree (trees l.types.now.nodes) l.b)) + 3
+decreases-entity_passes g l = 5 * (height (entity_tree (trees l.types.now.nodes) l.a) + height (entity_tree (trees l.types.now.nodes) l.b)) + 3
 
 abbrev pub decreases-entity_compared : goal.decreases-entity_compared
-decreases-entity_compared g l = 4 * (height (entity_tree (trees l.types.now.nodes) l.a) + height (entity_tree (trees l.types.now.nodes) l.b)) + 2
+decreases-entity_compared g l = 5 * (height (entity_tree (trees l.types.now.nodes) l.a) + height (entity_tree (trees l.types.now.nodes) l.b)) + 2
 
 abbrev pub decreases-types_pass : goal.decreases-types_pass
-decreases-types_pass g l = 4 * (height (tree_at l.types.now (any_part l.a)) + height (tree_at l.types.now (any_part l.b))) + 4
+decreases-types_pass g l = 5 * (height (tree_at l.types.now (any_part l.a)) + height (tree_at l.types.now (any_part l.b))) + 4
 
 abbrev pub decreases-instances_pass : goal.decreases-instances_pass
-decreases-instances_pass g l = 4 * (height (tree_at l.types.now (p.Instance l.a)) + height (tree_at l.types.now (p.Instance l.b))) + 1
+decreases-instances_pass g l = 5 * (height (tree_at l.types.now (p.Instance l.a)) + height (tree_at l.types.now (p.Instance l.b))) + 1
 
 abbrev pub decreases-entries_pass_under : goal.decreases-entries_pass_under
-decreases-entries_pass_under g l = 4 * (tallest (named_trees (trees l.types.now.nodes) l.a.now) + tallest (named_trees (trees l.types.now.nodes) l.b.now)) + 7
+decreases-entries_pass_under g l = 5 * (tallest (named_trees (trees l.types.now.nodes) l.a.now) + tallest (named_trees (trees l.types.now.nodes) l.b.now)) + 8
 
 abbrev pub decreases-entries_pass_in_scope : goal.decreases-entries_pass_in_scope
-decreases-entries_pass_in_scope g l = 4 * (tallest (named_trees (trees l.types.now.nodes) l.a.now) + tallest (named_trees (trees l.types.now.nodes) l.b.now)) + 6
+decreases-entries_pass_in_scope g l = 5 * (tallest (named_trees (trees l.types.now.nodes) l.a.now) + tallest (named_trees (trees l.types.now.nodes) l.b.now)) + 7
 
 abbrev pub decreases-entries_pass_afresh : goal.decreases-entries_pass_afresh
-decreases-entries_pass_afresh g l = 4 * (tallest (named_trees (trees l.types.now.nodes) l.a.now) + tallest (named_trees (trees l.types.now.nodes) l.b.now)) + 5
+decreases-entries_pass_afresh g l = 5 * (tallest (named_trees (trees l.types.now.nodes) l.a.now) + tallest (named_trees (trees l.types.now.nodes) l.b.now)) + 6
 
 abbrev pub decreases-same_components : goal.decreases-same_components
-decreases-same_components g l = 4 * (height (tree_at l.types.now (p.Component l.a)) + height (tree_at l.types.now (p.Component l.b)))
+decreases-same_components g l = 5 * (height (tree_at l.types.now (p.Component l.a)) + height (tree_at l.types.now (p.Component l.b)))
 
 abbrev pub decreases-component_matches : goal.decreases-component_matches
-decreases-component_matches g l = 4 * (height (tree_at l.types.now (p.Component l.a)) + height (tree_at l.types.now (p.Component l.b)))
+decreases-component_matches g l = 5 * (height (tree_at l.types.now (p.Component l.a)) + height (tree_at l.types.now (p.Component l.b)))
 
 abbrev pub decreases-components_pass : goal.decreases-components_pass
-decreases-components_pass g l = 4 * (height (tree_at l.types.now (p.Component l.a)) + height (tree_at l.types.now (p.Component l.b))) + 1
+decreases-components_pass g l = 5 * (height (tree_at l.types.now (p.Component l.a)) + height (tree_at l.types.now (p.Component l.b))) + 1
 
 -- what is left decides, and what it takes is left of the steps. Both sides are read as before, and the pairs that are kept pass
-abbrev pub invariant-entries_pass-loop-k : goal.invariant-entries_pass-loop-k
-invariant-entries_pass-loop-k g l = record {
+abbrev pub invariant-entries_pass_by_name-loop-k : goal.invariant-entries_pass_by_name-loop-k
+invariant-entries_pass_by_name-loop-k g l = record {
   left : (d : ℕ) → tallest (named_trees (trees l.types.nodes) l.a) ≤ d → tallest (named_trees (trees l.types.nodes) l.b) ≤ d → list_all (found_in (pass_below l.exact (id_tests l.types.core) d l.level (reads l.fn.left) (reads l.fn.right)) (named_trees (trees l.types.nodes) l.a)) (named_trees (trees l.types.nodes) l.b) ≡
       list_all (found_in (pass_below l.exact (id_tests l.types.core) d l.level (reads l.fn.left) (reads l.fn.right)) (named_trees (trees l.types.nodes) l.a)) (drop l.k (named_trees (trees l.types.nodes) l.b));
   same_left : reads l.left ≡ reads l.fn.left;

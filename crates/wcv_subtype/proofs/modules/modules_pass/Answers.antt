@@ -1,6 +1,6 @@
 use Rattle.std.proofs.Common.{arith}
 use Rattle.wcv_subtype.proofs.Extents.{module_extent}
-use Rattle.wcv_subtype.proofs.passes.modules_pass.Goals as goal
+use Rattle.wcv_subtype.proofs.modules.modules_pass.Goals as goal
 
 pub returns-in_err-module_matches-clause-counted : goal.returns-in_err-module_matches-clause-counted
 returns-in_err-module_matches-clause-counted g c =

@@ -1,7 +1,7 @@
 use Rattle.std.proofs.Common.{◌≡◌, drop, bytes_eq, is_some}
 use Rattle.std.specs.List.{list_all}
 use Rattle.std.specs.Map.{lookup}
-use Rattle.wcv_subtype.proofs.passes.names_among.Given as goal
+use Rattle.wcv_subtype.proofs.names.all_named.Given as goal
 
 -- what is left decides
 abbrev pub invariant-loop-k : goal.invariant-loop-k

@@ -2,7 +2,7 @@ use Rattle.std.proofs.Common.{sym, ◌∙◌}
 use Rattle.wcv_types.specs.Entities.{any_part}
 use Rattle.wcv_types.specs.Unfold.{tree_at}
 use Rattle.wcv_subtype.proofs.IdPasses.{owned_both, owned_left, owned_right, and_told, and_refused}
-use Rattle.wcv_subtype.proofs.passes.same_owned.Goals as goal
+use Rattle.wcv_subtype.proofs.owned.same_owned.Goals as goal
 
 pub returns-then-all_among : goal.returns-then-all_among
 returns-then-all_among c = c.all_among-then-all_among.ensures ∙ sym (owned_both (tree_at c.args.types.now (any_part c.args.a)) (tree_at c.args.types.now (any_part c.args.b)) c.in-Some.x.now c.in-Some-owned_resources.y.now c.in-Some.ensures c.in-Some-owned_resources.ensures ∙ and_told _ _ (sym c.all_among.ensures ∙ c.if-all_among.true))

@@ -8,7 +8,7 @@ use Rattle.wcv_closed.specs.ClosedTable.{IsTable}
 use Rattle.wcv_matching.specs.ModuleItems.{items_of}
 use Rattle.wcv_subtype.proofs.IdPasses.{module_told, module_refused, each_item, modules_as}
 use Rattle.wcv_matching.proofs.ModuleTrees.{module_seen}
-use Rattle.wcv_subtype.proofs.passes.module_matches.Goals as goal
+use Rattle.wcv_subtype.proofs.modules.module_matches.Goals as goal
 
 pub shapes_match-requires-clause-a : goal.shapes_match-requires-clause-a
 shapes_match-requires-clause-a c = c.modules_within.ensures c.args.a.index (n.Module c.get.result.now) c.get.ensures.found

@@ -2,8 +2,8 @@ use Rattle.std.proofs.Common.{arith, sym, ◌∙◌}
 use Rattle.wcv_types.specs.Sets.{has_resource}
 use Rattle.wcv_matching.proofs.Entries.{not_past}
 use Rattle.wcv_subtype.proofs.Walking.{each_holds, one_does_not}
-use Rattle.wcv_subtype.proofs.passes.all_among.Goals as goal
-use Rattle.wcv_subtype.proofs.passes.all_among.Goals.{in-Some+else-not-contains, in_default}
+use Rattle.wcv_subtype.proofs.owned.all_among.Goals as goal
+use Rattle.wcv_subtype.proofs.owned.all_among.Goals.{in-Some+else-not-contains, in_default}
 
 pub returns-then-not-contains : goal.returns-then-not-contains
 returns-then-not-contains c = one_does_not (has_resource c.args.b.now) c.args.a.now c.loop-k.k c.in-Some.resource.now (sym c.in-Some.ensures) c.loop-k.invariant (sym c.contains.ensures ∙ c.if-not-contains.true)

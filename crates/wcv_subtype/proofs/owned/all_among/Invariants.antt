@@ -1,7 +1,7 @@
 use Rattle.std.proofs.Common.{◌≡◌, drop}
 use Rattle.std.specs.List.{list_all}
 use Rattle.wcv_types.specs.Sets.{has_resource}
-use Rattle.wcv_subtype.proofs.passes.all_among.Given as goal
+use Rattle.wcv_subtype.proofs.owned.all_among.Given as goal
 
 -- what is left decides
 abbrev pub invariant-loop-k : goal.invariant-loop-k

@@ -4,7 +4,7 @@ use Rattle.wcv_subtype.specs.Extent.{walks}
 use Rattle.wcv_subtype.specs.IdCounterparts.{lands_on, AreExports}
 use Rattle.wcv_subtype.specs.IdPasses.{named_trees}
 use Rattle.wcv_subtype.proofs.OwnPaths.{landing}
-use Rattle.wcv_subtype.proofs.counterparts.counterparts_in.Given as goal
+use Rattle.wcv_subtype.proofs.counterparts.push_counterparts.Given as goal
 
 -- those before are in the list, and what the others take is left of the steps
 abbrev pub invariant-loop-k : goal.invariant-loop-k

@@ -1,7 +1,7 @@
 use Rattle.std.proofs.Common.{arith}
 use Rattle.wcv_subtype.proofs.Extents.{instance_extent}
 use Rattle.wcv_subtype.proofs.PassIds.{instance_stands}
-use Rattle.wcv_subtype.proofs.comparisons.unfit_instance.Goals as goal
+use Rattle.wcv_subtype.proofs.comparisons.unfit_export.Goals as goal
 
 pub first_unfit-requires-clause-a : goal.first_unfit-requires-clause-a
 first_unfit-requires-clause-a g c = instance_stands c.args.types.now c.args.a.index c.visited-x.result.now c.visited-x.ensures.before
