@@ -31,7 +31,7 @@ one_left k (json.member l j ms) e h =
     let rest = one_left k ms (data_of j) (and_right _ _ h) in
     (rest.0, ap (λ (found : Members). members ms found) (ap (λ x. put x (data_of j) (member k e no_members)) same ∙ put_over k (data_of j) e) ∙ rest.1)
 
-sole_found : (k : List ℕ) (j : json.Json) (ms : json.Members) (o : Option Data) → has_only (k ∷ []) (data_of (json.object (json.member k j ms))) ≡ true
+pub sole_found : (k : List ℕ) (j : json.Json) (ms : json.Members) (o : Option Data) → has_only (k ∷ []) (data_of (json.object (json.member k j ms))) ≡ true
     → o ≡ get k (data_of (json.object (json.member k j ms))) → option_map (λ e. (k, e)) o ≡ sole (data_of (json.object (json.member k j ms)))
 sole_found k j ms o h e =
     let among : keys_among (k ∷ []) (json.member k j ms) ≡ true = sym (only_keys_data (k ∷ []) (json.member k j ms)) ∙ h in
@@ -43,6 +43,10 @@ pub sole_is : (whole : json.Json) (all ms : json.Members) (k : List ℕ) (j : js
     → o ≡ get k (data_of whole) → option_map (λ e. (k, e)) o ≡ sole (data_of whole)
 sole_is whole all ms k j o is first =
     subst (λ w. has_only (k ∷ []) (data_of w) ≡ true → o ≡ get k (data_of w) → option_map (λ e. (k, e)) o ≡ sole (data_of w)) (sym (is ∙ ap json.object first)) (sole_found k j ms o)
+
+-- no other member stands beside the first
+pub one_sole : (whole : json.Json) (all ms : json.Members) (k : List ℕ) (j : json.Json) → whole ≡ json.object all → all ≡ json.member k j ms → ms ≡ json.no_members → Some (k, data_of j) ≡ sole (data_of whole)
+one_sole whole all ms k j is first done = sym (ap (λ w. sole (data_of w)) (is ∙ ap json.object (first ∙ ap (json.member k j) done)))
 
 none_sole : (k : List ℕ) (j : json.Json) (ms : json.Members) (found : Members) → ((names : List (List ℕ)) → only_keys names found ≡ keys_among names (json.member k j ms)) → only_keys (k ∷ []) found ≡ false → None ≡ sole_of found
 none_sole k j ms no_members all other = refl

@@ -1,11 +1,12 @@
 // Sorts of items, and the body of `alias`.
 ghost use Rattle.std.specs.Prelude.{◌≡◌, IfOk};
 ghost use Rattle.wcv_listing.specs.Aliases.{sort_of, core_sort_of, outer_of, export_alias_of, core_export_alias_of, outer_alias_of, alias_of};
+ghost use Rattle.wcv_listing.specs.Keyed.{under, alias_rows};
 ghost use Rattle.wcv_listing.specs.Seen.{view};
 
 use crate::list::named_in;
 use crate::node::Node;
-use crate::value::{has_only_keys, index_of, member_at, text_of, triple_of};
+use crate::value::{index_of, sole_member, text_of, triple_of};
 use std::alloc::Global;
 use wcv_core::{OutOfMemory, Text};
 use wcv_syntax::{ComponentAlias, ComponentExternalKind, ComponentOuterAliasKind, ExternalKind};
@@ -131,23 +132,28 @@ fn read_outer_alias(value: Node<'_, '_>) -> Option<ComponentAlias>
     Some(ComponentAlias::Outer { kind, count, index })
 }
 
+// What stands under the only key of the body of `alias`.
+fn read_alias_under(
+    alloc: Global,
+    key: &str,
+    body: Node<'_, '_>,
+) -> Result<Option<ComponentAlias>, OutOfMemory>
+    ensures { IfOk result (λ alias. alias ≡ under alias_rows key.now (view body.entry)) }
+{
+    match key {
+        "export" => read_export_alias(alloc, body),
+        "core-export" => read_core_export_alias(alloc, body),
+        "outer" => Ok(read_outer_alias(body)),
+        _ => Ok(None),
+    }
+}
+
 /// The body of `alias`.
 pub fn read_alias(alloc: Global, value: Node<'_, '_>) -> Result<Option<ComponentAlias>, OutOfMemory>
     ensures { IfOk result (λ alias. alias ≡ alias_of (view value.entry)) }
 {
-    if has_only_keys(value, &["export"]) {
-        let Some(body) = member_at(value, "export") else {
-            return Ok(None);
-        };
-        read_export_alias(alloc, body)
-    } else if has_only_keys(value, &["core-export"]) {
-        let Some(body) = member_at(value, "core-export") else {
-            return Ok(None);
-        };
-        read_core_export_alias(alloc, body)
-    } else if has_only_keys(value, &["outer"]) {
-        Ok(member_at(value, "outer").and_then(read_outer_alias))
-    } else {
-        Ok(None)
+    match sole_member(value) {
+        Some((key, body)) => read_alias_under(alloc, key, body),
+        None => Ok(None),
     }
 }

@@ -1,13 +1,13 @@
 // What core modules import and export.
-ghost use Rattle.std.specs.Prelude.{◌≡◌, ℕ, Option, codes, map, option_map};
+ghost use Rattle.std.specs.Prelude.{◌≡◌, ℕ, Option, codes};
 ghost use Rattle.serde_json.specs.Find.{get};
-ghost use Rattle.wcv_listing.specs.CoreForms.{table_of, page_of, memory_of, global_of, entity_forms, entity_under, entity_of};
-ghost use Rattle.wcv_listing.specs.Fields.{both, natural, natural_in, only_key, optional};
+ghost use Rattle.wcv_listing.specs.CoreForms.{table_of, page_of, memory_of, global_of, entity_under, entity_of};
+ghost use Rattle.wcv_listing.specs.Fields.{both, natural, natural_in, optional};
 ghost use Rattle.wcv_listing.specs.Seen.{view};
 
 use crate::core_value::{marks_at, read_core_value, read_ref_type};
 use crate::node::Node;
-use crate::value::{has_only_keys, index_of, member_at, natural_at, natural_of, only_key_of};
+use crate::value::{has_only_keys, index_of, member_at, natural_at, natural_of, sole_member};
 use wcv_core::{GlobalType, MemoryType, TableType};
 use wcv_syntax::TypeRef;
 
@@ -114,13 +114,6 @@ fn read_global(value: Node<'_, '_>) -> Option<GlobalType>
     })
 }
 
-// The sort that is the only key of the object.
-fn sort_name(value: Node<'_, '_>) -> Option<&'static str>
-    ensures { option_map (λ name. name.now) result ≡ only_key (map (λ row. row.0) entity_forms) (view value.entry) }
-{
-    only_key_of(value, &["func", "tag", "table", "memory", "global"])
-}
-
 // What stands under the name of a sort.
 fn read_under(name: &str, body: Node<'_, '_>) -> Option<TypeRef>
     ensures { result ≡ entity_under name.now (view body.entry) }
@@ -139,6 +132,8 @@ fn read_under(name: &str, body: Node<'_, '_>) -> Option<TypeRef>
 pub fn read_entity(value: Node<'_, '_>) -> Option<TypeRef>
     ensures { result ≡ entity_of (view value.entry) }
 {
-    let name = sort_name(value)?;
-    read_under(name, member_at(value, name)?)
+    match sole_member(value) {
+        Some((key, body)) => read_under(key, body),
+        None => None,
+    }
 }

@@ -1,8 +1,8 @@
 // Defined types.
-ghost use Rattle.std.specs.Prelude.{◌≡◌, IfOk, map, drop, option_map};
+ghost use Rattle.std.specs.Prelude.{◌≡◌, IfOk, drop, option_map};
 ghost use Rattle.serde_json.specs.Find.{as_str};
-ghost use Rattle.wcv_listing.specs.Defined.{case_of, map_of, fixed_list_of, result_of, defined_forms, form_by, form_of, defined_of};
-ghost use Rattle.wcv_listing.specs.Fields.{null_or, only_key};
+ghost use Rattle.wcv_listing.specs.Defined.{case_of, map_of, fixed_list_of, result_of, defined_forms, form_by, form_of, object_of, defined_of};
+ghost use Rattle.wcv_listing.specs.Fields.{null_or};
 ghost use Rattle.wcv_listing.specs.Seen.{view};
 ghost use Rattle.wcv_listing.specs.Values.{value_of};
 ghost use Rattle.wcv_syntax.specs.View.{defined_view};
@@ -10,7 +10,7 @@ ghost use Rattle.wcv_syntax.specs.View.{defined_view};
 use crate::list::{FromValue, read_list};
 use crate::node::Node;
 use crate::value::{
-    has_only_keys, index_of, is_null, member_at, one_or_two_of, only_key_of, pair_of, text_of,
+    has_only_keys, index_of, is_null, one_or_two_of, pair_of, sole_member, text_of,
 };
 use crate::value_type::{optional_type, primitive_of, read_optional, read_params, read_value_type};
 use std::alloc::Global;
@@ -111,31 +111,6 @@ fn read_payload(value: Node<'_, '_>) -> Option<Option<ComponentValType>>
     }
 }
 
-// The form that is the only key of the object.
-fn form_name(value: Node<'_, '_>) -> Option<&'static str>
-    ensures { option_map (λ name. name.now) result ≡ only_key (map (λ row. row.0) defined_forms) (view value.entry) }
-{
-    only_key_of(
-        value,
-        &[
-            "record",
-            "variant",
-            "list",
-            "map",
-            "fixed-list",
-            "tuple",
-            "flags",
-            "enum",
-            "option",
-            "result",
-            "own",
-            "borrow",
-            "future",
-            "stream",
-        ],
-    )
-}
-
 // What stands under the name of a form behind `enum` in the table.
 fn read_late_form(name: &str, body: Node<'_, '_>) -> Option<ComponentDefinedType>
     ensures { option_map defined_view result ≡ form_by (drop 8 defined_forms) name.now (view body.entry) }
@@ -172,6 +147,19 @@ fn read_form(
     }
 }
 
+// A defined type by the only key of an object.
+fn read_object(
+    alloc: Global,
+    value: Node<'_, '_>,
+) -> Result<Option<ComponentDefinedType>, OutOfMemory>
+    ensures { IfOk result (λ ty. option_map defined_view ty ≡ object_of (view value.entry)) }
+{
+    match sole_member(value) {
+        Some((key, body)) => read_form(alloc, key, body),
+        None => Ok(None),
+    }
+}
+
 /// A defined type.
 pub fn read_defined(
     alloc: Global,
@@ -179,14 +167,8 @@ pub fn read_defined(
 ) -> Result<Option<ComponentDefinedType>, OutOfMemory>
     ensures { IfOk result (λ ty. option_map defined_view ty ≡ defined_of (view value.entry)) }
 {
-    if let Some(name) = text_of(value) {
-        return Ok(primitive_of(name).map(ComponentDefinedType::Primitive));
+    match text_of(value) {
+        Some(name) => Ok(primitive_of(name).map(ComponentDefinedType::Primitive)),
+        None => read_object(alloc, value),
     }
-    let Some(name) = form_name(value) else {
-        return Ok(None);
-    };
-    let Some(body) = member_at(value, name) else {
-        return Ok(None);
-    };
-    read_form(alloc, name, body)
 }

@@ -1,6 +1,7 @@
 // Declarations of core modules, and of their types.
 ghost use Rattle.std.specs.Prelude.{◌≡◌, IfOk, option_map};
 ghost use Rattle.wcv_listing.specs.CoreForms.{core_import_of, core_export_of, module_decl_of, core_outer_of, type_decl_of};
+ghost use Rattle.wcv_listing.specs.Keyed.{under, module_decl_rows, type_decl_rows};
 ghost use Rattle.wcv_listing.specs.Seen.{view};
 ghost use Rattle.wcv_syntax.specs.Model.{Module_decl};
 ghost use Rattle.wcv_syntax.specs.View.{module_decl_view, code_decl_view};
@@ -9,7 +10,7 @@ use crate::core_entity::read_entity;
 use crate::list::FromValue;
 use crate::node::Node;
 use crate::sub_type::read_rec;
-use crate::value::{has_only_keys, index_of, member_at, pair_of, text_of, triple_of};
+use crate::value::{index_of, pair_of, sole_member, text_of, triple_of};
 use std::alloc::Global;
 use wcv_core::{OutOfMemory, Text};
 use wcv_syntax::{Import, ModuleDecl, ModuleTypeDeclaration};
@@ -52,6 +53,22 @@ fn read_core_export(alloc: Global, value: Node<'_, '_>) -> Result<Option<ModuleD
     Ok(Some(ModuleDecl::Export { name, ty }))
 }
 
+// What stands under the only key of a declaration of a core module.
+fn read_decl_under(
+    alloc: Global,
+    key: &str,
+    body: Node<'_, '_>,
+) -> Result<Option<ModuleDecl>, OutOfMemory>
+    ensures { IfOk result (λ decl. option_map code_decl_view decl ≡ under module_decl_rows key.now (view body.entry)) }
+{
+    match key {
+        "type" => Ok(read_rec(alloc, body)?.map(ModuleDecl::Ty)),
+        "import" => Ok(read_core_import(alloc, body)?.map(ModuleDecl::Import)),
+        "export" => read_core_export(alloc, body),
+        _ => Ok(None),
+    }
+}
+
 // A declaration of a core module.
 impl FromValue for ModuleDecl {
     ghost Form = { Module_decl };
@@ -61,23 +78,9 @@ impl FromValue for ModuleDecl {
     ghost meant = { module_decl_of };
 
     fn from_value(alloc: Global, value: Node<'_, '_>) -> Result<Option<ModuleDecl>, OutOfMemory> {
-        if has_only_keys(value, &["type"]) {
-            let Some(body) = member_at(value, "type") else {
-                return Ok(None);
-            };
-            Ok(read_rec(alloc, body)?.map(ModuleDecl::Ty))
-        } else if has_only_keys(value, &["import"]) {
-            let Some(body) = member_at(value, "import") else {
-                return Ok(None);
-            };
-            Ok(read_core_import(alloc, body)?.map(ModuleDecl::Import))
-        } else if has_only_keys(value, &["export"]) {
-            let Some(body) = member_at(value, "export") else {
-                return Ok(None);
-            };
-            read_core_export(alloc, body)
-        } else {
-            Ok(None)
+        match sole_member(value) {
+            Some((key, body)) => read_decl_under(alloc, key, body),
+            None => Ok(None),
         }
     }
 }
@@ -98,6 +101,20 @@ fn read_core_outer(value: Node<'_, '_>) -> Option<ModuleTypeDeclaration>
     Some(ModuleTypeDeclaration::OuterAlias { count, index })
 }
 
+// What stands under the only key of a declaration of the type of a core module.
+fn read_type_decl_under(
+    alloc: Global,
+    key: &str,
+    body: Node<'_, '_>,
+) -> Result<Option<ModuleTypeDeclaration>, OutOfMemory>
+    ensures { IfOk result (λ decl. option_map module_decl_view decl ≡ under type_decl_rows key.now (view body.entry)) }
+{
+    match key {
+        "alias" => Ok(read_core_outer(body)),
+        _ => Ok(read_decl_under(alloc, key, body)?.map(ModuleDecl::in_module_type)),
+    }
+}
+
 // A declaration of the type of a core module.
 impl FromValue for ModuleTypeDeclaration {
     ghost Form = { Module_decl };
@@ -110,10 +127,9 @@ impl FromValue for ModuleTypeDeclaration {
         alloc: Global,
         value: Node<'_, '_>,
     ) -> Result<Option<ModuleTypeDeclaration>, OutOfMemory> {
-        if has_only_keys(value, &["alias"]) {
-            Ok(member_at(value, "alias").and_then(read_core_outer))
-        } else {
-            Ok(ModuleDecl::from_value(alloc, value)?.map(ModuleDecl::in_module_type))
+        match sole_member(value) {
+            Some((key, body)) => read_type_decl_under(alloc, key, body),
+            None => Ok(None),
         }
     }
 }

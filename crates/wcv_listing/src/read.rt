@@ -13,7 +13,7 @@ use std::alloc::{AllocError, AllocFailed};
 use wcv_core::OutOfMemory;
 
 /// Why a text was not parsed: it is no JSON, or it ran out of memory.
-#[derive(Clone, Copy, Debug, Drop, PartialEq, Eq)]
+#[derive(Clone, Copy, Drop)]
 pub enum ParseError {
     NotJson,
     OutOfMemory,

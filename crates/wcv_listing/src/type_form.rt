@@ -1,12 +1,11 @@
 // The body of `type`, with the declarations of component types and instance types.
-ghost use Rattle.std.specs.Prelude.{◌≡◌, IfOk, map, option_map, option_and_then, codes};
-ghost use Rattle.serde_json.specs.Find.{get};
-ghost use Rattle.wcv_listing.specs.Aliases.{alias_of};
+ghost use Rattle.std.specs.Prelude.{◌≡◌, IfOk, map, option_map};
 ghost use Rattle.wcv_listing.specs.CoreForms.{core_type_of};
 ghost use Rattle.wcv_listing.specs.Fields.{array_of};
-ghost use Rattle.wcv_listing.specs.Forms.{import_of, resource_of, plain_type_of, declared_export, plain_decl_of, instance_decl_of, component_decl_of, type_over, type_within, type_of};
+ghost use Rattle.wcv_listing.specs.Forms.{import_of, resource_of, declared_export, instance_decl_of, component_decl_of, type_over, type_within, type_of};
+ghost use Rattle.wcv_listing.specs.Keyed.{under, plain_decl_rows, instance_decl_rows, component_decl_rows, plain_type_rows, type_rows};
 ghost use Rattle.wcv_listing.specs.Seen.{view};
-ghost use Rattle.wcv_syntax.specs.Model.{core_type_decl, alias_decl, import_decl};
+ghost use Rattle.wcv_syntax.specs.Model.{core_type_decl, import_decl};
 ghost use Rattle.wcv_syntax.specs.View.{type_view, component_decl_view, instance_decl_view};
 
 use crate::alias::read_alias;
@@ -16,7 +15,7 @@ use crate::defined::read_defined;
 use crate::forms::read_import;
 use crate::func::read_func;
 use crate::node::Node;
-use crate::value::{has_only_keys, index_of, list_of, member_at, room_of};
+use crate::value::{has_only_keys, index_of, list_of, member_at, room_of, sole_member};
 use std::alloc::Global;
 use wcv_core::OutOfMemory;
 use wcv_syntax::{
@@ -51,7 +50,6 @@ fn read_type_within(
 
 // A type over types nested at most so deep.
 #[cycle(types)]
-#[tactic(auto, using(crate::proofs::Made::component_made, crate::proofs::Made::instance_made))]
 fn read_type_over(
     alloc: Global,
     value: Node<'_, '_>,
@@ -59,18 +57,27 @@ fn read_type_over(
 ) -> Result<Option<ComponentType>, OutOfMemory>
     ensures { IfOk result (λ ty. option_map type_view ty ≡ type_over (type_within depth) (view value.entry)) }
 {
-    if has_only_keys(value, &["component"]) {
-        let Some(body) = member_at(value, "component") else {
-            return Ok(None);
-        };
-        Ok(read_component_decls(alloc, body, depth)?.map(ComponentType::Component))
-    } else if has_only_keys(value, &["instance"]) {
-        let Some(body) = member_at(value, "instance") else {
-            return Ok(None);
-        };
-        Ok(read_instance_decls(alloc, body, depth)?.map(ComponentType::Instance))
-    } else {
-        read_plain_type(alloc, value)
+    match sole_member(value) {
+        Some((key, body)) => read_type_under(alloc, key, body, depth),
+        None => Ok(None),
+    }
+}
+
+// What stands under the only key of a type, in which types nest at most so deep.
+#[cycle(types)]
+#[tactic(auto, using(crate::proofs::Made::component_made, crate::proofs::Made::instance_made))]
+fn read_type_under(
+    alloc: Global,
+    key: &str,
+    body: Node<'_, '_>,
+    depth: usize,
+) -> Result<Option<ComponentType>, OutOfMemory>
+    ensures { IfOk result (λ ty. option_map type_view ty ≡ under (type_rows (type_within depth)) key.now (view body.entry)) }
+{
+    match key {
+        "component" => Ok(read_component_decls(alloc, body, depth)?.map(ComponentType::Component)),
+        "instance" => Ok(read_instance_decls(alloc, body, depth)?.map(ComponentType::Instance)),
+        _ => read_plain_type(alloc, key, body),
     }
 }
 
@@ -129,16 +136,32 @@ fn read_component_decl(
 ) -> Result<Option<ComponentTypeDeclaration>, OutOfMemory>
     ensures { IfOk result (λ decl. option_map component_decl_view decl ≡ component_decl_of (type_within depth) (view value.entry)) }
 {
-    if has_only_keys(value, &["import"]) {
-        read_import_decl(alloc, value)
-    } else {
-        Ok(read_instance_decl(alloc, value, depth)?.map(InstanceTypeDeclaration::in_component_type))
+    match sole_member(value) {
+        Some((key, body)) => read_component_decl_under(alloc, key, body, depth),
+        None => Ok(None),
+    }
+}
+
+// What stands under its only key.
+#[cycle(types)]
+fn read_component_decl_under(
+    alloc: Global,
+    key: &str,
+    body: Node<'_, '_>,
+    depth: usize,
+) -> Result<Option<ComponentTypeDeclaration>, OutOfMemory>
+    ensures { IfOk result (λ decl. option_map component_decl_view decl ≡ under (component_decl_rows (type_within depth)) key.now (view body.entry)) }
+{
+    match key {
+        "import" => read_import_decl(alloc, body),
+        _ => Ok(read_instance_decl_under(alloc, key, body, depth)?.map(
+            InstanceTypeDeclaration::in_component_type,
+        )),
     }
 }
 
 // A declaration of an instance type, in which types nest at most so deep.
 #[cycle(types)]
-#[tactic(auto, using(crate::proofs::Made::instance_ty_made))]
 fn read_instance_decl(
     alloc: Global,
     value: Node<'_, '_>,
@@ -146,15 +169,27 @@ fn read_instance_decl(
 ) -> Result<Option<InstanceTypeDeclaration>, OutOfMemory>
     ensures { IfOk result (λ decl. option_map instance_decl_view decl ≡ instance_decl_of (type_within depth) (view value.entry)) }
 {
-    if has_only_keys(value, &["core-type"]) {
-        read_core_type_decl(alloc, value)
-    } else if has_only_keys(value, &["type"]) {
-        let Some(body) = member_at(value, "type") else {
-            return Ok(None);
-        };
-        Ok(read_type_within(alloc, body, depth)?.map(InstanceTypeDeclaration::Ty))
-    } else {
-        read_plain_decl(alloc, value)
+    match sole_member(value) {
+        Some((key, body)) => read_instance_decl_under(alloc, key, body, depth),
+        None => Ok(None),
+    }
+}
+
+// What stands under its only key.
+#[cycle(types)]
+#[tactic(auto, using(crate::proofs::Made::instance_ty_made))]
+fn read_instance_decl_under(
+    alloc: Global,
+    key: &str,
+    body: Node<'_, '_>,
+    depth: usize,
+) -> Result<Option<InstanceTypeDeclaration>, OutOfMemory>
+    ensures { IfOk result (λ decl. option_map instance_decl_view decl ≡ under (instance_decl_rows (type_within depth)) key.now (view body.entry)) }
+{
+    match key {
+        "core-type" => read_core_type_decl(alloc, body),
+        "type" => Ok(read_type_within(alloc, body, depth)?.map(InstanceTypeDeclaration::Ty)),
+        _ => read_plain_decl(alloc, key, body),
     }
 }
 
@@ -173,56 +208,26 @@ fn as_export(body: ComponentImport) -> InstanceTypeDeclaration
 #[tactic(auto, using(crate::proofs::Made::instance_core_type_made))]
 fn read_core_type_decl(
     alloc: Global,
-    value: Node<'_, '_>,
+    body: Node<'_, '_>,
 ) -> Result<Option<InstanceTypeDeclaration>, OutOfMemory>
-    ensures { IfOk result (λ decl. option_map instance_decl_view decl ≡ option_map core_type_decl (option_and_then core_type_of (get (codes "core-type") (view value.entry)))) }
+    ensures { IfOk result (λ decl. option_map instance_decl_view decl ≡ option_map core_type_decl (core_type_of (view body.entry))) }
 {
-    let Some(body) = member_at(value, "core-type") else {
-        return Ok(None);
-    };
     Ok(read_core_type(alloc, body)?.map(InstanceTypeDeclaration::CoreType))
 }
 
-// A declared export.
-fn read_export_decl(
-    alloc: Global,
-    value: Node<'_, '_>,
-) -> Result<Option<InstanceTypeDeclaration>, OutOfMemory>
-    ensures { IfOk result (λ decl. option_map instance_decl_view decl ≡ option_map declared_export (option_and_then import_of (get (codes "export") (view value.entry)))) }
-{
-    let Some(body) = member_at(value, "export") else {
-        return Ok(None);
-    };
-    Ok(read_import(alloc, body)?.map(as_export))
-}
-
-// A declared alias.
+// What stands under the only key of a declared export or alias.
 #[tactic(auto, using(crate::proofs::Made::instance_alias_made))]
-fn read_alias_decl(
-    alloc: Global,
-    value: Node<'_, '_>,
-) -> Result<Option<InstanceTypeDeclaration>, OutOfMemory>
-    ensures { IfOk result (λ decl. option_map instance_decl_view decl ≡ option_map alias_decl (option_and_then alias_of (get (codes "alias") (view value.entry)))) }
-{
-    let Some(body) = member_at(value, "alias") else {
-        return Ok(None);
-    };
-    Ok(read_alias(alloc, body)?.map(InstanceTypeDeclaration::Alias))
-}
-
-// A declared export or alias.
 fn read_plain_decl(
     alloc: Global,
-    value: Node<'_, '_>,
+    key: &str,
+    body: Node<'_, '_>,
 ) -> Result<Option<InstanceTypeDeclaration>, OutOfMemory>
-    ensures { IfOk result (λ decl. option_map instance_decl_view decl ≡ plain_decl_of (view value.entry)) }
+    ensures { IfOk result (λ decl. option_map instance_decl_view decl ≡ under plain_decl_rows key.now (view body.entry)) }
 {
-    if has_only_keys(value, &["export"]) {
-        read_export_decl(alloc, value)
-    } else if has_only_keys(value, &["alias"]) {
-        read_alias_decl(alloc, value)
-    } else {
-        Ok(None)
+    match key {
+        "export" => Ok(read_import(alloc, body)?.map(as_export)),
+        "alias" => Ok(read_alias(alloc, body)?.map(InstanceTypeDeclaration::Alias)),
+        _ => Ok(None),
     }
 }
 
@@ -230,35 +235,27 @@ fn read_plain_decl(
 #[tactic(auto, using(crate::proofs::Made::component_import_made))]
 fn read_import_decl(
     alloc: Global,
-    value: Node<'_, '_>,
+    body: Node<'_, '_>,
 ) -> Result<Option<ComponentTypeDeclaration>, OutOfMemory>
-    ensures { IfOk result (λ decl. option_map component_decl_view decl ≡ option_map import_decl (option_and_then import_of (get (codes "import") (view value.entry)))) }
+    ensures { IfOk result (λ decl. option_map component_decl_view decl ≡ option_map import_decl (import_of (view body.entry))) }
 {
-    let Some(body) = member_at(value, "import") else {
-        return Ok(None);
-    };
     Ok(read_import(alloc, body)?.map(ComponentTypeDeclaration::Import))
 }
 
-// A type without declarations.
+// What stands under the only key of a type without declarations.
 #[tactic(auto, using(crate::proofs::Made::type_made, crate::proofs::Made::defined_made))]
-fn read_plain_type(alloc: Global, value: Node<'_, '_>) -> Result<Option<ComponentType>, OutOfMemory>
-    ensures { IfOk result (λ ty. option_map type_view ty ≡ plain_type_of (view value.entry)) }
+fn read_plain_type(
+    alloc: Global,
+    key: &str,
+    body: Node<'_, '_>,
+) -> Result<Option<ComponentType>, OutOfMemory>
+    ensures { IfOk result (λ ty. option_map type_view ty ≡ under plain_type_rows key.now (view body.entry)) }
 {
-    if has_only_keys(value, &["func"]) {
-        let Some(body) = member_at(value, "func") else {
-            return Ok(None);
-        };
-        Ok(read_func(alloc, body)?.map(ComponentType::Func))
-    } else if has_only_keys(value, &["defined"]) {
-        let Some(body) = member_at(value, "defined") else {
-            return Ok(None);
-        };
-        Ok(read_defined(alloc, body)?.map(ComponentType::Defined))
-    } else if has_only_keys(value, &["resource"]) {
-        Ok(member_at(value, "resource").and_then(read_resource))
-    } else {
-        Ok(None)
+    match key {
+        "func" => Ok(read_func(alloc, body)?.map(ComponentType::Func)),
+        "defined" => Ok(read_defined(alloc, body)?.map(ComponentType::Defined)),
+        "resource" => Ok(read_resource(body)),
+        _ => Ok(None),
     }
 }
 

@@ -1,10 +1,13 @@
-use Rattle.std.proofs.Common.{◌≡◌, ◌-◌, ap, ◌∙◌, sym, option_map, arith, rules}
+use Rattle.std.proofs.Common.{◌≡◌, ◌-◌, Some, None, ap, ◌∙◌, sym, option_map, arith, rules}
 use Rattle.serde_json.specs.Data.{no_items, item}
 use Rattle.wcv_syntax.specs.View.{type_view, component_decl_view, instance_decl_view}
-use Rattle.wcv_listing.specs.Forms.{component_decl_of, instance_decl_of, type_within}
+use Rattle.wcv_listing.specs.Fields.{sole}
+use Rattle.wcv_listing.specs.Forms.{component_decl_of, instance_decl_of, type_over, type_within}
+use Rattle.wcv_listing.specs.Keyed.{under, type_rows, component_decl_rows, instance_decl_rows}
 use Rattle.wcv_listing.specs.Parsed.{items}
-use Rattle.wcv_listing.specs.Seen.{view, list_view}
+use Rattle.wcv_listing.specs.Seen.{view, json_view, list_view}
 use Rattle.wcv_listing.proofs.Grown.{if_ok}
+use Rattle.wcv_listing.proofs.Keyed.{none_is, some_is, type_by_key, component_decl_by_key, instance_decl_by_key}
 use Rattle.wcv_listing.proofs.Lists.{one_more, no_more, none_read}
 use Rattle.wcv_listing.proofs.Nested.{none_within, over_within}
 use Rattle.wcv_listing.proofs.type_form.+types.Goals as goal
@@ -49,3 +52,33 @@ pub read_instance_decls-returns : goal.read_instance_decls-returns
 read_instance_decls-returns t c =
     let end : list_view c.loop-item.values ≡ no_items = search rules in
     no_more instance_decl_view (instance_decl_of (type_within c.args.depth)) _ (list_view c.loop-item.values) c.loop-item.list.items end c.loop-item.invariant
+
+pub read_type_over-returns-in-Some : goal.read_type_over-returns-in-Some
+read_type_over-returns-in-Some t c =
+    let some : Some (c.in-Some.key.now, view c.in-Some.body) ≡ sole (view c.args.value) = search rules in
+    if_ok c.read_type_under.result (λ x h. some_is (λ k b. under (type_rows (type_within c.args.depth)) k b) (view c.args.value) (type_over (type_within c.args.depth) (view c.args.value)) (type_by_key (type_within c.args.depth) (json_view c.args.value)) c.in-Some.key.now (view c.in-Some.body) (option_map type_view x) some h) c.read_type_under.ensures
+
+pub read_type_over-returns-in-None : goal.read_type_over-returns-in-None
+read_type_over-returns-in-None t c =
+    let none : None ≡ sole (view c.args.value) = search rules in
+    none_is (λ k b. under (type_rows (type_within c.args.depth)) k b) (view c.args.value) (type_over (type_within c.args.depth) (view c.args.value)) (type_by_key (type_within c.args.depth) (json_view c.args.value)) none
+
+pub read_component_decl-returns-in-Some : goal.read_component_decl-returns-in-Some
+read_component_decl-returns-in-Some t c =
+    let some : Some (c.in-Some.key.now, view c.in-Some.body) ≡ sole (view c.args.value) = search rules in
+    if_ok c.read_component_decl_under.result (λ x h. some_is (λ k b. under (component_decl_rows (type_within c.args.depth)) k b) (view c.args.value) (component_decl_of (type_within c.args.depth) (view c.args.value)) (component_decl_by_key (type_within c.args.depth) (json_view c.args.value)) c.in-Some.key.now (view c.in-Some.body) (option_map component_decl_view x) some h) c.read_component_decl_under.ensures
+
+pub read_component_decl-returns-in-None : goal.read_component_decl-returns-in-None
+read_component_decl-returns-in-None t c =
+    let none : None ≡ sole (view c.args.value) = search rules in
+    none_is (λ k b. under (component_decl_rows (type_within c.args.depth)) k b) (view c.args.value) (component_decl_of (type_within c.args.depth) (view c.args.value)) (component_decl_by_key (type_within c.args.depth) (json_view c.args.value)) none
+
+pub read_instance_decl-returns-in-Some : goal.read_instance_decl-returns-in-Some
+read_instance_decl-returns-in-Some t c =
+    let some : Some (c.in-Some.key.now, view c.in-Some.body) ≡ sole (view c.args.value) = search rules in
+    if_ok c.read_instance_decl_under.result (λ x h. some_is (λ k b. under (instance_decl_rows (type_within c.args.depth)) k b) (view c.args.value) (instance_decl_of (type_within c.args.depth) (view c.args.value)) (instance_decl_by_key (type_within c.args.depth) (json_view c.args.value)) c.in-Some.key.now (view c.in-Some.body) (option_map instance_decl_view x) some h) c.read_instance_decl_under.ensures
+
+pub read_instance_decl-returns-in-None : goal.read_instance_decl-returns-in-None
+read_instance_decl-returns-in-None t c =
+    let none : None ≡ sole (view c.args.value) = search rules in
+    none_is (λ k b. under (instance_decl_rows (type_within c.args.depth)) k b) (view c.args.value) (instance_decl_of (type_within c.args.depth) (view c.args.value)) (instance_decl_by_key (type_within c.args.depth) (json_view c.args.value)) none

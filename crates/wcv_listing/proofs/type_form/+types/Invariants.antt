@@ -6,22 +6,31 @@ use Rattle.wcv_listing.specs.Seen.{view, list_view}
 use Rattle.wcv_listing.proofs.type_form.+types.Given as goal
 
 abbrev pub decreases-read_type_within : goal.decreases-read_type_within
-decreases-read_type_within l = 5 * l.depth
+decreases-read_type_within l = 7 * l.depth
 
 abbrev pub decreases-read_type_over : goal.decreases-read_type_over
-decreases-read_type_over l = 5 * l.depth + 4
+decreases-read_type_over l = 7 * l.depth + 6
 
-abbrev pub decreases-read_instance_decl : goal.decreases-read_instance_decl
-decreases-read_instance_decl l = 5 * l.depth + 1
-
-abbrev pub decreases-read_component_decl : goal.decreases-read_component_decl
-decreases-read_component_decl l = 5 * l.depth + 2
-
-abbrev pub decreases-read_instance_decls : goal.decreases-read_instance_decls
-decreases-read_instance_decls l = 5 * l.depth + 3
+abbrev pub decreases-read_type_under : goal.decreases-read_type_under
+decreases-read_type_under l = 7 * l.depth + 5
 
 abbrev pub decreases-read_component_decls : goal.decreases-read_component_decls
-decreases-read_component_decls l = 5 * l.depth + 3
+decreases-read_component_decls l = 7 * l.depth + 4
+
+abbrev pub decreases-read_instance_decls : goal.decreases-read_instance_decls
+decreases-read_instance_decls l = 7 * l.depth + 4
+
+abbrev pub decreases-read_component_decl : goal.decreases-read_component_decl
+decreases-read_component_decl l = 7 * l.depth + 3
+
+abbrev pub decreases-read_component_decl_under : goal.decreases-read_component_decl_under
+decreases-read_component_decl_under l = 7 * l.depth + 2
+
+abbrev pub decreases-read_instance_decl : goal.decreases-read_instance_decl
+decreases-read_instance_decl l = 7 * l.depth + 2
+
+abbrev pub decreases-read_instance_decl_under : goal.decreases-read_instance_decl_under
+decreases-read_instance_decl_under l = 7 * l.depth + 1
 
 abbrev pub invariant-read_component_decls-loop-item : goal.invariant-read_component_decls-loop-item
 invariant-read_component_decls-loop-item l =

@@ -10,7 +10,7 @@ returns-in_err-body c =
     let k = c.in_ok-first.first.0.now in
     let only : has_only (k ∷ []) (view c.args.value) ≡ true = search rules in
     let none : None ≡ get k (view c.args.value) = search rules in
-    let is = sole_is (json_view c.args.value) (members_view c.in_ok-members.field-0) (members_view c.in_ok-first.field-0-1) k (json_view c.in_ok-first.first.1) None c.in_ok-members.ensures c.in_ok-first.ensures.value only none in
+    let is = sole_is (json_view c.args.value) (members_view c.in_ok-members.field-0) (members_view c.in_ok-first.rest) k (json_view c.in_ok-first.first.1) None c.in_ok-members.ensures c.in_ok-first.ensures.value only none in
     search (rules, is)
 
 pub returns : goal.returns
@@ -18,4 +18,4 @@ returns c =
     let k = c.in_ok-first.first.0.now in
     let only : has_only (k ∷ []) (view c.args.value) ≡ true = search rules in
     let found : Some (view c.in_ok-body.body) ≡ get k (view c.args.value) = search rules in
-    sole_is (json_view c.args.value) (members_view c.in_ok-members.field-0) (members_view c.in_ok-first.field-0-1) k (json_view c.in_ok-first.first.1) (Some (view c.in_ok-body.body)) c.in_ok-members.ensures c.in_ok-first.ensures.value only found
+    sole_is (json_view c.args.value) (members_view c.in_ok-members.field-0) (members_view c.in_ok-first.rest) k (json_view c.in_ok-first.first.1) (Some (view c.in_ok-body.body)) c.in_ok-members.ensures c.in_ok-first.ensures.value only found

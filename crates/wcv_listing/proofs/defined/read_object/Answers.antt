@@ -1,0 +1,18 @@
+use Rattle.std.proofs.Common.{◌≡◌, Some, None, option_map, rules}
+use Rattle.wcv_listing.specs.Defined.{form_of, object_of}
+use Rattle.wcv_listing.specs.Fields.{sole}
+use Rattle.wcv_listing.specs.Seen.{view, json_view}
+use Rattle.wcv_syntax.specs.View.{defined_view}
+use Rattle.wcv_listing.proofs.Grown.{if_ok}
+use Rattle.wcv_listing.proofs.Keyed.{none_is, some_is, form_by_key}
+use Rattle.wcv_listing.proofs.defined.read_object.Goals as goal
+
+pub returns-in-Some : goal.returns-in-Some
+returns-in-Some c =
+    let some : Some (c.in-Some.key.now, view c.in-Some.body) ≡ sole (view c.args.value) = search rules in
+    if_ok c.read_form.result (λ x h. some_is (λ k b. form_of k b) (view c.args.value) (object_of (view c.args.value)) (form_by_key (json_view c.args.value)) c.in-Some.key.now (view c.in-Some.body) (option_map defined_view x) some h) c.read_form.ensures
+
+pub returns-in-None : goal.returns-in-None
+returns-in-None c =
+    let none : None ≡ sole (view c.args.value) = search rules in
+    none_is (λ k b. form_of k b) (view c.args.value) (object_of (view c.args.value)) (form_by_key (json_view c.args.value)) none

@@ -1,0 +1,19 @@
+use Rattle.std.proofs.Common.{◌≡◌, Some, None, option_map, rules}
+use Rattle.wcv_listing.specs.CoreForms.{type_decl_of}
+use Rattle.wcv_listing.specs.Fields.{sole}
+use Rattle.wcv_listing.specs.Keyed.{under, type_decl_rows}
+use Rattle.wcv_listing.specs.Seen.{view, json_view}
+use Rattle.wcv_syntax.specs.View.{module_decl_view}
+use Rattle.wcv_listing.proofs.Grown.{if_ok}
+use Rattle.wcv_listing.proofs.Keyed.{none_is, some_is, type_decl_by_key}
+use Rattle.wcv_listing.proofs.module_decl.ModuleTypeDeclarationFromValue.from_value.Goals as goal
+
+pub returns-in-Some : goal.returns-in-Some
+returns-in-Some c =
+    let some : Some (c.in-Some.key.now, view c.in-Some.body) ≡ sole (view c.args.value) = search rules in
+    if_ok c.read_type_decl_under.result (λ x h. some_is (λ k b. under type_decl_rows k b) (view c.args.value) (type_decl_of (view c.args.value)) (type_decl_by_key (json_view c.args.value)) c.in-Some.key.now (view c.in-Some.body) (option_map module_decl_view x) some h) c.read_type_decl_under.ensures
+
+pub returns-in-None : goal.returns-in-None
+returns-in-None c =
+    let none : None ≡ sole (view c.args.value) = search rules in
+    none_is (λ k b. under type_decl_rows k b) (view c.args.value) (type_decl_of (view c.args.value)) (type_decl_by_key (json_view c.args.value)) none
