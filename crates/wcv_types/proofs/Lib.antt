@@ -60,3 +60,5 @@ pub mod Needing
 pub mod NeedingValues
 pub mod SameItems
 pub mod SameSeen
+pub mod Retyped
+pub mod SameNames

@@ -1,13 +1,14 @@
 -- With identities aside, a rebuilding that replaces resources alone is a replacing of free resources; and what does not change stays.
 use Rattle.std.proofs.Common.{◌≡◌, Bool, true, false, cond, not, ◌||◌, refl, ap, sym, ◌∙◌, arith}
 use Rattle.std.proofs.Math.Path.{fun_ext}
+use Rattle.std.proofs.lemmas.Bool.{false≢true, or_from}
 use Rattle.std.specs.Prelude.{Option, Some, None}
 use Rattle.wcv_core.specs.Names.{Name, same}
 use Rattle.wcv_core.proofs.Names.{same-true}
 use Rattle.wcv_types.specs.Tree.{Head, resource, Tree, node, Parts, none, part, head}
 use Rattle.wcv_types.specs.Identity.{Identity, identity_at, same_known}
 use Rattle.wcv_types.specs.Rename.{rename_head, rename_parts, no_identity, without_identities}
-use Rattle.wcv_types.specs.Resources.{owns, spare, substitute_head, substitute, substitute_parts}
+use Rattle.wcv_types.specs.Resources.{mentions, mentions_in, owns, spare, substitute_head, substitute, substitute_parts}
 use Rattle.wcv_types.specs.Replacing.{Replacement, given_at, given_or, or_same, new_resource, moved, moves, given_elsewhere, changed, changed_in, new_head, replaced, replaced_in, SparesOwn, SparesOwnIn, GivesSame, GivesSameIn}
 
 abbrev pub aside : {I : Type 0} → Parts Name I → Parts Name (Unit {0})
@@ -99,3 +100,53 @@ module _ (m : Replacement) where
         let e₁ : replaced m t ≡ t = unchanged-stays t s.0 (or_left (changed m t) (changed_in m ps) e) in
         let e₂ : replaced_in m ps ≡ ps = unchanged_in-stays ps s.1 (or_right (changed m t) (changed_in m ps) e) in
         λ j. part k (e₁ j) (e₂ j)
+
+-- ## Where no reference stands, and no node is given
+
+closed_head : (m : Replacement) (h : Head Name Name) (ps : Parts Name Name) → mentions (node h ps) ≡ false → (moves m h ≡ false) × (mentions_in ps ≡ false)
+closed_head m (resource r s) ps e = absurd (false≢true (sym e))
+closed_head m h ps e = (refl, e)
+
+not_given : (o : Option (Tree Name Name)) (u : Tree Name Name) → o ≡ None → o ≡ Some u → ⊥
+not_given o u n e = let f : None ≡ Some u = sym n ∙ e in cc
+
+module _ (m : Replacement) (n : (i : Identity) → m.nodes i ≡ None) where
+  mutual
+    gives-same : (t : Tree Name Name) → GivesSame m t
+    gives-same (node h ps) = ((λ u e k. absurd (not_given (given_at m h) u (none-given m n h) e)), gives_in-same ps)
+
+    gives_in-same : (ps : Parts Name Name) → GivesSameIn m ps
+    gives_in-same none = tt
+    gives_in-same (part k t ps) = (gives-same t, gives_in-same ps)
+
+  mutual
+    pub closed-unchanged : (t : Tree Name Name) → mentions t ≡ false → changed m t ≡ false
+    closed-unchanged (node h ps) e =
+        let w : (moves m h ≡ false) × (mentions_in ps ≡ false) = closed_head m h ps e in
+        ap (λ (o : Option (Tree Name Name)). given_elsewhere o h (moves m h || changed_in m ps)) (none-given m n h) ∙ or_from (moves m h) (changed_in m ps) w.0 (closed_in-unchanged ps w.1)
+
+    closed_in-unchanged : (ps : Parts Name Name) → mentions_in ps ≡ false → changed_in m ps ≡ false
+    closed_in-unchanged none e = refl
+    closed_in-unchanged (part k t ps) e =
+        or_from (changed m t) (changed_in m ps) (closed-unchanged t (or_left (mentions t) (mentions_in ps) e)) (closed_in-unchanged ps (or_right (mentions t) (mentions_in ps) e))
+
+  pub closed-stays : (t : Tree Name Name) → mentions t ≡ false → replaced m t ≡ t
+  closed-stays t e = unchanged-stays m t (gives-same t) (closed-unchanged t e)
+
+  -- where no resource is replaced either, nothing changes
+  module _ (idle : (r : Name) → m.resources r ≡ None) where
+    idle_head : (h : Head Name Name) → moves m h ≡ false
+    idle_head (resource r s) = ap (moved r) (idle r)
+    idle_head h = refl
+
+    mutual
+      idle-unchanged : (t : Tree Name Name) → changed m t ≡ false
+      idle-unchanged (node h ps) =
+          ap (λ (o : Option (Tree Name Name)). given_elsewhere o h (moves m h || changed_in m ps)) (none-given m n h) ∙ λ j. idle_head h j || idle_in-unchanged ps j
+
+      idle_in-unchanged : (ps : Parts Name Name) → changed_in m ps ≡ false
+      idle_in-unchanged none = refl
+      idle_in-unchanged (part k t ps) = λ j. idle-unchanged t j || idle_in-unchanged ps j
+
+    pub idle-stays : (t : Tree Name Name) → replaced m t ≡ t
+    idle-stays t = unchanged-stays m t (gives-same t) (idle-unchanged t)

@@ -40,3 +40,10 @@ EntityStands a x = SlotStands a (entity_slot x)
 
 abbrev pub EntryStands : Arena → Text × ComponentItem → Type 0
 EntryStands a e = EntityStands a e.1.ty
+
+-- ## Other types
+
+-- the same entries with these types
+abbrev pub retyped : List (Text × ComponentItem) → List ComponentEntityType → List (Text × ComponentItem)
+retyped (e ∷ es) (x ∷ xs) = (e.0, record e.1 { ty = x }) ∷ retyped es xs
+retyped _ _ = []

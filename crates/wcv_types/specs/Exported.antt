@@ -30,9 +30,8 @@ core_exports_of (n.Module s) = s.exports
 core_exports_of (n.CoreInstance s) = kind_exports s.kind
 core_exports_of _ = []
 
--- the names of what a node exports
+-- the names of the core items that a node exports
 abbrev pub names_of : Node → List Text
-names_of (n.Instance s) = texts_in s.exports
 names_of (n.Module s) = texts_in s.exports
 names_of (n.CoreInstance s) = texts_in (kind_exports s.kind)
 names_of _ = []

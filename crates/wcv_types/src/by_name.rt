@@ -1,5 +1,5 @@
 // Looking up by text what stands in a list of pairs.
-ghost use Rattle.std.specs.Prelude.{◌≡◌, [], ◌∷◌, ◌++◌, slice_get, option_copied, bytes_eq, IfOk, OnOk};
+ghost use Rattle.std.specs.Prelude.{◌≡◌, [], ◌∷◌, ◌++◌, true, false, slice_get, option_copied, bytes_eq, IfOk, IfSome, OnOk};
 ghost use Rattle.std.specs.BTreeMap.{get};
 ghost use Rattle.std.specs.Map.{lookup};
 ghost use Rattle.std.specs.Ordering.{nat_cmp};
@@ -10,6 +10,7 @@ ghost use Rattle.wcv_types.specs.ByName.{AreFirsts, first_place, texts_in, value
 use std::alloc::Global;
 use std::collections::BTreeMap;
 use std::marker::Model;
+use std::rc::Rc;
 use wcv_core::{OutOfMemory, Text, mix};
 
 /// Whether the text stands at this position.
@@ -131,6 +132,42 @@ pub(crate) fn value_at<V>(entries: &[(Text, V)], place: Option<usize>) -> Option
     }
 }
 
+/// Of up to so many pairs a text is looked up by a walk. That takes about as long as a look-up in a set, and most types
+/// export no more, so they keep no places of their names.
+pub(crate) const MAX_WALKED: usize = 32;
+
+/// The value of the first pair with this text.
+#[tactic(auto, using(crate::proofs::FirstPlaces::found))]
+pub(crate) fn look_up<'a, V>(
+    firsts: &Option<Rc<Firsts>>,
+    entries: &'a [(Text, V)],
+    key: &Text,
+) -> Option<&'a V>
+    requires { IfSome firsts.now (λ f. AreFirsts f.value.by_number f.value.by_bytes (texts_in entries.now)) }
+    ensures { option_copied result ≡ lookup (bytes_eq key.now) entries.now }
+{
+    match firsts {
+        Some(firsts) => value_at(entries, firsts.find(entries, key.as_str())),
+        None => walk(entries, key),
+    }
+}
+
+/// Whether the pairs have the same texts, in the same order.
+pub(crate) fn have_names<V, W>(pairs: &[(Text, V)], others: &[(Text, W)]) -> bool
+    ensures same { result ≡ true → texts_in pairs.now ≡ texts_in others.now }
+    ensures others { result ≡ false → texts_in pairs.now ≡ texts_in others.now → ⊥ }
+{
+    if pairs.len() != others.len() {
+        return false;
+    }
+    for k in 0..pairs.len() {
+        if pairs[k].0.as_str() != others[k].0.as_str() {
+            return false;
+        }
+    }
+    true
+}
+
 /// The pairs of a list, by their texts. Contracts see it as the list.
 ///
 /// It lends the list, and keeps where each text stands first, but no text. So a look-up takes the time of one in a
@@ -138,7 +175,7 @@ pub(crate) fn value_at<V>(entries: &[(Text, V)], place: Option<usize>) -> Option
 #[derive(Drop)]
 pub struct ByName<'a, V> {
     entries: &'a [(Text, V)],
-    firsts: Firsts,
+    firsts: Rc<Firsts>,
 }
 
 impl<'a, V> Model for ByName<'a, V> {
@@ -150,7 +187,7 @@ impl<'a, V> Model for ByName<'a, V> {
 
     ghost view = { λ m. m.entries.now };
 
-    ghost invariant = { λ m. AreFirsts m.firsts.by_number m.firsts.by_bytes (texts_in m.entries.now) };
+    ghost invariant = { λ m. AreFirsts m.firsts.value.by_number m.firsts.value.by_bytes (texts_in m.entries.now) };
 }
 
 impl<'a, V> ByName<'a, V> {
@@ -158,7 +195,19 @@ impl<'a, V> ByName<'a, V> {
     pub fn new(alloc: Global, entries: &'a [(Text, V)]) -> Result<ByName<'a, V>, OutOfMemory>
         ensures { IfOk result (λ m. m ≡ entries.now) }
     {
-        let firsts = firsts_of(alloc, entries)?;
+        let firsts = Rc::new(alloc, firsts_of(alloc, entries)?)?;
+        Ok(ByName { entries, firsts })
+    }
+
+    /// The same, where the places of the texts are known.
+    pub(crate) fn kept(
+        entries: &'a [(Text, V)],
+        firsts: &Rc<Firsts>,
+    ) -> Result<ByName<'a, V>, OutOfMemory>
+        requires { AreFirsts firsts.now.value.by_number firsts.now.value.by_bytes (texts_in entries.now) }
+        ensures { IfOk result (λ m. m ≡ entries.now) }
+    {
+        let firsts = firsts.clone()?;
         Ok(ByName { entries, firsts })
     }
 

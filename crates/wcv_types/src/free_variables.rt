@@ -20,7 +20,7 @@ use crate::unowned::{free_outside, join};
 use wcv_core::OutOfMemory;
 
 /// The place of a node. A resource reference and a core type are none.
-fn place_of(part: Part) -> Option<u64>
+pub(crate) fn place_of(part: Part) -> Option<u64>
     ensures { MatchOption result (rank part ≡ 0) (λ k. rank part ≡ suc k) }
 {
     match part {

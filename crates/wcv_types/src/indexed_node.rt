@@ -5,37 +5,47 @@ ghost use Rattle.wcv_types.specs.ByName.{AreFirsts, texts_in};
 ghost use Rattle.wcv_types.specs.Exported.{items_of, core_exports_of, names_of};
 
 use crate::arena::Node;
-use crate::by_name::{Firsts, firsts_of, value_at, walk};
+use crate::by_name::{Firsts, MAX_WALKED, firsts_of, look_up};
 use crate::core_shapes::CoreInstanceTypeKind;
 use crate::item_map::ComponentItem;
 use std::alloc::Global;
 use std::marker::Model;
+use std::rc::Rc;
 use wcv_core::{EntityType, OutOfMemory, Text};
-
-/// Of up to so many exports a name is looked up by a walk. That takes about as long as a look-up in a set, and most
-/// types export no more, so they keep no places of their names.
-const MAX_WALKED: usize = 32;
 
 /// The places of the names, where they are many.
 fn firsts_of_many<V>(
     alloc: Global,
     entries: &[(Text, V)],
-) -> Result<Option<Box<Firsts>>, OutOfMemory>
+) -> Result<Option<Rc<Firsts>>, OutOfMemory>
     ensures { IfOk result (λ o. IfSome o (λ f. AreFirsts f.value.by_number f.value.by_bytes (texts_in entries.now))) }
 {
     if entries.len() <= MAX_WALKED {
         return Ok(None);
     }
-    let firsts = Box::new(alloc, firsts_of(alloc, entries)?)?;
+    let firsts = Rc::new(alloc, firsts_of(alloc, entries)?)?;
     Ok(Some(firsts))
 }
 
-/// The places of the names that the node exports, where they are many.
-fn firsts_in(alloc: Global, node: &Node) -> Result<Option<Box<Firsts>>, OutOfMemory>
+/// The places of the names in the maps of the node, where they are many, stand there.
+fn index_maps(node: &mut Node) -> Result<(), OutOfMemory>
+    ensures { node.new ≡ node.old }
+{
+    match node {
+        Node::Instance(shape) => shape.exports.index(),
+        Node::Component(shape) => {
+            shape.imports.index()?;
+            shape.exports.index()
+        }
+        _ => Ok(()),
+    }
+}
+
+/// The places of the names of core items that the node exports, where they are many.
+fn firsts_in(alloc: Global, node: &Node) -> Result<Option<Rc<Firsts>>, OutOfMemory>
     ensures { IfOk result (λ o. IfSome o (λ f. AreFirsts f.value.by_number f.value.by_bytes (names_of node.now))) }
 {
     match node {
-        Node::Instance(shape) => firsts_of_many(alloc, shape.exports.as_slice()),
         Node::Module(shape) => firsts_of_many(alloc, shape.exports.as_slice()),
         Node::CoreInstance(shape) => match &shape.kind {
             CoreInstanceTypeKind::Exports(exports) => firsts_of_many(alloc, exports.as_slice()),
@@ -45,29 +55,13 @@ fn firsts_in(alloc: Global, node: &Node) -> Result<Option<Box<Firsts>>, OutOfMem
     }
 }
 
-/// The value of the first pair with this text.
-#[tactic(auto, using(crate::proofs::FirstPlaces::found))]
-fn look_up<'a, V>(
-    firsts: &Option<Box<Firsts>>,
-    entries: &'a [(Text, V)],
-    key: &Text,
-) -> Option<&'a V>
-    requires { IfSome firsts.now (λ f. AreFirsts f.value.by_number f.value.by_bytes (texts_in entries.now)) }
-    ensures { option_copied result ≡ lookup (bytes_eq key.now) entries.now }
-{
-    match firsts {
-        Some(firsts) => value_at(entries, firsts.find(entries, key.as_str())),
-        None => walk(entries, key),
-    }
-}
-
-/// A node and, where it exports many names, their places. Contracts see it as the node.
+/// A node and, where it exports many core items, the places of their names. Contracts see it as the node.
 ///
-/// The places stand apart, since most nodes have none.
+/// The places stand apart, since most nodes have none. Instance types and component types have theirs in their maps.
 #[derive(Drop)]
 pub struct IndexedNode {
     node: Node,
-    firsts: Option<Box<Firsts>>,
+    firsts: Option<Rc<Firsts>>,
 }
 
 impl Model for IndexedNode {
@@ -85,9 +79,10 @@ impl Model for IndexedNode {
 
 impl IndexedNode {
     /// The node with the places of its names.
-    pub fn new(alloc: Global, node: Node) -> Result<IndexedNode, OutOfMemory>
+    pub fn new(alloc: Global, mut node: Node) -> Result<IndexedNode, OutOfMemory>
         ensures { IfOk result (λ x. x ≡ node) }
     {
+        index_maps(&mut node)?;
         let firsts = firsts_in(alloc, &node)?;
         Ok(IndexedNode { node, firsts })
     }
@@ -104,7 +99,7 @@ impl IndexedNode {
         ensures { option_copied result ≡ lookup (bytes_eq name.now) (items_of self.now) }
     {
         match &self.node {
-            Node::Instance(shape) => look_up(&self.firsts, shape.exports.as_slice(), name),
+            Node::Instance(shape) => shape.exports.get(name),
             _ => None,
         }
     }

@@ -2,10 +2,13 @@
 ghost use Rattle.std.specs.Prelude.{◌≡◌, ◌+◌, ◌<◌, [], slice_get, Some, IfOk, OnErr};
 ghost use Rattle.wcv_types.specs.Led.{Led};
 ghost use Rattle.wcv_types.specs.Rebuild.{Refits, Rebuilt};
+ghost use Rattle.wcv_types.specs.Resources.{mentions};
 ghost use Rattle.wcv_types.specs.Standing.{Stands, Unfolds};
 ghost use Rattle.wcv_types.specs.Unfold.{place, parts_at, parts_of, tree_at};
 
 use crate::arena::TypeAlloc;
+use crate::free_variables::place_of;
+use crate::ids::Part;
 use crate::parts::Parts;
 use crate::sorts::{NodeSort, TypeSort};
 use std::marker::Model;
@@ -65,6 +68,11 @@ pub trait NodeStore {
         ensures led { Led (tree_at (arena self.now) (S.as_part id)) }
         ensures counted { steps.new ≡ steps.old + 1 };
 
+    /// Whether a reference to a resource stands in the type. It shows no node.
+    fn mentions_resource(&self, part: Part) -> bool
+        requires { Stands (arena self.now) part }
+        ensures { result ≡ mentions (tree_at (arena self.now) part) };
+
     /// The same type with other parts. It shows no node.
     fn rebuild<S: TypeSort>(&mut self, id: S, parts: &Parts) -> Result<S, OutOfMemory>
         requires stands { Stands (arena self.old) (S.as_part id) }
@@ -86,6 +94,13 @@ impl NodeStore for TypeAlloc {
         steps.tick();
         self.nodes_fit();
         S::node(self, id)
+    }
+
+    fn mentions_resource(&self, part: Part) -> bool {
+        match place_of(part) {
+            Some(place) => self.refers(place),
+            None => matches!(part, Part::Resource(_)),
+        }
     }
 
     fn rebuild<S: TypeSort>(&mut self, id: S, parts: &Parts) -> Result<S, OutOfMemory> {
