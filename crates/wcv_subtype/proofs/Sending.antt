@@ -1,7 +1,10 @@
 -- Entries as contracts see them.
-use Rattle.std.proofs.Common.{◌≡◌, List, [], ◌∷◌, map, refl, sym, ◌∙◌, ap, Bool, true, false, cond, Some, None}
+use Rattle.std.proofs.Common.{◌≡◌, List, [], ◌∷◌, ◌++◌, map, refl, sym, ◌∙◌, ap, Bool, true, false, cond, ◌||◌, Some, None}
+use Rattle.std.proofs.Math.Bool.{or-false}
+use Rattle.std.proofs.lemmas.List.{map-append}
+use Rattle.std.proofs.lemmas.List.Folds.{list_any-append}
 use Rattle.std.specs.Prelude.{Option, option_map}
-use Rattle.std.specs.List.{IsDistinct, AllByRecursion}
+use Rattle.std.specs.List.{IsDistinct, AllByRecursion, list_any}
 use Rattle.std.specs.Map.{keys_of, lookup}
 use Rattle.wcv_types.specs.Unfold.{any_part}
 use Rattle.wcv_types.specs.contracts.ids.ComponentAnyTypeIdPartialEq.TheImpl.{eq-value}
@@ -9,7 +12,7 @@ use Rattle.wcv_types.specs.declared.ids.ComponentAnyTypeId.TheVariants as any
 use Rattle.wcv_types.specs.declared.ids.ComponentAnyTypeId.{ComponentAnyTypeId}
 use Rattle.wcv_types.specs.declared.ids.Part.{Part}
 use Rattle.wcv_types.specs.declared.ids.ResourceId.{ResourceId}
-use Rattle.wcv_subtype.specs.Map.{Sent, Map, sent, sent_to, same_part}
+use Rattle.wcv_subtype.specs.Map.{Sent, Map, gives_types, sent, sent_to, same_part}
 use Rattle.wcv_subtype.specs.declared.map.Kept.{Kept}
 
 abbrev pub Keyed : Type 0
@@ -63,3 +66,12 @@ as_parts (any.Func i) (any.Func j) = refl
 as_parts (any.Instance i) (any.Instance j) = refl
 as_parts (any.Component i) (any.Component j) = refl
 as_parts _ _ = refl
+
+-- ## Whether some type was given
+
+abbrev is_given : Part × Sent → Bool
+is_given e = e.1.given
+
+pub gives_push : (rs : List (ResourceId × ResourceId)) (es : Keyed) (e : ComponentAnyTypeId × Kept) → gives_types (record { resources = rs; types = map sent (es ++ e ∷ []) }) ≡ (gives_types (record { resources = rs; types = map sent es }) || e.1.given)
+gives_push rs es e =
+    ap (list_any is_given) (map-append sent es (e ∷ [])) ∙ list_any-append is_given (map sent es) (sent e ∷ []) ∙ ap (λ (b : Bool). list_any is_given (map sent es) || b) (or-false e.1.given)

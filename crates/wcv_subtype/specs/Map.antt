@@ -1,5 +1,6 @@
 -- What contracts see of a map, and where it sends types.
 use Rattle.std.specs.Prelude.{List, Bool, true, false, ◌&&◌, eqb, Option, Some, None, option_map}
+use Rattle.std.specs.List.{list_any}
 use Rattle.std.specs.Map.{lookup}
 use Rattle.wcv_core.specs.Names.{Name, number}
 use Rattle.wcv_types.specs.Sets.{same_resource}
@@ -20,6 +21,10 @@ pub record Sent : Type 0 where
 pub record Map : Type 0 where
   pub resources : List (ResourceId × ResourceId)
   pub types : List (Part × Sent)
+
+-- some type was given
+abbrev pub gives_types : Map → Bool
+gives_types m = list_any (λ (e : Part × Sent). e.1.given) m.types
 
 -- an entry, by parts
 abbrev pub sent : ComponentAnyTypeId × Kept → Part × Sent

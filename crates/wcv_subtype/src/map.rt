@@ -3,7 +3,7 @@ ghost use Rattle.std.specs.Prelude.{◌≡◌, [], ◌∷◌, ◌++◌, true, fa
 ghost use Rattle.std.specs.List.{IsDistinct};
 ghost use Rattle.std.specs.Map.{keys_of};
 ghost use Rattle.wcv_types.specs.Unfold.{any_part};
-ghost use Rattle.wcv_subtype.specs.Map.{entry, is_type, reference_to, resource_to, same_part, sent_to};
+ghost use Rattle.wcv_subtype.specs.Map.{entry, gives_types, is_type, reference_to, resource_to, same_part, sent_to};
 
 use crate::ids::{id_of, part_of};
 use std::alloc::Global;
@@ -25,15 +25,19 @@ pub struct Kept {
 pub struct Remapping {
     resources: IndexMapAppendOnly<ResourceId, ResourceId>,
     types: IndexMapAppendOnly<ComponentAnyTypeId, Kept>,
+    /// Some type was given.
+    gives: bool,
 }
 
 impl Model for Remapping {
-    ghost use Rattle.std.specs.Prelude.{map};
-    ghost use Rattle.wcv_subtype.specs.Map.{Map, sent};
+    ghost use Rattle.std.specs.Prelude.{◌≡◌, map};
+    ghost use Rattle.wcv_subtype.specs.Map.{Map, gives_types, sent};
 
     ghost Value = { Map };
 
     ghost view = { λ m. record { resources = m.resources; types = map sent m.types } };
+
+    ghost invariant = { λ m. m.gives ≡ gives_types (record { resources = m.resources; types = map sent m.types }) };
 }
 
 impl Remapping {
@@ -44,6 +48,7 @@ impl Remapping {
         Remapping {
             resources: IndexMapAppendOnly::new(alloc),
             types: IndexMapAppendOnly::new(alloc),
+            gives: false,
         }
     }
 
@@ -70,7 +75,9 @@ impl Remapping {
             to: new,
             given: true,
         };
-        self.types.insert(old, kept)
+        self.types.insert(old, kept)?;
+        self.gives = true;
+        Ok(())
     }
 
     /// The reference that comes in the place of one.
@@ -96,6 +103,13 @@ impl Remapping {
         }
     }
 
+    /// Whether some type was given.
+    pub(crate) fn gives_types(&self) -> bool
+        ensures { result ≡ gives_types self.now }
+    {
+        self.gives
+    }
+
     /// The type was looked at, and became the other. Out of memory nothing changes.
     pub(crate) fn keep(&mut self, part: Part, to: Part) -> Result<(), OutOfMemory>
         requires new { entry self.old part ≡ None }
@@ -108,7 +122,8 @@ impl Remapping {
             to: id_of(to),
             given: false,
         };
-        self.types.insert(id_of(part), kept)
+        self.types.insert(id_of(part), kept)?;
+        Ok(())
     }
 
     /// No two entries are of one type. It does nothing.

@@ -306,7 +306,7 @@ pub fn open_instance_type<L: Ledger>(
     let alloc = types.allocator();
     let shape = visited(types, component, steps);
     let _unique = shape.imported_resources.len();
-    let by_name = args.items.by_name(alloc)?;
+    let by_name = args.items.by_name_beside(alloc, &shape.imports)?;
     let found = counterparts_in(
         types,
         &shape.imported_resources,

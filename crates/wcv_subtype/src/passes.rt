@@ -26,7 +26,7 @@ use std::sync::ledger::Ledger;
 use wcv_core::OutOfMemory;
 use wcv_types::{
     ByName, ComponentAnyTypeId, ComponentEntityType, ComponentInstanceTypeId, ComponentItem,
-    ComponentTypeId, ComponentValType, ItemMap, ResourceId, Steps, TypeAlloc,
+    ComponentTypeId, ComponentValType, ItemMap, ResourceId, Steps, TypeAlloc, TypeSort,
 };
 
 /// The type as an entity, where it is no resource.
@@ -149,8 +149,21 @@ fn entries_pass<L: Ledger>(
     passes
 }
 
+/// A function type of up to this size is compared again rather than kept: that takes no longer than to ask for a pair.
+const MAX_UNKEPT: u32 = 16;
+
+/// Whether the entity is a function of a type so small.
+fn is_small(types: &TypeAlloc, ty: ComponentEntityType) -> bool
+    requires { EntityStands types.now ty }
+{
+    match ty {
+        ComponentEntityType::Func(id) => id.info(types).size <= MAX_UNKEPT,
+        _ => false,
+    }
+}
+
 /// Whether the one entity passes with the other: whether they are the same where that is asked, or else whether the
-/// one may stand where the other is expected. A pair that is known to pass is not compared again.
+/// one may stand where the other is expected. A large pair that is known to pass is not compared again.
 #[cycle(passing)]
 pub(crate) fn entity_passes<L: Ledger>(
     types: &TypeAlloc,
@@ -172,6 +185,9 @@ pub(crate) fn entity_passes<L: Ledger>(
     ensures compared { IfOk result (λ passes. PassedIf passes types.now (reads left.old) (reads right.old) compared.new) }
     ensures counted { steps.new ≤ steps.old + (extent (entity_tree (trees types.now.nodes) a) + extent (entity_tree (trees types.now.nodes) b)) }
 {
+    if is_small(types, a) {
+        return entity_compared(types, exact, compared, left, right, level, a, b, steps);
+    }
     if compared.knows(exact, level, a, b) {
         return Ok(true);
     }

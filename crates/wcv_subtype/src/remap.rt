@@ -1,10 +1,11 @@
 // The rebuilding of types under a map.
-ghost use Rattle.std.specs.Prelude.{◌≡◌, true, ◌+◌, ◌++◌, IfOk, OnOk, OnErr};
+ghost use Rattle.std.specs.Prelude.{◌≡◌, true, not, ◌&&◌, ◌+◌, ◌++◌, IfOk, OnOk, OnErr};
 ghost use Rattle.wcv_types.specs.Led.{Led};
 ghost use Rattle.wcv_types.specs.Rebuild.{Refits, MadeAgain};
+ghost use Rattle.wcv_types.specs.Resources.{mentions};
 ghost use Rattle.wcv_types.specs.Standing.{Extends, Stands, Unfolds};
 ghost use Rattle.wcv_types.specs.Unfold.{parts_at, tree_at};
-ghost use Rattle.wcv_subtype.specs.Map.{goes_to, is_node, same_part};
+ghost use Rattle.wcv_subtype.specs.Map.{gives_types, goes_to, is_node, same_part};
 ghost use Rattle.wcv_subtype.specs.Remap.{any_other, HygienicAt, IsInside, Remapped, Settled, Sound};
 
 use crate::map::Remapping;
@@ -142,7 +143,16 @@ fn settle<N: NodeStore>(
     }
 }
 
-/// The type with what the map makes of it. It reads a node only where the map does not have it yet.
+/// Whether the type stays as it is, whatever stands in it: it mentions no resource, and no type was given.
+fn stays<N: NodeStore>(types: &N, part: Part, map: &Remapping) -> bool
+    requires { Stands (N.arena types.now) part }
+    ensures { result ≡ (not (gives_types map.now) && not (mentions (tree_at (N.arena types.now) part))) }
+{
+    !map.gives_types() && !types.mentions_resource(part)
+}
+
+/// The type with what the map makes of it. It reads a node only where the map does not have it yet, and where
+/// something in it may go elsewhere.
 pub fn remap_part<N: NodeStore, L: Ledger>(
     types: &mut N,
     part: Part,
@@ -156,6 +166,9 @@ pub fn remap_part<N: NodeStore, L: Ledger>(
     ensures grown { Extends (N.arena types.old) (N.arena types.new) }
     ensures done { IfOk result (λ to. Remapped (N.arena types.old) (N.arena types.new) map.old map.new steps.old steps.new part to) }
 {
+    if stays(types, part, map) {
+        return Ok(part);
+    }
     if let Some(to) = found(map, part) {
         return Ok(to);
     }

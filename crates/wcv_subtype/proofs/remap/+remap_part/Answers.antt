@@ -1,4 +1,4 @@
-use Rattle.std.proofs.Common.{◌≡◌, List, [], sym, subst, arith, refl}
+use Rattle.std.proofs.Common.{◌≡◌, ◌∙◌, List, [], sym, subst, arith, refl}
 use Rattle.wcv_types.proofs.Grown.{extends_refl, stands_more}
 use Rattle.wcv_types.specs.Unfold.{parts_at, rank}
 use Rattle.wcv_types.specs.declared.ids.Part.{Part}
@@ -7,7 +7,14 @@ use Rattle.wcv_subtype.specs.Remap.{Rebuilding, Remapped}
 use Rattle.wcv_subtype.proofs.Looping.{no_parts_yet, items_are, ready, one_more, all_parts, parts_now, refits_now, all_settled}
 use Rattle.wcv_subtype.proofs.Maps.{still_none}
 use Rattle.wcv_subtype.proofs.Rebuilding.{remapped_found, is_new}
+use Rattle.wcv_subtype.proofs.Sparing.{remapped_stays}
 use Rattle.wcv_subtype.proofs.remap.+remap_part.Goals as goal
+
+pub returns-then-stays-clause-grown : goal.returns-then-stays-clause-grown
+returns-then-stays-clause-grown g t c = extends_refl _
+
+pub returns-then-stays-clause-done : goal.returns-then-stays-clause-done
+returns-then-stays-clause-done g t c = remapped_stays _ _ _ _ c.requires.stands c.requires.sound (sym c.stays.ensures ∙ c.if-stays.true)
 
 pub returns-in-Some-clause-grown : goal.returns-in-Some-clause-grown
 returns-in-Some-clause-grown g t c = extends_refl _
