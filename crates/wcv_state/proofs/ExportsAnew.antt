@@ -1,13 +1,14 @@
 -- Exports with what a map makes of each.
-use Rattle.std.proofs.Common.{◌≡◌, ℕ, suc, ◌+◌, ◌≤◌, [], ◌∷◌, ◌++◌, length, take, refl, sym, ◌∙◌, ap, subst, arith, Some, All, take_all}
+use Rattle.std.proofs.Common.{◌≡◌, ℕ, suc, ◌+◌, ◌≤◌, List, [], ◌∷◌, ◌++◌, length, take, refl, sym, ◌∙◌, ap, subst, arith, Some, All, take_all}
 use Rattle.std.specs.Map.{keys_of}
 use Rattle.std.specs.Prelude.{Contains, slice_get}
 use Rattle.std.proofs.Math.Nat.{max-le}
 use Rattle.std.proofs.lemmas.List.Elements.{All-contains, All-take, All-nil, All-cons, Contains-append_left, Contains-push}
+use Rattle.std.proofs.lemmas.List.{length_push}
 use Rattle.wcv_types.proofs.Grown.{extends_refl, extends_trans, stands_more, stands_rank, same_tree}
 use Rattle.wcv_types.proofs.Lists.{take-next}
 use Rattle.wcv_types.specs.Arena.{Arena}
-use Rattle.wcv_types.specs.Entities.{entity_slot, entity_tree, entry_trees, SlotStands, EntryStands}
+use Rattle.wcv_types.specs.Entities.{entity_slot, entity_tree, entry_trees, retyped, SlotStands, EntryStands}
 use Rattle.wcv_types.specs.Replacing.{Replacement, replaced, replaced_in}
 use Rattle.wcv_types.specs.Standing.{Extends}
 use Rattle.wcv_types.specs.Tree.{Text, Extern_name, export, type_of, entries, Parts, none, part}
@@ -22,10 +23,13 @@ use Rattle.wcv_subtype.specs.Hygiene.{Hygienic}
 use Rattle.wcv_subtype.specs.Map.{Map}
 use Rattle.wcv_subtype.specs.Remap.{Each, Serves, Sound, Visits}
 use Rattle.wcv_state.proofs.Walks.{found_holds}
-use Rattle.wcv_state.specs.Opening.{Items, Anything, EntryBecomes, EntryPushed, ExportsRemapped, entry_rank, with_entity}
+use Rattle.wcv_state.specs.Opening.{Items, Anything, EntryBecomes, ExportsRemapped, TypePushed, TypesRemapped, entry_rank, with_entity}
 
 abbrev pub Item : Type 0
 Item = Text × ComponentItem
+
+abbrev pub Types : Type 0
+Types = List ComponentEntityType
 
 -- ## Slots in an arena that grew
 
@@ -52,20 +56,20 @@ slot_rank a (core e) h = omega arith
 
 -- ## One export
 
-pub entry_pushed : (a b : Arena) (map map' : Map) (s s' : ℕ) (x e : Item) (y : ComponentEntityType) (old new : Items) → EntityRemapped a b map map' s s' x.1.ty y → e ≡ with_entity x y → new ≡ old ++ e ∷ [] → EntryPushed a b map map' x old new
-entry_pushed a b map map' s s' x e y old new r w p = record {
+pub type_pushed : (a b : Arena) (map map' : Map) (s s' : ℕ) (x : Item) (y : ComponentEntityType) (old new : Types) → EntityRemapped a b map map' s s' x.1.ty y → new ≡ old ++ y ∷ [] → TypePushed a b map map' x old new
+type_pushed a b map map' s s' x y old new r p = record {
   core = r.core;
   sound = r.sound;
   visits = visits_more (length a.nodes) (length a.nodes) (suc (entry_rank x)) (suc (entry_rank x)) map map' (omega arith) (omega arith) (λ q z. tt) r.visits;
-  made = with_entity x y;
+  made = y;
   becomes = record { named = refl; stands = r.stands; tree = r.tree };
-  pushed = p ∙ ap (λ (z : Item). old ++ z ∷ []) w;
+  pushed = p;
 }
 
 -- ## All exports
 
-pub exports_none : (a : Arena) (map : Map) → Sound a map → ExportsRemapped a a map map [] []
-exports_none a map s = record { grown = extends_refl a; core = refl; sound = s; visits = λ k h. visits_none Anything (length a.nodes) k map; each = tt }
+pub types_none : (a : Arena) (map : Map) → Sound a map → TypesRemapped a a map map [] []
+types_none a map s = record { as_many = refl; exports = record { grown = extends_refl a; core = refl; sound = s; visits = λ k h. visits_none Anything (length a.nodes) k map; each = tt } }
 
 -- what they become stays so in a later map
 later : (a b c : Arena) (k : ℕ) (map map' : Map) (x y : Item) → Sound b map → Extends b c → Visits Anything (length b.nodes) k map map' → EntryBecomes a b map x y → EntryBecomes a c map' x y
@@ -84,22 +88,36 @@ all_later a b c k map map' (x ∷ xs) [] s g v e = absurd e
 earlier : (a b c : Arena) (map : Map) (x y : Item) → Extends a b → EntryStands a x → EntryBecomes b c map x y → EntryBecomes a c map x y
 earlier a b c map x y g st w = record { named = w.named; stands = w.stands; tree = λ m z. w.tree m z ∙ ap (replaced m) (slot_same a b (entity_slot x.1.ty) g st) }
 
-exports_push : (a b c : Arena) (m0 m1 m2 : Map) (xs ys ys' : Items) (e : Item) → EntryStands a e → Extends b c → ExportsRemapped a b m0 m1 xs ys → EntryPushed b c m1 m2 e ys ys' → ExportsRemapped a c m0 m2 (xs ++ e ∷ []) ys'
-exports_push a b c m0 m1 m2 xs ys ys' e st g w p = record {
-  grown = extends_trans a b c w.grown g;
-  core = p.core ∙ w.core;
-  sound = p.sound;
-  visits = λ k h. visits_both k m0 m1 m2 (w.visits k (λ x z. h x (Contains-append_left xs (e ∷ []) x z)))
-      (visits_more (length b.nodes) (length a.nodes) (suc (entry_rank e)) k m1 m2 (longer a b w.grown) (h e (Contains-push xs e)) (λ q z. z) p.visits);
-  each = subst (λ (zs : Items). Each (EntryBecomes a c m2) (xs ++ e ∷ []) zs) (sym p.pushed)
-      (each_push (EntryBecomes a c m2) xs ys e p.made (all_later a b c (suc (entry_rank e)) m1 m2 xs ys w.sound g p.visits w.each) (earlier a b c m2 e p.made w.grown st p.becomes));
-}
+-- one more entry with its type
+retyped_push : (xs : Items) (ts : Types) (e : Item) (y : ComponentEntityType) → length ts ≡ length xs → retyped (xs ++ e ∷ []) (ts ++ y ∷ []) ≡ retyped xs ts ++ with_entity e y ∷ []
+retyped_push [] [] e y h = refl
+retyped_push (x ∷ xs) (t ∷ ts) e y h = ap (λ (es : Items). with_entity x t ∷ es) (retyped_push xs ts e y (omega (arith, h)))
+retyped_push [] (t ∷ ts) e y h = absurd (omega (arith, h))
+retyped_push (x ∷ xs) [] e y h = absurd (omega (arith, h))
 
-pub exports_next : (a b c : Arena) (m0 m1 m2 : Map) (xs ys ys' : Items) (k : ℕ) (e : Item) → slice_get xs k ≡ Some e → EntryStands a e → Extends b c → ExportsRemapped a b m0 m1 (take k xs) ys → EntryPushed b c m1 m2 e ys ys' →
-    ExportsRemapped a c m0 m2 (take (k + 1) xs) ys'
-exports_next a b c m0 m1 m2 xs ys ys' k e g st x w p =
+types_push : (a b c : Arena) (m0 m1 m2 : Map) (xs : Items) (ts ts' : Types) (e : Item) → EntryStands a e → Extends b c → TypesRemapped a b m0 m1 xs ts → TypePushed b c m1 m2 e ts ts' → TypesRemapped a c m0 m2 (xs ++ e ∷ []) ts'
+types_push a b c m0 m1 m2 xs ts ts' e st g w p =
+    let ys : Items = retyped xs ts in
+    let made : Item = with_entity e p.made in
+    let pushed : retyped (xs ++ e ∷ []) ts' ≡ ys ++ made ∷ [] = ap (retyped (xs ++ e ∷ [])) p.pushed ∙ retyped_push xs ts e p.made w.as_many in
+    record {
+      as_many = ap length p.pushed ∙ length_push ts p.made ∙ ap (λ (n : ℕ). n + 1) w.as_many ∙ sym (length_push xs e);
+      exports = record {
+        grown = extends_trans a b c w.exports.grown g;
+        core = p.core ∙ w.exports.core;
+        sound = p.sound;
+        visits = λ k h. visits_both k m0 m1 m2 (w.exports.visits k (λ x z. h x (Contains-append_left xs (e ∷ []) x z)))
+            (visits_more (length b.nodes) (length a.nodes) (suc (entry_rank e)) k m1 m2 (longer a b w.exports.grown) (h e (Contains-push xs e)) (λ q z. z) p.visits);
+        each = subst (λ (zs : Items). Each (EntryBecomes a c m2) (xs ++ e ∷ []) zs) (sym pushed)
+            (each_push (EntryBecomes a c m2) xs ys e made (all_later a b c (suc (entry_rank e)) m1 m2 xs ys w.exports.sound g p.visits w.exports.each) (earlier a b c m2 e made w.exports.grown st p.becomes));
+      };
+    }
+
+pub types_next : (a b c : Arena) (m0 m1 m2 : Map) (xs : Items) (ts ts' : Types) (k : ℕ) (e : Item) → slice_get xs k ≡ Some e → EntryStands a e → Extends b c → TypesRemapped a b m0 m1 (take k xs) ts → TypePushed b c m1 m2 e ts ts' →
+    TypesRemapped a c m0 m2 (take (k + 1) xs) ts'
+types_next a b c m0 m1 m2 xs ts ts' k e g st x w p =
     let s : suc k ≡ k + 1 = omega arith in
-    subst (λ (zs : Items). ExportsRemapped a c m0 m2 zs ys') (sym (take-next xs k e g) ∙ ap (λ (n : ℕ). take n xs) s) (exports_push a b c m0 m1 m2 (take k xs) ys ys' e st x w p)
+    subst (λ (zs : Items). TypesRemapped a c m0 m2 zs ts') (sym (take-next xs k e g) ∙ ap (λ (n : ℕ). take n xs) s) (types_push a b c m0 m1 m2 (take k xs) ts ts' e st x w p)
 
 -- what the next export needs
 pub next_hygienic : (a b : Arena) (m0 m1 : Map) (xs ys : Items) (e : Item) → Sound a m0 → EntryStands a e → EntityHygienic a m0 e.1.ty → ((x : Item) → Contains xs x → EntryStands a x) → ExportsRemapped a b m0 m1 xs ys → EntityHygienic b m1 e.1.ty
@@ -108,8 +126,11 @@ next_hygienic a b m0 m1 xs ys e s st h f w m z =
     let v : Visits Anything (length a.nodes) k m0 m1 = w.visits k (λ x c. let r : entry_rank x ≤ length a.nodes = slot_rank a (entity_slot x.1.ty) (f x c) in omega (arith, r)) in
     subst (Hygienic m) (sym (slot_same a b (entity_slot e.1.ty) w.grown st)) (h m (serves_earlier a b k m0 m1 m s w.grown v z))
 
-pub exports_all : (a b : Arena) (m0 m1 : Map) (xs ys : Items) (k : ℕ) → length xs ≤ k → ExportsRemapped a b m0 m1 (take k xs) ys → ExportsRemapped a b m0 m1 xs ys
-exports_all a b m0 m1 xs ys k h w = subst (λ (zs : Items). ExportsRemapped a b m0 m1 zs ys) (take_all k xs h) w
+pub types_all : (a b : Arena) (m0 m1 : Map) (xs : Items) (ts : Types) (k : ℕ) → length xs ≤ k → TypesRemapped a b m0 m1 (take k xs) ts → TypesRemapped a b m0 m1 xs ts
+types_all a b m0 m1 xs ts k h w = subst (λ (zs : Items). TypesRemapped a b m0 m1 zs ts) (take_all k xs h) w
+
+pub exports_are_made : (a b : Arena) (m0 m1 : Map) (xs ys : Items) (ts : Types) → TypesRemapped a b m0 m1 xs ts → ys ≡ retyped xs ts → ExportsRemapped a b m0 m1 xs ys
+exports_are_made a b m0 m1 xs ys ts w e = subst (ExportsRemapped a b m0 m1 xs) (sym e) w.exports
 
 pub next_stands : (a b : Arena) (xs : Items) (k : ℕ) (e : Item) → Extends a b → All (EntryStands a) xs → slice_get xs k ≡ Some e → EntryStands b e
 next_stands a b xs k e g h f = slot_more a b (entity_slot e.1.ty) g (found_holds (EntryStands a) xs k e h f)

@@ -1,21 +1,18 @@
 -- A type that owns nothing is its own instance.
-use Rattle.std.proofs.Common.{◌≡◌, ℕ, ◌<◌, ◌≤◌, arith, List, [], ◌∷◌, map, refl, sym, ◌∙◌, ap, subst, Bool, true, false, ◌||◌, Some, None, All}
-use Rattle.std.specs.Prelude.{Option}
+use Rattle.std.proofs.Common.{◌≡◌, ℕ, ◌<◌, ◌≤◌, List, [], ◌∷◌, map, refl, sym, ◌∙◌, ap, subst, true, false, All}
 use Rattle.std.specs.List.{IsDistinct}
 use Rattle.std.proofs.lemmas.Bool.{false≢true}
 use Rattle.std.proofs.lemmas.List.Elements.{All-nil}
 use Rattle.wcv_core.specs.Names.{Name, Place, number}
-use Rattle.wcv_types.proofs.Replacing.{none-given, unchanged-stays}
+use Rattle.wcv_types.proofs.Replacing.{idle-stays}
 use Rattle.wcv_types.proofs.Unfolding.{head_in, sort_stands}
 use Rattle.wcv_types.specs.Arena.{Arena}
 use Rattle.wcv_types.specs.ComponentTrees.{resource_path}
 use Rattle.wcv_types.specs.FirstPath.{first_path}
-use Rattle.wcv_types.specs.Identity.{Identity}
 use Rattle.wcv_types.specs.Paths.{PathLeadsTo}
-use Rattle.wcv_types.specs.Replacing.{Replacement, given_at, moved, moves, given_elsewhere, changed, changed_in, replaced, GivesSame, GivesSameIn}
 use Rattle.wcv_types.specs.Sets.{same_resource}
 use Rattle.wcv_types.specs.Standing.{Stands}
-use Rattle.wcv_types.specs.Tree.{Sort, Head, resource, instance, node, Parts, none, part, head, exports, firsts, owned, owned_at, nothing, primitive, defined, func, component, type_entity, core_module, core_instance, core_type, core_item}
+use Rattle.wcv_types.specs.Tree.{Sort, Head, resource, instance, node, Parts, head, exports, firsts, owned, owned_at, nothing, primitive, defined, func, component, type_entity, core_module, core_instance, core_type, core_item}
 use Rattle.wcv_types.specs.Unfold.{Type_tree, tree_at, trees, head_of}
 use Rattle.wcv_types.specs.Entities.{entity_tree, EntityStands}
 use Rattle.wcv_types.specs.declared.arena.Node.TheVariants as n
@@ -34,44 +31,11 @@ use Rattle.wcv_state.specs.Promises.{EntityAlone}
 use Rattle.wcv_state.proofs.Brought.{as_it_is_at, instance_at}
 use Rattle.wcv_state.specs.Opening.{Paths, is_empty, owns_none}
 
-neither : (b c : Bool) → b ≡ false → c ≡ false → (b || c) ≡ false
-neither b c h k = grind arith
-
--- a replacement that has nothing to replace
-module _ (m : Replacement) (plain : (i : Identity) → m.nodes i ≡ None) (idle : (r : Name) → m.resources r ≡ None) where
-  head_rests : (h : Head Name Name) → moves m h ≡ false
-  head_rests (resource r s) = ap (moved r) (idle r)
-  head_rests _ = refl
-
-  mutual
-    rests : (t : Type_tree) → changed m t ≡ false
-    rests (node h ps) = ap (λ (o : Option Type_tree). given_elsewhere o h (moves m h || changed_in m ps)) (none-given m plain h) ∙ neither (moves m h) (changed_in m ps) (head_rests h) (rests_in ps)
-
-    rests_in : (ps : Parts Name Name) → changed_in m ps ≡ false
-    rests_in none = refl
-    rests_in (part k t ps) = neither (changed m t) (changed_in m ps) (rests t) (rests_in ps)
-
-  no_given : (h : Head Name Name) (u : Type_tree) → given_at m h ≡ Some u → ⊥
-  no_given h u e =
-      let f : None ≡ Some u = sym (none-given m plain h) ∙ e in
-      cc
-
-  mutual
-    gives_same : (t : Type_tree) → GivesSame m t
-    gives_same (node h ps) = (λ u e k. absurd (no_given h u e), gives_same_in ps)
-
-    gives_same_in : (ps : Parts Name Name) → GivesSameIn m ps
-    gives_same_in none = tt
-    gives_same_in (part k t ps) = (gives_same t, gives_same_in ps)
-
-  stays : (t : Type_tree) → replaced m t ≡ t
-  stays t = unchanged-stays m t (gives_same t) (rests t)
-
 module _ (names : Names) (q : Place) where
   with_head : (h : Head Name Name) (ps : Parts Name Name) (k : Name) (own : List Name) → h ≡ instance k own → own ≡ [] → instance_tree names q (node h ps) ≡ node h ps
   with_head h ps k own e f =
       subst (λ (x : Head Name Name). instance_tree names q (node x ps) ≡ node x ps) (sym (e ∙ ap (λ (rs : List Name). instance k rs) f))
-      (stays (owned_anew names q []) (λ i. refl) (λ r. refl) (node (instance k []) ps))
+      (idle-stays (owned_anew names q []) (λ i. refl) (λ r. refl) (node (instance k []) ps))
 
   tree_stays : (t : Type_tree) (k : Name) (own : List Name) → head t ≡ instance k own → own ≡ [] → instance_tree names q t ≡ t
   tree_stays (node h ps) k own e f = with_head h ps k own e f

@@ -5,7 +5,7 @@ use Rattle.std.specs.Map.{keys_of}
 use Rattle.wcv_core.specs.Names.{Name, number}
 use Rattle.wcv_types.specs.Arena.{Arena}
 use Rattle.wcv_types.specs.ByName.{NamesDiffer}
-use Rattle.wcv_types.specs.Entities.{entity_slot, entity_tree, entry_name, entry_trees, EntityStands, EntryStands}
+use Rattle.wcv_types.specs.Entities.{entity_slot, entity_tree, entry_name, entry_trees, retyped, EntityStands, EntryStands}
 use Rattle.wcv_types.specs.FirstPath.{first_path}
 use Rattle.wcv_types.specs.Replacing.{Replacement, replaced}
 use Rattle.wcv_types.specs.Sets.{same_resource}
@@ -93,22 +93,27 @@ pub record EntryBecomes (a b : Arena) (map : Map) (x y : Text × ComponentItem) 
 abbrev pub Anything : Part → Type 0
 Anything q = Unit {0}
 
--- it joined the list
-pub record EntryPushed (a b : Arena) (map map' : Map) (x : Text × ComponentItem) (old new : Items) : Type 0 where
+-- the type that the map makes of an entry's joined the list
+pub record TypePushed (a b : Arena) (map map' : Map) (x : Text × ComponentItem) (old new : List ComponentEntityType) : Type 0 where
   pub core : b.core ≡ a.core
   pub sound : Sound b map'
   pub visits : Visits Anything (length a.nodes) (suc (entry_rank x)) map map'
-  pub made : Text × ComponentItem
-  pub becomes : EntryBecomes a b map' x made
+  pub made : ComponentEntityType
+  pub becomes : EntryBecomes a b map' x (with_entity x made)
   pub pushed : new ≡ old ++ made ∷ []
 
--- so of all exports. What was visited stood no later than they do, and became no other or a new node
+-- what the map makes of all exports. What was visited stood no later than they do, and became no other or a new node
 pub record ExportsRemapped (a b : Arena) (map map' : Map) (xs ys : Items) : Type 0 where
   pub grown : Extends a b
   pub core : b.core ≡ a.core
   pub sound : Sound b map'
   pub visits : (k : ℕ) → ((e : Text × ComponentItem) → Contains xs e → suc (entry_rank e) ≤ k) → Visits Anything (length a.nodes) k map map'
   pub each : Each (EntryBecomes a b map') xs ys
+
+-- one type for each export: that of what the map makes of it
+pub record TypesRemapped (a b : Arena) (map map' : Map) (xs : Items) (tys : List ComponentEntityType) : Type 0 where
+  pub as_many : length tys ≡ length xs
+  pub exports : ExportsRemapped a b map map' xs (retyped xs tys)
 
 -- ## The instance
 

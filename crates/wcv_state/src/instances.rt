@@ -3,7 +3,7 @@ ghost use Rattle.std.specs.Prelude.{◌≡◌, ◌<◌, ◌∷◌, ◌++◌, [],
 ghost use Rattle.std.specs.Map.{lookup};
 ghost use Rattle.wcv_lower.specs.Owned.{OwnsApart};
 ghost use Rattle.wcv_state.specs.Instances.{InstanceMade};
-ghost use Rattle.wcv_state.specs.Opening.{one_more, owns_none, with_entity, EntryPushed, ExportsRemapped, InstancePushed, IsOpened, Replaced};
+ghost use Rattle.wcv_state.specs.Opening.{one_more, owns_none, ExportsRemapped, InstancePushed, IsOpened, Replaced, TypePushed, TypesRemapped};
 ghost use Rattle.wcv_subtype.specs.Entities.{EntityHygienic};
 ghost use Rattle.wcv_subtype.specs.Map.{resource_to};
 ghost use Rattle.wcv_subtype.specs.Remap.{Sound};
@@ -14,7 +14,6 @@ ghost use Rattle.wcv_types.specs.Standing.{Extends, Stands};
 ghost use Rattle.wcv_types.specs.Unfold.{tree_at};
 ghost use Rattle.wcv_types.specs.declared.ids.Part.TheVariants as part;
 
-use std::alloc::Global;
 use std::marker::Brand;
 use std::sync::ledger::{Blank, Ledger};
 use wcv_core::{OutOfMemory, Place, Text};
@@ -105,58 +104,47 @@ pub(crate) fn replace_resources(
     Ok(paths)
 }
 
-/// A copy of the text, where there is one.
-fn copy_option(alloc: Global, text: &Option<Text>) -> Result<Option<Text>, OutOfMemory>
-    ensures { IfOk result (λ copied. copied ≡ text.now) }
-{
-    match text {
-        Some(text) => Ok(Some(Text::new(alloc, text.as_str())?)),
-        None => Ok(None),
-    }
-}
-
-/// A copy of the entry, with another entity.
-fn copy_with(
-    alloc: Global,
-    entry: &(Text, ComponentItem),
-    ty: ComponentEntityType,
-) -> Result<(Text, ComponentItem), OutOfMemory>
-    ensures { IfOk result (λ copied. copied ≡ with_entity entry.now ty) }
-{
-    let name = Text::new(alloc, entry.0.as_str())?;
-    let implements = copy_option(alloc, &entry.1.implements)?;
-    let version_suffix = copy_option(alloc, &entry.1.version_suffix)?;
-    let external_id = copy_option(alloc, &entry.1.external_id)?;
-    Ok((
-        name,
-        ComponentItem {
-            ty,
-            implements,
-            version_suffix,
-            external_id,
-        },
-    ))
-}
-
-/// What the map makes of the entry joins the list.
-fn push_remapped<L: Ledger>(
+/// What the map makes of the type of the entry joins the list.
+fn push_type<L: Ledger>(
     types: &mut TypeAlloc,
     entry: &(Text, ComponentItem),
     map: &mut Remapping,
     steps: &mut Steps<L>,
-    made: &mut ItemMap,
+    tys: &mut Vec<ComponentEntityType>,
 ) -> Result<(), OutOfMemory>
     requires stands { EntryStands types.old entry.now }
     requires sound { Sound types.old map.old }
     requires hygienic { EntityHygienic types.old map.old entry.now.1.ty }
     ensures grown { Extends types.old types.new }
-    ensures ok { OnOk result (EntryPushed types.old types.new map.old map.new entry.now made.old made.new) }
+    ensures ok { OnOk result (TypePushed types.old types.new map.old map.new entry.now tys.old.items tys.new.items) }
 {
     let mut ty = entry.1.ty;
     remap_component_entity(types, &mut ty, map, steps)?;
-    let copied = copy_with(types.allocator(), entry, ty)?;
-    made.push(copied)?;
+    tys.push(ty)?;
     Ok(())
+}
+
+/// What the map makes of the types of the exports.
+fn remapped_types<L: Ledger>(
+    types: &mut TypeAlloc,
+    exports: &ItemMap,
+    map: &mut Remapping,
+    steps: &mut Steps<L>,
+) -> Result<Vec<ComponentEntityType>, OutOfMemory>
+    requires stand { All (EntryStands types.old) exports.now }
+    requires sound { Sound types.old map.old }
+    requires hygienic { All (λ e. EntityHygienic types.old map.old e.1.ty) exports.now }
+    ensures grown { Extends types.old types.new }
+    ensures ok { IfOk result (λ tys. TypesRemapped types.old types.new map.old map.new exports.now tys.items) }
+{
+    let mut tys = Vec::new(types.allocator());
+    for k in 0..exports.len() {
+        match exports.get_index(k) {
+            Some(entry) => push_type(types, entry, map, steps, &mut tys)?,
+            None => unreachable!(),
+        }
+    }
+    Ok(tys)
 }
 
 /// What the map makes of the exports.
@@ -172,14 +160,8 @@ pub(crate) fn remapped_exports<L: Ledger>(
     ensures grown { Extends types.old types.new }
     ensures ok { IfOk result (λ made. ExportsRemapped types.old types.new map.old map.new exports.now made) }
 {
-    let mut made = ItemMap::new(types.allocator());
-    for k in 0..exports.len() {
-        match exports.get_index(k) {
-            Some(entry) => push_remapped(types, entry, map, steps, &mut made)?,
-            None => unreachable!(),
-        }
-    }
-    Ok(made)
+    let tys = remapped_types(types, exports, map, steps)?;
+    exports.with_types(types.allocator(), tys.as_slice())
 }
 
 /// An instance type that owns nothing, with these exports.

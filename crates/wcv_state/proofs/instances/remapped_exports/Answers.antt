@@ -1,32 +1,9 @@
-use Rattle.std.proofs.Common.{◌<◌, ◌≤◌, [], sym, subst}
-use Rattle.std.specs.Prelude.{ℕ}
-use Rattle.wcv_types.proofs.Grown.{extends_trans}
-use Rattle.wcv_state.proofs.ExportsAnew.{exports_all, exports_next, exports_none, next_is_hygienic, next_stands}
-use Rattle.wcv_state.proofs.Walks.{found_holds, none_within}
-use Rattle.wcv_types.specs.Entities.{EntryStands}
-use Rattle.wcv_state.specs.Opening.{Items, ExportsRemapped}
+use Rattle.std.proofs.Common.{◌∙◌, ap}
+use Rattle.std.proofs.lemmas.Result.{IfOk-weaker}
+use Rattle.wcv_state.proofs.ExportsAnew.{exports_are_made}
+use Rattle.wcv_types.specs.Entities.{retyped}
 use Rattle.wcv_state.proofs.instances.remapped_exports.Goals as goal
 
-pub loop-k-init : goal.loop-k-init
-loop-k-init g c = subst (λ (ys : Items). ExportsRemapped c.args.types.now c.args.types.now c.args.map.now c.args.map.now [] ys) (sym c.new-made.ensures) (exports_none c.args.types.now c.args.map.now c.requires.sound)
-
-pub unreachable-requires : goal.unreachable-requires
-unreachable-requires g c = none_within c.args.exports.now c.loop-k.k c.in-None.ensures (subst (λ (n : ℕ). c.loop-k.k < n) c.len-k-end.ensures c.loop-k-test.true)
-
-pub push_remapped-requires-clause-stands : goal.push_remapped-requires-clause-stands
-push_remapped-requires-clause-stands g c = next_stands c.args.types.now c.loop-k.types c.args.exports.now c.loop-k.k c.in-Some.entry.now c.loop-k.invariant.grown c.requires.stand (sym c.in-Some.ensures)
-
-pub push_remapped-requires-clause-hygienic : goal.push_remapped-requires-clause-hygienic
-push_remapped-requires-clause-hygienic g c =
-    next_is_hygienic c.args.types.now c.loop-k.types c.args.map.now c.loop-k.map c.args.exports.now c.loop-k.made c.loop-k.k c.in-Some.entry.now c.requires.sound c.requires.stand c.requires.hygienic (sym c.in-Some.ensures) c.loop-k.invariant
-
-pub loop-k-preserved : goal.loop-k-preserved
-loop-k-preserved g c =
-    exports_next c.args.types.now c.loop-k.types c.push_remapped.new.types c.args.map.now c.loop-k.map c.push_remapped.new.map c.args.exports.now c.loop-k.made c.push_remapped.new.made c.loop-k.k c.in-Some.entry.now (sym c.in-Some.ensures)
-    (found_holds (EntryStands c.args.types.now) c.args.exports.now c.loop-k.k c.in-Some.entry.now c.requires.stand (sym c.in-Some.ensures)) c.push_remapped.ensures.grown c.loop-k.invariant c.in_ok-push_remapped-in-Some.ensures.ok
-
-pub returns-in_err-push_remapped-in-Some-clause-grown : goal.returns-in_err-push_remapped-in-Some-clause-grown
-returns-in_err-push_remapped-in-Some-clause-grown g c = extends_trans _ _ _ c.loop-k.invariant.grown c.push_remapped.ensures.grown
-
 pub returns-clause-ok : goal.returns-clause-ok
-returns-clause-ok g c = exports_all _ _ _ _ c.args.exports.now c.loop-k.made c.loop-k.k (subst (λ (n : ℕ). n ≤ c.loop-k.k) c.len-k-end.ensures c.loop-k-test.false) c.loop-k.invariant
+returns-clause-ok g c =
+    IfOk-weaker c.with_types.result _ _ (λ ys e. exports_are_made _ _ _ _ c.args.exports.now ys c.in_ok-tys.tys.items c.in_ok-tys.ensures.ok (e ∙ ap (retyped c.args.exports.now) c.as_slice.ensures.value)) c.with_types.ensures
