@@ -15,12 +15,12 @@ use Rattle.wcv_types.specs.ByName.{NamesDiffer}
 use Rattle.wcv_types.specs.Identity.{Identity, of_node, identity_at}
 use Rattle.wcv_types.specs.Led.{HasPath, Led}
 use Rattle.wcv_types.specs.Paths.{PathLeadsTo}
-use Rattle.wcv_types.specs.Replacing.{Replacement, given_at, given_elsewhere, moved, moves, changed, changed_in, new_head, replaced, replaced_in, GivesSame, GivesSameIn}
+use Rattle.wcv_types.specs.Replacing.{Replacement, given_elsewhere, moved, moves, changed, changed_in, new_head, replaced, replaced_in}
 use Rattle.wcv_types.specs.Resources.{RefersTo}
 use Rattle.wcv_types.specs.Tree.{Text, Extern_name, Head, here, label, import, export, core_import, core_export, nothing, resource, instance, node, Parts, none, part, head, sort, is_instance, referenced, exports_in, exports, instance_type}
 use Rattle.wcv_types.specs.Unfold.{Type_tree}
 use Rattle.wcv_types.proofs.Lists.{some-inj}
-use Rattle.wcv_types.proofs.Replacing.{none-given, unchanged-stays}
+use Rattle.wcv_types.proofs.Replacing.{none-given, idle-stays}
 use Rattle.wcv_matching.specs.AtomTests.{id_tests}
 use Rattle.wcv_matching.specs.GivenTypes.{given_for}
 use Rattle.wcv_matching.specs.Matching.{named, named_imports}
@@ -215,34 +215,10 @@ none-some : (o : Option Type_tree) (u : Type_tree) → o ≡ None → o ≡ Some
 none-some None u d e = cc
 none-some (Some x) u d e = cc
 
--- where nothing is replaced, nothing changes
+-- where no node is given
 module _ (m : Replacement) (plain : (i : Identity) → m.nodes i ≡ None) where
   abbrev whole : Head Name Name → Parts Name Name → Option Type_tree → Bool
   whole h ps o = given_elsewhere o h (moves m h || changed_in m ps)
-
-  module _ (still : (r : Name) → m.resources r ≡ None) where
-    head-still : (h : Head Name Name) → moves m h ≡ false
-    head-still (resource r s) = ap (moved r) (still r)
-    head-still h = refl
-
-    mutual
-      unchanged : (t : Type_tree) → changed m t ≡ false
-      unchanged (node h ps) = ap (whole h ps) (none-given m plain h) ∙ (λ j. head-still h j || unchanged_in ps j)
-
-      unchanged_in : (ps : Parts Name Name) → changed_in m ps ≡ false
-      unchanged_in none = refl
-      unchanged_in (part k t ps) = λ j. unchanged t j || unchanged_in ps j
-
-    mutual
-      nothing-given : (t : Type_tree) → GivesSame m t
-      nothing-given (node h ps) = ((λ u e k. absurd (none-some (given_at m h) u (none-given m plain h) e)), nothing-given_in ps)
-
-      nothing-given_in : (ps : Parts Name Name) → GivesSameIn m ps
-      nothing-given_in none = tt
-      nothing-given_in (part k t ps) = (nothing-given t, nothing-given_in ps)
-
-    replaced-stays : (t : Type_tree) → replaced m t ≡ t
-    replaced-stays t = unchanged-stays m t (nothing-given t) (unchanged t)
 
   -- a type changes in which a path leads to what is replaced
   module _ (r q : Name) (to : m.resources r ≡ Some q) (other : same r q ≡ false) where
@@ -320,7 +296,7 @@ module _ (p : Place) (g : Known) (fresh : NoneKnown p g) (i : Name) where
   owning-nothing ps w = tidy-before p g (instance_tree names_by_place p (node (instance i []) ps)) (subst (TidyEntry g) (sym stays) (refl, w))
     where
       stays : instance_tree names_by_place p (node (instance i []) ps) ≡ node (instance i []) ps
-      stays = replaced-stays (owned_anew names_by_place p []) (λ j. refl) (λ r. refl) (node (instance i []) ps)
+      stays = idle-stays (owned_anew names_by_place p []) (λ j. refl) (λ r. refl) (node (instance i []) ps)
 
   -- another is made again
   made-anew : (own : List Name) (ps : Parts Name Name) → TidyType g (node (instance i own) ps) → changed_in (owned_anew names_by_place p own) ps ≡ true →

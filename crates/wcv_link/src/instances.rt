@@ -1,17 +1,18 @@
 // Instances: of components, and those that list items.
-ghost use Rattle.std.specs.Prelude.{◌≡◌, ◌<◌, ◌++◌, ℕ, List, All, Some, true, false, OnOk, OnErr, IfOk, IfErr};
+ghost use Rattle.std.specs.Prelude.{◌≡◌, ◌<◌, [], ◌∷◌, ◌++◌, ℕ, List, All, Some, true, false, OnOk, OnErr, IfOk, IfErr};
 ghost use Rattle.std.specs.List.{AllZip};
 ghost use Rattle.wcv_core.specs.Checks.{all_checks};
+ghost use Rattle.wcv_core.specs.declared.error.ErrorKind.TheVariants as kinds;
 ghost use Rattle.wcv_core.specs.Limits.{max_depth, max_size};
 ghost use Rattle.wcv_core.specs.Names.{Place};
 ghost use Rattle.wcv_syntax.specs.Model.{instantiate, bag, instance_item};
 ghost use Rattle.wcv_syntax.specs.View.{instance_view};
 ghost use Rattle.wcv_types.specs.Entities.{entry_trees, EntityStands};
-ghost use Rattle.wcv_types.specs.ByName.{NamesDiffer};
+ghost use Rattle.wcv_types.specs.ByName.{NamesDiffer, texts_in};
 ghost use Rattle.wcv_types.specs.Standing.{Extends, Stands};
 ghost use Rattle.wcv_types.specs.Unfold.{tree_at, trees};
 ghost use Rattle.wcv_types.specs.declared.ids.Part.TheVariants as part;
-ghost use Rattle.wcv_lower.specs.Checks.{IsFree, too_many};
+ghost use Rattle.wcv_lower.specs.Checks.{IsFree, has_repeat, too_many};
 ghost use Rattle.wcv_lower.specs.Instances as rules;
 ghost use Rattle.wcv_lower.specs.Marks.{value_index};
 ghost use Rattle.wcv_lower.specs.Trees.{Tree_context};
@@ -36,7 +37,8 @@ use wcv_syntax::{
     ComponentInstantiationArg,
 };
 use wcv_types::{
-    ComponentEntityType, ComponentInstanceTypeId, ItemMap, Paths, TypeAlloc, TypeInfo, TypeSort,
+    ComponentEntityType, ComponentInstanceTypeId, ComponentTypeId, ItemMap, Paths, TypeAlloc,
+    TypeInfo, TypeSort,
 };
 
 /// The item of an argument.
@@ -82,6 +84,30 @@ fn as_map(alloc: Global, found: Vec<(Text, ComponentEntityType)>) -> Result<Enti
         map.push(entry.0, entry.1)?;
     }
     Ok(map)
+}
+
+/// Whether the names of the arguments differ. The imports' names do, so arguments in the order of the imports, as they are
+/// mostly written, are compared with these alone.
+fn check_args_differ(
+    types: &TypeAlloc,
+    id: ComponentTypeId,
+    found: &[(Text, ComponentEntityType)],
+    offset: u64,
+) -> Result<(), Error>
+    requires { Stands types.now (part.Component id) }
+    ensures ok { OnOk result (IsFree ((kinds.Conflict, has_repeat (texts_in found.now)) ∷ [])) }
+    ensures err { IfErr result (MemoryOrCausedBy ((kinds.Conflict, has_repeat (texts_in found.now)) ∷ []) offset) }
+{
+    types.nodes_fit();
+    if types.get(id).imports.has_names(found) {
+        return Ok(());
+    }
+    check_differ(
+        types.allocator(),
+        found,
+        "arguments of the instance",
+        offset,
+    )
 }
 
 /// Whether a type of that size and depth is within the limits.
@@ -137,7 +163,7 @@ fn of_component(
     let id = state.component_at(component_index, offset)?;
     let found = find_args(alloc, args, state, offset)?;
     let list = found.as_slice();
-    check_differ(alloc, list, "arguments of the instance", offset)?;
+    check_args_differ(types, id, list, offset)?;
     check_room(state, types, offset)?;
     let map = as_map(alloc, found)?;
     let made = instance_of_component(types, id, &map, offset)?;

@@ -47,14 +47,17 @@ returns-in_err-found-clause-err c =
 pub returns-in_err-found-clause-grown : goal.returns-in_err-found-clause-grown
 returns-in_err-found-clause-grown c = extends_refl _
 
-pub returns-in_err-check_differ-clause-err : goal.returns-in_err-check_differ-clause-err
-returns-in_err-check_differ-clause-err c =
-    let q = err_from_is_err_and c.from_residual-in_err-check_differ.result c.from_residual-in_err-check_differ.ensures.1 in
-    rw (q.1, q.2) (arg_twice c.args.types.now c.args.state.now c.requires.stands c.args.component_index c.args.args.items c.args.types.now c.args.offset c.in_err-check_differ.field-0.0 c.in_ok-found.found.items c.in_ok-found.ensures.ok
-    (subst (λ (xs : Found). MemoryOrCausedBy ((kind.Conflict, has_repeat (texts_in xs)) ∷ []) c.args.offset c.in_err-check_differ.field-0.0) c.as_slice-list.ensures.value c.in_err-check_differ.ensures.err))
+pub check_args_differ-requires : goal.check_args_differ-requires
+check_args_differ-requires c = component_stands c.args.types.now c.args.state.now c.requires.stands c.args.component_index c.args.args.items c.in_ok-id.id c.in_ok-id.ensures.ok
 
-pub returns-in_err-check_differ-clause-grown : goal.returns-in_err-check_differ-clause-grown
-returns-in_err-check_differ-clause-grown c = extends_refl _
+pub returns-in_err-check_args_differ-clause-err : goal.returns-in_err-check_args_differ-clause-err
+returns-in_err-check_args_differ-clause-err c =
+    let q = err_from_is_err_and c.from_residual-in_err-check_args_differ.result c.from_residual-in_err-check_args_differ.ensures.1 in
+    rw (q.1, q.2) (arg_twice c.args.types.now c.args.state.now c.requires.stands c.args.component_index c.args.args.items c.args.types.now c.args.offset c.in_err-check_args_differ.field-0.0 c.in_ok-found.found.items c.in_ok-found.ensures.ok
+    (subst (λ (xs : Found). MemoryOrCausedBy ((kind.Conflict, has_repeat (texts_in xs)) ∷ []) c.args.offset c.in_err-check_args_differ.field-0.0) c.as_slice-list.ensures.value c.in_err-check_args_differ.ensures.err))
+
+pub returns-in_err-check_args_differ-clause-grown : goal.returns-in_err-check_args_differ-clause-grown
+returns-in_err-check_args_differ-clause-grown c = extends_refl _
 
 pub returns-in_err-check_room-clause-err : goal.returns-in_err-check_room-clause-err
 returns-in_err-check_room-clause-err c =
@@ -114,4 +117,4 @@ returns-clause-ok c =
     let made : ComponentInstanceMade a b c.in_ok-found.found.items c.in_ok-id.id c.in_ok-made.made = subst (λ (xs : Found). ComponentInstanceMade a b xs c.in_ok-id.id c.in_ok-made.made) c.in_ok-map.ensures c.in_ok-made.ensures.ok in
     let ok = subst (λ (xs : Found). (u : Name → Name) × Opens a.core u (named_args a xs) (tree_at a (p.Component c.in_ok-id.id))) c.in_ok-map.ensures c.in_ok-made.ensures.opens in
     component_instance a c.args.state.now c.requires.stands c.args.component_index c.args.args.items c.in_ok-id.id c.in_ok-found.found.items c.in_ok-id.ensures.ok c.in_ok-found.ensures.ok c.nodes_fit.ensures.all table ok b c.in_ok-made.made made c.in_ok-found.ensures.free
-    (subst (λ (xs : Found). IsFree ((kind.Conflict, has_repeat (texts_in xs)) ∷ [])) c.as_slice-list.ensures.value c.in_ok-check_differ.ensures.ok) c.in_ok-check_room.ensures.ok c.in_ok-check_size.ensures.ok
+    (subst (λ (xs : Found). IsFree ((kind.Conflict, has_repeat (texts_in xs)) ∷ [])) c.as_slice-list.ensures.value c.in_ok-check_args_differ.ensures.ok) c.in_ok-check_room.ensures.ok c.in_ok-check_size.ensures.ok
