@@ -492,20 +492,55 @@ def over_resource(name, index, kind="own"):
 def instantiated(count, width=50):
     """A component type that imports so many resources and a function over each, and exports another resource and a
     function over it for each: as many instances, each over all arguments. All functions are over other handles."""
+    decls, items = imported_handles(width)
+    for n in range(width):
+        decls += [export_decl(f"s{n}", "sub-resource"), *over_resource(f"g{n}", 3 * (width + n))]
+    yield from instances_of_type(count, decls, items, handle_args(width))
+
+
+def imported_handles(width):
+    """Declarations and items that import so many resources and a function over each."""
     decls, items = [], []
     for n in range(width):
         decls += [{"import": {"name": f"r{n}", "type": "sub-resource"}}, defined({"own": 3 * n})]
         decls += [func_type([["x", 3 * n + 1]], "u32"), {"import": {"name": f"f{n}", "type": {"func": 3 * n + 2}}}]
         items += [{"import": {"name": f"r{n}", "type": "sub-resource"}}, defined({"own": 3 * n + 1})]
         items += [func_type([["x", 3 * n + 2]], "u32"), import_of(f"f{n}", 3 * n + 3)]
-    for n in range(width):
-        decls += [export_decl(f"s{n}", "sub-resource"), *over_resource(f"g{n}", 3 * (width + n))]
+    return decls, items
+
+
+def handle_args(width):
+    """The arguments for the imports of so many handles."""
+    return [it for n in range(width) for it in ([f"r{n}", "type", 3 * n + 1], [f"f{n}", "func", n])]
+
+
+def instances_of_type(count, decls, items, args):
+    """So many instances of the component type with these declarations, over all arguments."""
     yield {"type": {"component": decls}}
     yield {"import": {"name": "component", "type": {"component": 0}}}
     yield from items
-    args = [it for n in range(width) for it in ([f"r{n}", "type", 3 * n + 1], [f"f{n}", "func", n])]
     for _ in range(count):
         yield {"instance": {"component": 0, "args": args}}
+
+
+def instantiated_over_imports(count, width=50):
+    """The same imports, with two exports of a function over each imported resource: what the instances export names the
+    resources that they are given, and none of their own."""
+    decls, items = imported_handles(width)
+    decls += [export_decl(f"{side}{n}", {"func": 3 * n + 2}) for side in "gh" for n in range(width)]
+    yield from instances_of_type(count, decls, items, handle_args(width))
+
+
+def instantiated_plainly(count, width=100):
+    """A component type that imports so many functions and exports as many, each of a type of its own in which no resource
+    stands."""
+    decls, items = [], []
+    for n in range(width):
+        func = func_type([[f"x{n}", "u32"]], "string")
+        decls += [func, {"import": {"name": f"f{n}", "type": {"func": n}}}]
+        items += [func, import_of(f"f{n}", n + 1)]
+    decls += [export_decl(f"g{n}", {"func": n}) for n in range(width)]
+    yield from instances_of_type(count, decls, items, [[f"f{n}", "func", n] for n in range(width)])
 
 
 def listed(limit, width=10_000):

@@ -227,7 +227,12 @@ def aliases(runs):
 
 def components(runs):
     make = make_listings
-    counts = [(f"{n} instances", make.instantiated(n), n < 1_000) for n in (250, 500, 1_000)]
+    makers = (
+        ("exports over resources of each instance", make.instantiated),
+        ("exports over imported resources", make.instantiated_over_imports),
+        ("exports over no resource", make.instantiated_plainly),
+    )
+    counts = [(f"{n} instances, {what}", it(n), n < 1_000) for what, it in makers for n in (250, 1_000)]
     print_table("Listing of instances of a component type with 100 imports and 100 exports", ALL, counts, runs)
     print_table("Listing of instances that list 10,000 exports each", ALL, by_size(make.listed, (1,)), runs)
     rows = [(f"{n} pairs, 36 deep", make.compared(n), n < 1_000) for n in (250, 500, 1_000)]
