@@ -93,11 +93,11 @@ fn with_memory(index: u32, size: PtrSize) -> CanonicalOptions
     ensures { result ≡ memory_alone index size }
 {
     CanonicalOptions {
-        string_encoding: StringEncoding::Utf8,
+        string_encoding: StringEncoding::default(),
         memory: Some((index, size)),
         realloc: None,
         post_return: None,
-        concurrency: Concurrency::Sync,
+        concurrency: Concurrency::default(),
     }
 }
 

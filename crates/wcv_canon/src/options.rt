@@ -108,7 +108,7 @@ fn concurrency(options: &[CanonicalOption]) -> Concurrency
     ensures { result ≡ concurrency_of options.now }
 {
     if !stands(OptionName::Async, options) {
-        return Concurrency::Sync;
+        return Concurrency::default();
     }
     Concurrency::Async {
         callback: first_index(OptionName::Callback, options),
@@ -125,7 +125,7 @@ fn found_options(
     ensures { result ≡ options_read (context_of types.now state.now) options.now }
 {
     CanonicalOptions {
-        string_encoding: first_encoding(options).unwrap_or(StringEncoding::Utf8),
+        string_encoding: first_encoding(options).unwrap_or_default(),
         memory: first_memory(options, state, types, offset),
         realloc: first_index(OptionName::Realloc, options),
         post_return: first_index(OptionName::PostReturn, options),

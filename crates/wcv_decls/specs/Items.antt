@@ -4,12 +4,8 @@ use Rattle.wcv_core.specs.Names.{Place, number}
 use Rattle.wcv_core.specs.declared.error.Error.{Error}
 use Rattle.wcv_syntax.specs.Model.{Type_form, type_item}
 use Rattle.wcv_types.specs.Arena.{Arena}
-use Rattle.wcv_types.specs.Standing.{with_node}
 use Rattle.wcv_types.specs.Unfold.{Type_tree, tree_of, trees}
 use Rattle.wcv_types.specs.declared.arena.Node.{Node}
-use Rattle.wcv_types.specs.declared.arena.Node.TheVariants as n
-use Rattle.wcv_types.specs.declared.component_type.ComponentType.{ComponentType}
-use Rattle.wcv_types.specs.declared.ids.ComponentTypeId.{ComponentTypeId}
 use Rattle.wcv_lower.specs.Checks.{IsFree}
 use Rattle.wcv_lower.specs.Context.{Space, in_types, push}
 use Rattle.wcv_lower.specs.Declared.{read_type, declared_checks}
@@ -34,10 +30,6 @@ pub record Stored (k : Space) (a b : Arena) (s s' : Contents) (x : Node) : Type 
   pub core : b.core ≡ a.core
   pub live : s'.spent ≡ false
   pub keeps : Keeps a b s s'
-
--- the component type is the arena's next node, of that id
-abbrev pub AddsComponent : Arena → Arena → ComponentType → ComponentTypeId → Type 0
-AddsComponent a b ty id = (b ≡ with_node a (n.Component ty)) × (id.index ≡ length a.nodes)
 
 -- so of the node of a type item
 pub record Added (a b : Arena) (s s' : Contents) (t : Type_form) : Type 0 where

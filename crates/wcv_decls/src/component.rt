@@ -8,9 +8,9 @@ ghost use Rattle.wcv_lower.specs.Context.{concrete, in_components};
 ghost use Rattle.wcv_lower.specs.Ending.{component_end_checks};
 ghost use Rattle.wcv_lower.specs.Marks.{unused_checks};
 ghost use Rattle.wcv_state.specs.Contents.{StateStands};
-ghost use Rattle.wcv_state.specs.Promises.{MemoryOrCausedBy, Keeps, Finished};
+ghost use Rattle.wcv_state.specs.Promises.{MemoryOrCausedBy, AddsComponent, Keeps, Finished};
 ghost use Rattle.wcv_decls.specs.Declaring.{innermost, around, stack_in, top_in, component_room, AreReady, SameAround, Opened, TypeKept, Ends};
-ghost use Rattle.wcv_decls.specs.Items.{AddsComponent, Stored};
+ghost use Rattle.wcv_decls.specs.Items.{Stored};
 ghost use Rattle.wcv_decls.specs.Stack.{KeepsOn};
 
 use crate::close::{leave, look_at, pop_type};
@@ -61,8 +61,7 @@ pub fn open_component(
 }
 
 /// The type of a component joins the components of a state. Says where it stands in the arena.
-#[tactic(auto, using(crate::proofs::Storing::unchanged))]
-fn add_component(
+fn join_component(
     ty: ComponentType,
     state: &mut ComponentState,
     types: &mut TypeAlloc,
@@ -74,8 +73,7 @@ fn add_component(
     ensures added { IfOk result (AddsComponent types.old types.new ty) }
     ensures keeps { OnErr result (Keeps types.old types.new state.old state.new) }
 {
-    let id: ComponentTypeId = types.push_ty(ty)?;
-    state.push_component(id)?;
+    let id = state.add_component(ty, types)?;
     Ok(id)
 }
 
@@ -117,6 +115,6 @@ pub fn end_component(
     let ty = pop_component(components, types, offset)?;
     look_at(&ty.info);
     let last = components.len() - 1;
-    let id = add_component(ty, &mut components[last], types)?;
+    let id = join_component(ty, &mut components[last], types)?;
     Ok(id)
 }

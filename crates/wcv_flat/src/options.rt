@@ -30,6 +30,18 @@ impl StringEncoding {
     }
 }
 
+impl Default for StringEncoding {
+    ghost use Rattle.std.specs.Prelude.{◌≡◌};
+    ghost use Rattle.wcv_flat.specs.declared.options.StringEncoding.TheVariants as encoding;
+
+    ghost is_default = { λ e. e ≡ encoding.Utf8 };
+
+    /// UTF-8, which stands where no option names an encoding.
+    fn default() -> StringEncoding {
+        StringEncoding::Utf8
+    }
+}
+
 impl fmt::Display for StringEncoding {
     ghost output = { λ encoding. Some (spec.encoding_word encoding) };
 
@@ -43,6 +55,18 @@ impl fmt::Display for StringEncoding {
 pub enum Concurrency {
     Sync,
     Async { callback: Option<u32> },
+}
+
+impl Default for Concurrency {
+    ghost use Rattle.std.specs.Prelude.{◌≡◌};
+    ghost use Rattle.wcv_flat.specs.declared.options.Concurrency.TheVariants as concurrency;
+
+    ghost is_default = { λ c. c ≡ concurrency.Sync };
+
+    /// A call that waits, which is one without the option `async`.
+    fn default() -> Concurrency {
+        Concurrency::Sync
+    }
 }
 
 impl Concurrency {

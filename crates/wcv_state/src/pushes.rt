@@ -1,9 +1,14 @@
 // One more entry in a space, or one more resource that is defined.
-ghost use Rattle.std.specs.Prelude.{◌≡◌, false, OnOk, OnErr};
+ghost use Rattle.std.specs.Prelude.{◌≡◌, false, OnOk, OnErr, IfOk};
+ghost use Rattle.wcv_types.specs.Standing.{Stands, Extends, Fits};
+ghost use Rattle.wcv_types.specs.Unfold.{tree_at, tree_of, trees};
+ghost use Rattle.wcv_types.specs.declared.arena.Node.TheVariants as node;
+ghost use Rattle.wcv_types.specs.declared.ids.Part.TheVariants as part;
 ghost use Rattle.wcv_lower.specs.Context.{in_types, in_funcs, in_values, in_instances, in_components, core_types, core_funcs, core_tags, core_modules, core_instances, core_memories, core_tables, core_globals};
 ghost use Rattle.wcv_state.specs.Aliasing.{with_entity};
 ghost use Rattle.wcv_state.specs.Contents.{with_id, with_core, with_defined, spent};
 ghost use Rattle.wcv_state.specs.Looking.{has_resource};
+ghost use Rattle.wcv_state.specs.Promises.{AddsComponent};
 
 use crate::spaces::append;
 use crate::state::ComponentState;
@@ -11,7 +16,7 @@ use wcv_core::{CoreTypeId, GlobalType, MemoryType, OutOfMemory, TableType, ValTy
 use wcv_types::{
     ComponentAnyTypeId, ComponentCoreInstanceTypeId, ComponentCoreModuleTypeId,
     ComponentCoreTypeId, ComponentEntityType, ComponentFuncTypeId, ComponentInstanceTypeId,
-    ComponentTypeId, ComponentValType, ResourceId,
+    ComponentType, ComponentTypeId, ComponentValType, ResourceId, TypeAlloc,
 };
 
 impl ComponentState {
@@ -209,6 +214,33 @@ impl ComponentState {
                 Err(error)
             }
         }
+    }
+
+    /// The type of a component becomes the arena's next node, and joins the components, whatever their number. Says
+    /// where it stands.
+    pub fn add_component(
+        &mut self,
+        component: ComponentType,
+        types: &mut TypeAlloc,
+    ) -> Result<ComponentTypeId, OutOfMemory>
+        requires live { self.old.spent ≡ false }
+        requires fits { Fits types.old (node.Component component) }
+        ensures ok { IfOk result (λ id. self.new ≡ with_id in_components id self.old) }
+        ensures added { IfOk result (AddsComponent types.old types.new component) }
+        ensures stands { IfOk result (λ id. Stands types.new (part.Component id)) }
+        ensures tree { IfOk result (λ id. tree_at types.new (part.Component id) ≡ tree_of (trees types.old.nodes) (node.Component component)) }
+        ensures err { OnErr result (self.new ≡ spent self.old) }
+        ensures grown { OnErr result (Extends types.old types.new) }
+    {
+        let id: ComponentTypeId = match types.push_ty(component) {
+            Ok(id) => id,
+            Err(error) => {
+                self.spent = true;
+                return Err(error);
+            }
+        };
+        self.push_component(id)?;
+        Ok(id)
     }
 
     /// Appends an entity to the space of its sort, whatever the number of those there: of a type the created one. A

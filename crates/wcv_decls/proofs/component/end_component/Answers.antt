@@ -33,8 +33,8 @@ returns-in_err-ty-clause-keeps c =
     let each : All (IsOpen a) ss = open_around a os c.requires.ready.some c.requires.ready.each in
     subst (KeepsOn a a ss) (sym c.pop_component.ensures.left) (around_kept a a (extends_refl a) ss each)
 
-pub add_component-requires-clause-live : goal.add_component-requires-clause-live
-add_component-requires-clause-live c =
+pub join_component-requires-clause-live : goal.join_component-requires-clause-live
+join_component-requires-clause-live c =
     let a = c.args.types.now in
     let os : List Contents = c.args.components.now.items in
     let ss : List Contents = around os in
@@ -45,8 +45,8 @@ add_component-requires-clause-live c =
     let here : s ≡ innermost ss = c.index_mut.ensures.value ∙ ap (λ (xs : List Contents). slice_index_or xs k s) c.pop_component.ensures.left ∙ indexed ss k s c.requires.inside last in
     ap (λ (x : Contents). x.spent) here ∙ (open_here a ss c.requires.inside each).live
 
-pub add_component-requires-clause-stands : goal.add_component-requires-clause-stands
-add_component-requires-clause-stands c =
+pub join_component-requires-clause-stands : goal.join_component-requires-clause-stands
+join_component-requires-clause-stands c =
     let a = c.args.types.now in
     let os : List Contents = c.args.components.now.items in
     let ss : List Contents = around os in
@@ -57,8 +57,8 @@ add_component-requires-clause-stands c =
     let here : s ≡ innermost ss = c.index_mut.ensures.value ∙ ap (λ (xs : List Contents). slice_index_or xs k s) c.pop_component.ensures.left ∙ indexed ss k s c.requires.inside last in
     subst (StateStands a) (sym here) (open_here a ss c.requires.inside each).stands
 
-pub add_component-requires-clause-fits : goal.add_component-requires-clause-fits
-add_component-requires-clause-fits c =
+pub join_component-requires-clause-fits : goal.join_component-requires-clause-fits
+join_component-requires-clause-fits c =
     let a = c.args.types.now in
     let os : List Contents = c.args.components.now.items in
     finished_fits a (innermost os) c.in_ok-ty.ty c.in_ok-ty.ensures.ok c.look_at.ensures.size c.look_at.ensures.depth
@@ -73,8 +73,8 @@ returns-clause-ok c =
     let s : Contents = c.index_mut.result.now in
     let last : k ≡ length ss - 1 = ap (λ (i : ℕ). i - 1) (c.len-last.ensures ∙ c.pop_component.new.components.ok.0 ∙ ap length c.pop_component.ensures.left) in
     let here : s ≡ innermost ss = c.index_mut.ensures.value ∙ ap (λ (xs : List Contents). slice_index_or xs k s) c.pop_component.ensures.left ∙ indexed ss k s c.requires.inside last in
-    let b = c.add_component.new.types in
-    let t : Contents = c.add_component.new.state in
+    let b = c.join_component.new.types in
+    let t : Contents = c.join_component.new.state in
     let now : slice_set c.pop_component.new.components.items k t ≡ slice_set ss k t = ap (λ (xs : List Contents). slice_set xs k t) c.pop_component.ensures.left in
     let end = node_at_end a (innermost os) c.in_ok-ty.ty c.in_ok-ty.ensures.ok in
     subst (Ends concrete a b os) (sym now) (type_ends concrete a b os c.requires.ready c.requires.inside each (n.Component c.in_ok-ty.ty) s t here c.in_ok-id.ensures.ok end.node end.made (sym (component_tree_same a (innermost os) c.in_ok-ty.ty c.in_ok-ty.ensures.ok) ∙ sym (end.tree (number (length a.nodes)))) (free_both (unused_checks (top_in a os)) (end_checks (top_in a os)) c.in_ok-ty.ensures.used c.in_ok-ty.ensures.ok.free) k last)
@@ -87,7 +87,7 @@ returns-in_err-id-clause-around c =
     let s : Contents = c.index_mut.result.now in
     let last : k ≡ length ss - 1 = ap (λ (i : ℕ). i - 1) (c.len-last.ensures ∙ c.pop_component.new.components.ok.0 ∙ ap length c.pop_component.ensures.left) in
     let here : s ≡ innermost ss = c.index_mut.ensures.value ∙ ap (λ (xs : List Contents). slice_index_or xs k s) c.pop_component.ensures.left ∙ indexed ss k s c.requires.inside last in
-    let t : Contents = c.add_component.new.state in
+    let t : Contents = c.join_component.new.state in
     let w : ChangesLast stay ss (slice_set ss k t) = last_changed ss k s t c.requires.inside last here in
     let now : slice_set c.pop_component.new.components.items k t ≡ slice_set ss k t = ap (λ (xs : List Contents). slice_set xs k t) c.pop_component.ensures.left in
     let p = err_from_is_err_and c.from_residual-in_err-id.result c.from_residual-in_err-id.ensures.1 in
@@ -103,8 +103,8 @@ returns-in_err-id-clause-keeps c =
     let s : Contents = c.index_mut.result.now in
     let last : k ≡ length ss - 1 = ap (λ (i : ℕ). i - 1) (c.len-last.ensures ∙ c.pop_component.new.components.ok.0 ∙ ap length c.pop_component.ensures.left) in
     let here : s ≡ innermost ss = c.index_mut.ensures.value ∙ ap (λ (xs : List Contents). slice_index_or xs k s) c.pop_component.ensures.left ∙ indexed ss k s c.requires.inside last in
-    let b = c.add_component.new.types in
-    let t : Contents = c.add_component.new.state in
+    let b = c.join_component.new.types in
+    let t : Contents = c.join_component.new.state in
     let w : ChangesLast stay ss (slice_set ss k t) = last_changed ss k s t c.requires.inside last here in
     let now : slice_set c.pop_component.new.components.items k t ≡ slice_set ss k t = ap (λ (xs : List Contents). slice_set xs k t) c.pop_component.ensures.left in
     subst (KeepsOn a b ss) (sym now) (kept a b ss (slice_set ss k t) w each c.in_err-id.ensures.keeps)
@@ -119,8 +119,8 @@ returns-clause-keeps c =
     let s : Contents = c.index_mut.result.now in
     let last : k ≡ length ss - 1 = ap (λ (i : ℕ). i - 1) (c.len-last.ensures ∙ c.pop_component.new.components.ok.0 ∙ ap length c.pop_component.ensures.left) in
     let here : s ≡ innermost ss = c.index_mut.ensures.value ∙ ap (λ (xs : List Contents). slice_index_or xs k s) c.pop_component.ensures.left ∙ indexed ss k s c.requires.inside last in
-    let b = c.add_component.new.types in
-    let t : Contents = c.add_component.new.state in
+    let b = c.join_component.new.types in
+    let t : Contents = c.join_component.new.state in
     let w : ChangesLast stay ss (slice_set ss k t) = last_changed ss k s t c.requires.inside last here in
     let now : slice_set c.pop_component.new.components.items k t ≡ slice_set ss k t = ap (λ (xs : List Contents). slice_set xs k t) c.pop_component.ensures.left in
     subst (KeepsOn a b ss) (sym now) (kept a b ss (slice_set ss k t) w each c.in_ok-id.ensures.ok.keeps)
