@@ -45,9 +45,11 @@ older_keeps gs hs i p t u s h k e f = go (get_or (parents_from 0 gs) i None) ref
         (s i r h x ∙
         (sym (word_shown gs i t h) ∙ (ap form_word (sym e) ∙ word_shown hs i u k)))))
 
-pub joined_keeps : (gs : List Group) (g : Group) → IsTable gs → SupersKeepForm gs → IsClosed (total gs) g
-    → IsFree (all_checks (type_checks (with_group gs g)) (group_ids gs g)) → SupersKeepForm (with_group gs g)
-joined_keeps gs g t s c w i p h e = go (id_of gs g) refl (split i (total gs))
+-- a group joins of which each type that has a supertype has its form
+pub joined_forms : (gs : List Group) (g : Group) → IsTable gs → SupersKeepForm gs → IsClosed (total gs) g
+    → ((k p : ℕ) → k < length g → get_or (parents_from 0 (with_group gs g)) (first_id gs g + k) None ≡ Some p → form_heap (type_at (with_group gs g) p).inner ≡ form_heap (type_at (with_group gs g) (first_id gs g + k)).inner)
+    → SupersKeepForm (with_group gs g)
+joined_forms gs g t s c w i p h e = go (id_of gs g) refl (split i (total gs))
   where
     u : IsTable (with_group gs g)
     u = table_joined gs g t c
@@ -63,4 +65,11 @@ joined_keeps gs g t s c w i p h e = go (id_of gs g) refl (split i (total gs))
     go None x (inr l) =
         let z : total (with_group gs g) ≡ total gs + length g = ap (λ (r : Option ℕ). total (joined_to r gs g)) x ∙ total-append gs g in
         let y : first_id gs g ≡ total gs = ap (λ (r : Option ℕ). unwrap_or r (total gs)) x in
-        rule_keeps_form (with_group gs g) i p (ranged_free (type_checks (with_group gs g)) (first_id gs g) (length g) (i - total gs) i (omega arith) (omega arith) w) e
+        let q : i ≡ first_id gs g + (i - total gs) = omega arith in
+        let f : get_or (parents_from 0 (with_group gs g)) (first_id gs g + (i - total gs)) None ≡ Some p = ap (λ (j : ℕ). get_or (parents_from 0 (with_group gs g)) j None) (sym q) ∙ e in
+        w (i - total gs) p (omega arith) f ∙ ap (λ (j : ℕ). form_heap (type_at (with_group gs g) j).inner) (sym q)
+
+pub joined_keeps : (gs : List Group) (g : Group) → IsTable gs → SupersKeepForm gs → IsClosed (total gs) g
+    → IsFree (all_checks (type_checks (with_group gs g)) (group_ids gs g)) → SupersKeepForm (with_group gs g)
+joined_keeps gs g t s c w =
+    joined_forms gs g t s c (λ k p l e. rule_keeps_form (with_group gs g) (first_id gs g + k) p (ranged_free (type_checks (with_group gs g)) (first_id gs g) (length g) k (first_id gs g + k) l refl w) e)

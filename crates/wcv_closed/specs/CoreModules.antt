@@ -1,13 +1,11 @@
 -- Matching of core modules, and the arguments of a core instance. E is the type of items, and C says of two whether the first matches the second.
-use Rattle.std.specs.Prelude.{List, Bool, bytes_eq, ◌&&◌, Contains, All}
+use Rattle.std.specs.Prelude.{List, bytes_eq, Contains, All}
 use Rattle.std.specs.List.{IsDistinct}
 use Rattle.std.specs.Map.{keys_of}
+-- of the names of a module and of an item in it
+pub use Rattle.wcv_core.specs.TextSet.{same_pair}
 use Rattle.wcv_types.specs.Tree.{Text}
 use Rattle.wcv_closed.specs.Found.{Found, EachFound}
-
--- the names of a module and of an item in it
-abbrev pub same_pair : Text × Text → Text × Text → Bool
-same_pair p q = bytes_eq p.0 q.0 && bytes_eq p.1 q.1
 
 -- what a module imports and exports
 pub record Module_items (E : Type 0) : Type 0 where

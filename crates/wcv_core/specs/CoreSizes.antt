@@ -14,6 +14,12 @@ IsEntityWithin n (entity.Table t) = IsHeapWithin n 0 t.element_type.heap
 IsEntityWithin n (entity.Memory m) = Unit {0}
 IsEntityWithin n (entity.Global g) = IsValWithin n 0 g.content_type
 
+-- the types that it is a function or a tag of are of the table
+abbrev pub IsEntityKnown : ℕ → EntityType → Type 0
+IsEntityKnown n (entity.Func t) = t.index < n
+IsEntityKnown n (entity.Tag t) = t.index < n
+IsEntityKnown n _ = Unit {0}
+
 abbrev pub form_size : CompositeForm → ℕ
 form_size (func_form ps rs) = 1 + length ps + length rs
 form_size (struct_form fs) = 1

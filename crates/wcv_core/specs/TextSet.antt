@@ -1,5 +1,5 @@
 -- What a set of texts holds, and where it finds them.
-use Rattle.std.specs.Prelude.{ℕ, List, [], ◌∷◌, ◌++◌, map, Bool, false, cond, String, string_bytes, ◌≡◌, ◌⊎◌, Option, Some, None, slice_get, bytes_eq}
+use Rattle.std.specs.Prelude.{ℕ, List, [], ◌∷◌, ◌++◌, map, Bool, false, ◌&&◌, cond, String, string_bytes, ◌≡◌, ◌⊎◌, Option, Some, None, slice_get, bytes_eq}
 use Rattle.std.specs.List.{IsDistinct}
 use Rattle.std.specs.BTreeMap.{BTreeMap, get, get_by_text}
 use Rattle.std.specs.Ordering.{nat_cmp}
@@ -17,6 +17,10 @@ texts_of ss = map string_bytes ss
 abbrev pub is_text : Text → Option Text → Bool
 is_text r None = false
 is_text r (Some t) = bytes_eq t r
+
+-- two pairs of texts are one
+abbrev pub same_pair : Text × Text → Text × Text → Bool
+same_pair p q = bytes_eq p.0 q.0 && bytes_eq p.1 q.1
 
 -- with a text, which is there once
 abbrev pub with_text : Text → List Text → List Text

@@ -13,6 +13,7 @@ mod core_limits;
 mod core_matching;
 mod core_rows;
 mod core_rules;
+mod core_sizes;
 mod core_table;
 mod core_types;
 mod error;
@@ -43,6 +44,7 @@ pub use core_laws::{
     what_is_compared_by_codes_is_equal, words_match_by_the_rules,
 };
 pub use core_limits::check_group_limits;
+pub use core_sizes::core_item_size;
 pub use core_table::CoreTypes;
 pub use core_types::{
     AbstractHeap, ArrayType, CompositeInnerType, CoreTypeId, EntityType, FieldType, FuncType,

@@ -16,6 +16,7 @@ use Rattle.wcv_types.specs.declared.ids.ComponentCoreModuleTypeId.{ComponentCore
 use Rattle.wcv_types.specs.declared.ids.Part.{Part}
 use Rattle.wcv_types.specs.declared.ids.Part.TheVariants as p
 use Rattle.wcv_types.specs.Standing.{core_items, kind_items}
+use Rattle.wcv_types.proofs.CoreSizes.{listed_seen}
 use Rattle.wcv_closed.specs.CoreModules.{Module_items}
 use Rattle.wcv_matching.specs.ModuleItems.{core_imports_in, core_exports_in, module_items, items_of, instance_exports_in, instance_exports}
 
@@ -35,10 +36,6 @@ module _ (ts : List Type_tree) where
   pub exports_seen : (is : List ((Text × Text) × EntityType)) (es : List (Text × EntityType)) → core_exports_in (slot_parts ts (core_import_slots is ++ core_export_slots es)) ≡ es
   exports_seen [] es = exports_alone es
   exports_seen (i ∷ is) es = exports_seen is es
-
-  pub listed_seen : (es : List (Text × EntityType)) → instance_exports_in (slot_parts ts (core_export_slots es)) ≡ es
-  listed_seen [] = refl
-  listed_seen (e ∷ es) = ap (λ (fs : List (Text × EntityType)). e ∷ fs) (listed_seen es)
 
 pub module_seen : (a : Arena) (t : Type_tree) (s : ModuleType) (q : Part) → t ≡ unfolded a (place q) (n.Module s) → module_items t ≡ items_of s
 module_seen a t s q e =

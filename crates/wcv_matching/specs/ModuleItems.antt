@@ -1,8 +1,9 @@
 -- What core modules and core instances of a tree import and export, by ids of a table.
-use Rattle.std.specs.Prelude.{List, [], ◌∷◌, ◌++◌, Option, Some, None}
+use Rattle.std.specs.Prelude.{List, []}
 use Rattle.wcv_core.specs.CoreForm.{Group}
 use Rattle.wcv_core.specs.declared.core_types.EntityType.{EntityType}
-use Rattle.wcv_types.specs.Tree.{Text, Head, core_item, here, core_import, core_export, Tree, Parts, none, part, head, parts}
+use Rattle.wcv_types.specs.Tree.{Text, core_import, Tree, Parts, none, part, head, parts}
+pub use Rattle.wcv_types.specs.CoreParts.{item_at, before, core_exports_in, instance_exports_in, instance_exports}
 use Rattle.wcv_types.specs.declared.core_shapes.ModuleType.{ModuleType}
 use Rattle.wcv_closed.specs.ClosedItems.{ItemMatches}
 use Rattle.wcv_closed.specs.ClosedValue.{closed_item}
@@ -14,24 +15,10 @@ ItemsMatch gs a b = ItemMatches (closed_item gs a) (closed_item gs b)
 
 -- ## Views
 
-abbrev pub item_at : {R I : Type 0} → Head R I → Option EntityType
-item_at (core_item e) = Some e
-item_at h = None
-
--- what stands under a name, before others
-abbrev pub before : {K X : Type 0} → K → Option X → List (K × X) → List (K × X)
-before k None es = es
-before k (Some e) es = (k, e) ∷ es
-
 abbrev pub core_imports_in : {R I : Type 0} → Parts R I → List ((Text × Text) × EntityType)
 core_imports_in none = []
 core_imports_in (part (core_import m n) t ps) = before (m, n) (item_at (head t)) (core_imports_in ps)
 core_imports_in (part r t ps) = core_imports_in ps
-
-abbrev pub core_exports_in : {R I : Type 0} → Parts R I → List (Text × EntityType)
-core_exports_in none = []
-core_exports_in (part (core_export n) t ps) = before n (item_at (head t)) (core_exports_in ps)
-core_exports_in (part r t ps) = core_exports_in ps
 
 -- of a core module
 abbrev pub module_items : {R I : Type 0} → Tree R I → Module_items EntityType
@@ -40,13 +27,3 @@ module_items t = record { imports = core_imports_in (parts t); exports = core_ex
 -- of the shape of a node
 abbrev pub items_of : ModuleType → Module_items EntityType
 items_of s = record { imports = s.imports; exports = s.exports }
-
--- a core instance exports what its module exports, or what it lists
-abbrev pub instance_exports_in : {R I : Type 0} → Parts R I → List (Text × EntityType)
-instance_exports_in none = []
-instance_exports_in (part here t ps) = core_exports_in (parts t) ++ instance_exports_in ps
-instance_exports_in (part (core_export n) t ps) = before n (item_at (head t)) (instance_exports_in ps)
-instance_exports_in (part r t ps) = instance_exports_in ps
-
-abbrev pub instance_exports : {R I : Type 0} → Tree R I → List (Text × EntityType)
-instance_exports t = instance_exports_in (parts t)

@@ -21,7 +21,7 @@ use Rattle.wcv_core.specs.declared.core_types.ValType.{ValType}
 use Rattle.wcv_core.specs.declared.core_types.ValType.TheVariants as val
 use Rattle.wcv_core.specs.declared.features.WasmFeatures.{WasmFeatures}
 use Rattle.wcv_types.specs.Standing.{entity_sizes}
-use Rattle.wcv_types.proofs.CoreGrown.{within_more, sizes_stay, grown_by}
+use Rattle.wcv_types.proofs.CoreGrown.{within_more, sizes_stay, sizes-append, grown_by}
 use Rattle.wcv_types.proofs.Unfolding.{all_left, all_right}
 use Rattle.wcv_module.specs.Kept.{module_items, IsCounted}
 use Rattle.wcv_module.proofs.Growing.{Grows, known_named}
@@ -85,10 +85,6 @@ entity_within fs gs ts (ref.Global g) e known f is =
     subst (IsEntityWithin (total gs)) (some_same (entity.Global (closed_global (type_entries ts) g)) e is) (val_within (total gs) (type_entries ts) g.content_type known (free_right (val_needs fs g.content_type) (val_checks (total gs) (type_entries ts) 0 g.content_type) f.1))
 
 -- ## One more item
-
-sizes-append : (gs : List Group) (xs ys : List EntityType) → entity_sizes gs (xs ++ ys) ≡ entity_sizes gs xs + entity_sizes gs ys
-sizes-append gs [] ys = omega arith
-sizes-append gs (x ∷ xs) ys = omega (arith, sizes-append gs xs ys)
 
 abbrev import_of : Core_import → EntityType
 import_of i = i.1

@@ -4,11 +4,11 @@ use Rattle.std.specs.Prelude.{◌≡◌, ◌⊎◌, ℕ, suc, ◌<◌, ◌≤◌
 use Rattle.wcv_core.specs.CoreForm.{Group}
 use Rattle.wcv_core.specs.CoreGroups.{total}
 use Rattle.wcv_core.specs.CoreSizes.{IsEntityWithin}
+pub use Rattle.wcv_core.specs.CoreSizes.{IsEntityKnown}
 use Rattle.wcv_core.specs.Label.{is_among}
 use Rattle.wcv_core.specs.Refusal.{error_kind}
 use Rattle.wcv_core.specs.declared.core_types.CoreTypeId.{CoreTypeId}
 use Rattle.wcv_core.specs.declared.core_types.EntityType.{EntityType}
-use Rattle.wcv_core.specs.declared.core_types.EntityType.TheVariants as entity
 use Rattle.wcv_core.specs.declared.error.Error.{Error}
 use Rattle.wcv_core.specs.declared.error.ErrorKind.TheVariants as kind
 use Rattle.wcv_syntax.specs.Model.{Text}
@@ -20,12 +20,6 @@ pub record IsKept (types : List CoreTypeId) (exports : List Core_export) (names 
   pub few : length types < 2 ^ 32
   pub named : (t : Text) → is_among t names ≡ is_among t (export_names exports)
   pub small : size ≤ max_size
-
--- the ids in a type are of a table of n types
-abbrev pub IsEntityKnown : ℕ → EntityType → Type 0
-IsEntityKnown n (entity.Func t) = t.index < n
-IsEntityKnown n (entity.Tag t) = t.index < n
-IsEntityKnown n _ = Unit {0}
 
 -- after a refusal module and table are as before; out of memory nothing is said of them
 abbrev pub IsUndone : {M : Type 0} → Module_type → Module_type → List Group → List Group → Error M → Type 0

@@ -14,6 +14,6 @@ mod typing;
 
 pub use declarations::ModuleDeclaration;
 pub use limits::{check_group, check_module_limits};
-pub use module::{Module, core_item_size};
+pub use module::Module;
 pub use outer::{Enclosing, NoOuter, OuterTypes};
 pub use wcv_types::{ExportMap, ImportMap};

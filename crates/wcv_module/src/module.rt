@@ -6,12 +6,11 @@ ghost use Rattle.wcv_core.specs.Checks.{IsFree, CausedBy, MemoryOrCausedBy, too_
 ghost use Rattle.wcv_core.specs.CoreForm.{group_form};
 ghost use Rattle.wcv_core.specs.CoreGroups.{total};
 ghost use Rattle.wcv_core.specs.CoreJoining.{IsLeft};
-ghost use Rattle.wcv_core.specs.CoreMatching.{type_at};
 ghost use Rattle.wcv_core.specs.CoreSizes.{IsEntityWithin};
 ghost use Rattle.wcv_core.specs.CoreWritten.{IsKnown, closed_group};
 ghost use Rattle.wcv_core.specs.Refusal.{error_kind, error_offset};
 ghost use Rattle.wcv_module.specs.Kept.{IsEntityKnown, module_items};
-ghost use Rattle.wcv_syntax.specs.CoreItems.{ref_checks, entity_of, entity_size, form_size};
+ghost use Rattle.wcv_syntax.specs.CoreItems.{ref_checks, entity_of, entity_size};
 ghost use Rattle.wcv_syntax.specs.ModuleTypes.{Module_type, empty_module, module_entries, with_type, with_import, with_export, types_checks, size_checks, import_checks, export_checks, import_joins, group_joins, with_group_of, whole_checks};
 ghost use Rattle.wcv_types.specs.CoreCalls.{with_core};
 ghost use Rattle.wcv_types.specs.Standing.{Extends, KeepsTrees, Fits, entity_sizes};
@@ -24,8 +23,8 @@ use std::alloc::Global;
 use std::marker::Model;
 use wcv_core::limits::{MAX_ENTRIES, MAX_SIZE};
 use wcv_core::{
-    CompositeInnerType, CoreTypeId, CoreTypes, EntityType, Error, ErrorKind, InternRecGroup,
-    LabelSet, OutOfMemory, RecGroup, Refusal, Text, WasmFeatures, Why,
+    CoreTypeId, CoreTypes, EntityType, Error, ErrorKind, InternRecGroup, LabelSet, OutOfMemory,
+    RecGroup, Refusal, Text, WasmFeatures, Why, core_item_size,
 };
 use wcv_syntax::{Import, TypeRef};
 use wcv_types::{ExportMap, ImportMap, ModuleType, TypeAlloc, TypeInfo};
@@ -101,30 +100,6 @@ fn check_room(
         return Err(Error::new(ErrorKind::Limit, offset, why));
     }
     Ok(())
-}
-
-/// How large a type is as a part of the type of a module.
-fn size_of_type(core: &CoreTypes, id: CoreTypeId) -> u64
-    requires { id.index < total core.now }
-    ensures { result ≡ form_size (type_at core.now id.index).inner }
-{
-    match &core.get(id).inner {
-        CompositeInnerType::Func(func) => {
-            1 + func.params.len() as u64 + func.results.len() as u64
-        }
-        _ => 1,
-    }
-}
-
-/// How large the type of a core item is as a part of the type of a module, or of a core instance.
-pub fn core_item_size(core: &CoreTypes, ty: EntityType) -> u64
-    requires known { IsEntityKnown (total core.now) ty }
-    ensures { result ≡ entity_size core.now ty }
-{
-    match ty {
-        EntityType::Func(id) | EntityType::Tag(id) => size_of_type(core, id),
-        _ => 1,
-    }
 }
 
 fn repeated(name: &str, offset: u64) -> Refusal<'_>

@@ -1,14 +1,15 @@
 -- The type of a core module: what its declarations make of it, one after another, and why they are refused.
 use Rattle.wcv_core.specs.Limits.{max_entries, max_list, max_size, max_text}
-use Rattle.std.specs.Prelude.{ℕ, zero, suc, ◌+◌, List, [], ◌∷◌, ◌++◌, length, map, Bool, false, ◌&&◌, ◌||◌, Option, Some, None, slice_get}
+use Rattle.std.specs.Prelude.{ℕ, zero, suc, ◌+◌, List, [], ◌∷◌, ◌++◌, length, map, Bool, false, ◌||◌, Option, Some, None, slice_get}
 use Rattle.std.specs.Option.{option_map}
-use Rattle.std.specs.Str.{bytes_eq}
 use Rattle.wcv_core.specs.Checks.{Checks, all_checks, missing, too_many}
 use Rattle.wcv_core.specs.CoreFeatures.{group_left}
 use Rattle.wcv_core.specs.CoreForm.{Group}
 use Rattle.wcv_core.specs.CoreJoining.{group_checks, group_ids, grown, then_checks, with_types}
 use Rattle.wcv_core.specs.CoreWritten.{Core_entry, sub_entry, module_entry, entry_checks, closed_group}
 use Rattle.wcv_core.specs.Label.{is_among}
+-- of the names of a module and of an item in it
+pub use Rattle.wcv_core.specs.TextSet.{same_pair}
 use Rattle.wcv_core.specs.declared.core_types.CoreTypeId.{CoreTypeId}
 use Rattle.wcv_core.specs.declared.core_types.EntityType.{EntityType}
 use Rattle.wcv_core.specs.declared.error.ErrorKind.TheVariants as kind
@@ -57,9 +58,6 @@ with_export gs m n e = record { features = m.features; types = m.types; imports 
 
 abbrev pub export_names : List Core_export → List Text
 export_names es = map (λ e. e.0) es
-
-abbrev pub same_pair : Text × Text → Text × Text → Bool
-same_pair p q = bytes_eq p.0 q.0 && bytes_eq p.1 q.1
 
 abbrev pub is_pair_among : Text × Text → List (Text × Text) → Bool
 is_pair_among p [] = false

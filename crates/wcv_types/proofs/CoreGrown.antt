@@ -1,6 +1,6 @@
 -- A table of core types that grew at its end keeps what stood in it.
 use Rattle.std.proofs.Common.{◌≡◌, ℕ, suc, ◌+◌, ◌<◌, ◌≤◌, List, [], ◌∷◌, ◌++◌, length, get_or, refl, sym, ◌∙◌, ap, subst, arith, append_assoc, append-nil, length-append, inl, inr}
-use Rattle.std.specs.Prelude.{map, slice_get, All, Option, Some, None, Result, Ok, Err, OnOk, OnErr, IfErr}
+use Rattle.std.specs.Prelude.{slice_get, All, Option, Some, None, Result, Ok, Err, OnOk, OnErr, IfErr}
 use Rattle.std.proofs.Math.ListN.{get_or-append}
 use Rattle.std.proofs.lemmas.List.Elements.{All-weaker, All-head, All-tail}
 use Rattle.wcv_core.specs.CoreForm.{SubForm, Group, no_type}
@@ -20,12 +20,10 @@ use Rattle.wcv_core.specs.declared.error.Error.{Error}
 use Rattle.wcv_types.specs.Arena.{Arena}
 use Rattle.wcv_types.specs.CoreCalls.{with_core}
 use Rattle.wcv_types.specs.Resources.{owned_by}
-use Rattle.wcv_types.specs.Standing.{Stands, Fits, AllFit, Extends, KeepsTrees, GaveResource, IsStated, core_items, cut, entity_sizes, kind_items, kind_size}
+use Rattle.wcv_types.specs.Standing.{Stands, Fits, AllFit, Extends, KeepsTrees, GaveResource, IsStated, core_items, cut, entity_sizes, kind_exported}
 use Rattle.wcv_types.specs.Unfold.{Type_tree, capped, head_of, parts_of, trees}
 use Rattle.wcv_types.specs.declared.arena.Node.{Node}
 use Rattle.wcv_types.specs.declared.arena.Node.TheVariants as n
-use Rattle.wcv_types.specs.declared.core_shapes.CoreInstanceTypeKind.{CoreInstanceTypeKind}
-use Rattle.wcv_types.specs.declared.core_shapes.CoreInstanceTypeKind.TheVariants as kind
 use Rattle.wcv_types.specs.declared.ids.Part.{Part}
 use Rattle.wcv_types.specs.declared.ids.Part.TheVariants as p
 
@@ -98,11 +96,11 @@ sizes_stay gs hs (x ∷ xs) w =
     let f : entity_sizes (gs ++ hs) xs ≡ entity_sizes gs xs = sizes_stay gs hs xs (All-tail (IsEntityWithin (total gs)) x xs w) in
     λ j. e j + f j
 
--- ## Nodes
+pub sizes-append : (gs : List Group) (xs ys : List EntityType) → entity_sizes gs (xs ++ ys) ≡ entity_sizes gs xs + entity_sizes gs ys
+sizes-append gs [] ys = omega arith
+sizes-append gs (x ∷ xs) ys = omega (arith, sizes-append gs xs ys)
 
-kind_stays : (gs hs : List Group) (ts : List Type_tree) (k : CoreInstanceTypeKind) → All (IsEntityWithin (total gs)) (kind_items k) → kind_size (gs ++ hs) ts k ≡ kind_size gs ts k
-kind_stays gs hs ts (kind.Instantiated m) w = refl
-kind_stays gs hs ts (kind.Exports es) w = sizes_stay gs hs (map (λ e. e.1) es) w
+-- ## Nodes
 
 pub stated_stays : (gs hs : List Group) (ts : List Type_tree) (x : Node) → All (IsEntityWithin (total gs)) (core_items x) → IsStated gs ts x → IsStated (gs ++ hs) ts x
 stated_stays gs hs ts (n.Defined s) w h = tt
@@ -110,7 +108,10 @@ stated_stays gs hs ts (n.Func s) w h = tt
 stated_stays gs hs ts (n.Instance s) w h = tt
 stated_stays gs hs ts (n.Component s) w h = tt
 stated_stays gs hs ts (n.Module s) w h = h ∙ ap (λ (k : ℕ). capped (suc k)) (sym (sizes_stay gs hs (core_items (n.Module s)) w))
-stated_stays gs hs ts (n.CoreInstance s) w h = h ∙ ap (λ (k : ℕ). capped (suc k)) (sym (kind_stays gs hs ts s.kind w))
+stated_stays gs hs ts (n.CoreInstance s) w h = record {
+  within = within_more gs hs (kind_exported ts s.kind) h.within;
+  size_is = h.size_is ∙ ap (λ (k : ℕ). capped (suc k)) (sym (sizes_stay gs hs (kind_exported ts s.kind) h.within));
+}
 
 gave_core : (a : Arena) (gs : List Group) (r : Name) → GaveResource a r → GaveResource (with_core a gs) r
 gave_core a gs (number k) h = h

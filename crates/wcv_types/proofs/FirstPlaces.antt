@@ -19,10 +19,10 @@ use Rattle.wcv_types.specs.Tree.{Text}
 use Rattle.wcv_types.proofs.Lists.{take-next}
 
 -- one pair on
-pub next_entry : {V : Type 0} (es : List (Text × V)) (i : ℕ) (e : Text × V) → i < length es → e ≡ get_or es i e → drop i es ≡ e ∷ drop (i + 1) es
+pub next_entry : {A : Type 0} (es : List A) (i : ℕ) (e : A) → i < length es → e ≡ get_or es i e → drop i es ≡ e ∷ drop (i + 1) es
 next_entry es i e h r = drop-cons es i e h ∙ ap (λ g. g ∷ drop (suc i) es) (sym r) ∙ rw add-one refl
 
-pub no_entry : {V : Type 0} (es : List (Text × V)) (i : ℕ) → length es ≤ i → drop i es ≡ []
+pub no_entry : {A : Type 0} (es : List A) (i : ℕ) → length es ≤ i → drop i es ≡ []
 no_entry es i h = drop_of_length-le es h
 
 -- ## One more text

@@ -13,11 +13,11 @@ use Rattle.wcv_core.specs.CoreSizes.{IsEntityWithin}
 use Rattle.wcv_core.specs.Names.{Name, number, stamp, base, at, stamped, aside}
 use Rattle.wcv_core.specs.declared.core_types.EntityType.{EntityType}
 use Rattle.wcv_types.specs.Arena.{Arena}
+use Rattle.wcv_types.specs.CoreParts.{exported_items}
 use Rattle.wcv_types.specs.Led.{Led}
-use Rattle.wcv_types.specs.Measure.{size}
 use Rattle.wcv_types.specs.Resources.{owned_by}
 use Rattle.wcv_types.specs.Unfold.{Type_tree, capped, left_out, rank, head_of, kind_slots, parts_in, tree_of, tree_in, trees_after, trees, tree_at, info_of, parts_of, IsInfoOf}
-use Rattle.wcv_types.specs.Standing.{Stands, GaveResource, kind_items, core_items, entity_sizes, kind_size, IsStated, Fits, AllFit, cut, with_node, Extends, KeepsTrees}
+use Rattle.wcv_types.specs.Standing.{Stands, GaveResource, core_items, entity_sizes, kind_exported, own_size, IsStated, Fits, AllFit, cut, with_node, Extends, KeepsTrees}
 use Rattle.wcv_types.specs.declared.arena.Node.{Node}
 use Rattle.wcv_types.specs.declared.arena.Node.TheVariants as n
 use Rattle.wcv_types.specs.declared.core_shapes.CoreInstanceTypeKind.{CoreInstanceTypeKind}
@@ -221,11 +221,15 @@ stated_more a b (n.Func s) e q w h = tt
 stated_more a b (n.Instance s) e q w h = tt
 stated_more a b (n.Component s) e q w h = tt
 stated_more a b (n.Module s) e q w h = h ∙ ap (λ (k : ℕ). capped (suc k)) (items_stay a b (core_items (n.Module s)) e w)
-stated_more a b (n.CoreInstance s) e q w h = h ∙ ap (λ (k : ℕ). capped (suc k)) (kind_stays s.kind q w)
+stated_more a b (n.CoreInstance s) e q w h =
+    record {
+      within = subst (All (IsEntityWithin (total b.core))) (sym (exported_same s.kind q)) (items_within a b (kind_exported (trees a.nodes) s.kind) e h.within);
+      size_is = h.size_is ∙ ap (λ (k : ℕ). capped (suc k)) (items_stay a b (kind_exported (trees a.nodes) s.kind) e h.within) ∙ ap (own_size b.core) (sym (exported_same s.kind q));
+    }
   where
-    kind_stays : (c : CoreInstanceTypeKind) → All (Stands a) (parts_in (kind_slots c)) → All (IsEntityWithin (total a.core)) (kind_items c) → kind_size a.core (trees a.nodes) c ≡ kind_size b.core (trees b.nodes) c
-    kind_stays (kind.Instantiated m) q v = ap size (sym (same_tree a b (p.Module m) e (All-head (Stands a) (p.Module m) [] q)))
-    kind_stays (kind.Exports es) q v = items_stay a b (kind_items (kind.Exports es)) e v
+    exported_same : (c : CoreInstanceTypeKind) → All (Stands a) (parts_in (kind_slots c)) → kind_exported (trees b.nodes) c ≡ kind_exported (trees a.nodes) c
+    exported_same (kind.Instantiated m) q = ap exported_items (same_tree a b (p.Module m) e (All-head (Stands a) (p.Module m) [] q))
+    exported_same (kind.Exports es) q = refl
 
 -- more resources and more groups leave each node fitting
 pub fits_more : (a b : Arena) (x : Node) → Extends a b → b.nodes ≡ a.nodes → Fits a x → Fits b x

@@ -39,6 +39,7 @@ pub mod EntriesRefilled
 pub mod InstancesRebuilt
 pub mod ComponentsRebuilt
 pub mod ModulesRebuilt
+pub mod CoreSizes
 pub mod CoreInstancesRebuilt
 pub mod SortLaws
 pub mod Renewing

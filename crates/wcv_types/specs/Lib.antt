@@ -19,6 +19,7 @@ pub mod Text
 pub mod Arena
 pub mod Info
 pub mod Unfold
+pub mod CoreParts
 pub mod Standing
 pub mod Entities
 pub mod ComponentTrees

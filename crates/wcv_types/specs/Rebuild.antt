@@ -1,14 +1,15 @@
 -- A node that is made again with other parts.
 use Rattle.std.specs.Prelude.{ℕ, suc, List, [], ◌∷◌, ◌++◌, drop, length, map, Option, Some, Bool, true, false, eqb, All, slice_get, ◌≡◌}
+use Rattle.wcv_core.specs.CoreForm.{Group}
 use Rattle.wcv_core.specs.Names.{Name, number}
 use Rattle.wcv_core.specs.declared.core_types.CoreTypeId.{CoreTypeId}
 use Rattle.wcv_types.specs.Tree.{Text, Head, defined, func, instance, component, core_module, core_instance, Role, here, label, node, Parts, part, head}
 use Rattle.wcv_types.specs.Arena.{Arena}
+use Rattle.wcv_types.specs.CoreParts.{exported_items}
 use Rattle.wcv_types.specs.Replacing.{Replacement, replaced}
 use Rattle.wcv_types.specs.Led.{Led}
-use Rattle.wcv_types.specs.Measure.{size}
-use Rattle.wcv_types.specs.Standing.{Stands, Extends, KeepsTrees}
-use Rattle.wcv_types.specs.Unfold.{capped, rank, Slot, leaf, at, both, core, Slots, slot_refs, slots_at, slot_parts, parts_at, trees, tree_at, value_slots}
+use Rattle.wcv_types.specs.Standing.{Stands, Extends, KeepsTrees, own_size}
+use Rattle.wcv_types.specs.Unfold.{rank, Slot, leaf, at, both, core, Slots, slot_refs, slots_at, slot_parts, parts_at, trees, tree_at, value_slots}
 use Rattle.wcv_types.specs.declared.arena.Node.{Node}
 use Rattle.wcv_types.specs.declared.arena.Node.TheVariants as n
 use Rattle.wcv_types.specs.declared.ids.Part.{Part}
@@ -91,9 +92,9 @@ anew j (core_instance i n) = core_instance j n
 anew j h = h
 
 -- a core instance that was made of a module states its own size
-abbrev pub HeadCounts : Head Name Name → Parts Name Name → Type 0
-HeadCounts (core_instance i n) (part here t ps) = n ≡ capped (suc (size t))
-HeadCounts h ps = Unit {0}
+abbrev pub HeadCounts : List Group → Head Name Name → Parts Name Name → Type 0
+HeadCounts gs (core_instance i n) (part here t ps) = n ≡ own_size gs (exported_items t)
+HeadCounts gs h ps = Unit {0}
 
 -- these may be the parts of that type
 pub record Refits (a : Arena) (q : Part) (qs : List Part) : Type 0 where
@@ -102,7 +103,7 @@ pub record Refits (a : Arena) (q : Part) (qs : List Part) : Type 0 where
   -- what the node made again owns is led to
   pub led : Led (node (head (tree_at a q)) (slot_parts (trees a.nodes) (refill (slots_at a.nodes q) qs)))
   -- and what it states stays so
-  pub counts : HeadCounts (head (tree_at a q)) (slot_parts (trees a.nodes) (refill (slots_at a.nodes q) qs))
+  pub counts : HeadCounts a.core (head (tree_at a q)) (slot_parts (trees a.nodes) (refill (slots_at a.nodes q) qs))
 
 -- the core types that the declarations of a module gave: they are no part of its type
 abbrev pub types_in : Option Node → List CoreTypeId

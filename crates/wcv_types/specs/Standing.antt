@@ -8,9 +8,9 @@ use Rattle.wcv_core.specs.declared.core_types.EntityType.{EntityType}
 use Rattle.wcv_types.specs.Tree.{node, head}
 use Rattle.wcv_types.specs.Identity.{Identity, of_node, of_reference, identity_at}
 use Rattle.wcv_types.specs.Arena.{Arena}
+use Rattle.wcv_types.specs.CoreParts.{exported_items}
 use Rattle.wcv_types.specs.ByName.{NamesDiffer}
 use Rattle.wcv_types.specs.Led.{Led}
-use Rattle.wcv_types.specs.Measure.{size}
 use Rattle.wcv_types.specs.Resources.{owned_by}
 use Rattle.wcv_types.specs.Unfold.{Type_tree, capped, head_of, part_tree, place, rank, parts_of, parts_at, slots_at, slot_parts, trees, tree_of, tree_at, info_of, IsInfoOf}
 use Rattle.wcv_types.specs.declared.arena.Node.{Node}
@@ -68,15 +68,24 @@ abbrev pub entity_sizes : List Group → List EntityType → ℕ
 entity_sizes gs [] = 0
 entity_sizes gs (e ∷ es) = entity_size gs e + entity_sizes gs es
 
--- what a core instance counts beside itself
-abbrev pub kind_size : List Group → List Type_tree → CoreInstanceTypeKind → ℕ
-kind_size gs ts (kind.Instantiated m) = size (part_tree ts (p.Module m))
-kind_size gs ts (kind.Exports es) = entity_sizes gs (map (λ e. e.1) es)
+-- 1 and the sizes of these items
+abbrev pub own_size : List Group → List EntityType → ℕ
+own_size gs es = capped (suc (entity_sizes gs es))
 
--- the size that a core module or a core instance states is its own
+-- what a core instance exports: what its module does, or what it lists
+abbrev pub kind_exported : List Type_tree → CoreInstanceTypeKind → List EntityType
+kind_exported ts (kind.Instantiated m) = exported_items (part_tree ts (p.Module m))
+kind_exported ts (kind.Exports es) = map (λ e. e.1) es
+
+-- the core types that these items name are of the table, and the size is what they count
+pub record Counts (gs : List Group) (es : List EntityType) (size : ℕ) : Type 0 where
+  pub within : All (IsEntityWithin (total gs)) es
+  pub size_is : size ≡ own_size gs es
+
+-- the size that a core module states is what it imports and exports, and that of a core instance what it exports
 abbrev pub IsStated : List Group → List Type_tree → Node → Type 0
-IsStated gs ts (n.Module s) = s.info.size ≡ capped (suc (entity_sizes gs (core_items (n.Module s))))
-IsStated gs ts (n.CoreInstance s) = s.info.size ≡ capped (suc (kind_size gs ts s.kind))
+IsStated gs ts (n.Module s) = s.info.size ≡ own_size gs (core_items (n.Module s))
+IsStated gs ts (n.CoreInstance s) = Counts gs (kind_exported ts s.kind) s.info.size
 IsStated gs ts _ = Unit {0}
 
 -- in the imports and in the exports of a component type, and in the exports of an instance type, the names differ

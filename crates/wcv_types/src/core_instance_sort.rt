@@ -1,17 +1,19 @@
 // Types of core instances as nodes of the arena.
-ghost use Rattle.std.specs.Prelude.{◌≡◌, suc, All, IfOk};
+ghost use Rattle.std.specs.Prelude.{◌≡◌, ◌≤◌, All, IfOk};
+ghost use Rattle.wcv_types.specs.CoreParts.{exported_items};
 ghost use Rattle.wcv_types.specs.Facts.{IsFactsOf};
 ghost use Rattle.wcv_types.specs.Measure.{size};
 ghost use Rattle.wcv_types.specs.Rebuild.{HeadCounts, SameSorts, refill};
 ghost use Rattle.wcv_types.specs.Resources.{mentions_in};
-ghost use Rattle.wcv_types.specs.Standing.{Stands, Fits};
-ghost use Rattle.wcv_types.specs.Unfold.{capped, head_of, parts_of, slot_parts, slots_of, tree_at, tree_of, trees};
+ghost use Rattle.wcv_types.specs.Standing.{Stands, Fits, own_size};
+ghost use Rattle.wcv_types.specs.Unfold.{head_of, parts_of, slot_parts, slots_of, tree_at, tree_of, trees};
 ghost use Rattle.wcv_types.specs.declared.arena.Node.TheVariants as n;
 ghost use Rattle.wcv_types.specs.declared.ids.Part.TheVariants as p;
 
 use crate::arena::{Node, TypeAlloc};
 use crate::core_maps::ExportMap;
 use crate::core_shapes::{CoreInstanceTypeKind, InstanceType};
+use crate::core_sizes::exporting_size;
 use crate::entry_facts::node_facts;
 use crate::facts::Facts;
 use crate::ids::{ComponentCoreInstanceTypeId, ComponentCoreModuleTypeId, Part};
@@ -22,18 +24,20 @@ use crate::sorts::{NodeSort, TypeSort};
 use std::alloc::Global;
 use wcv_core::OutOfMemory;
 
-/// The type of a core instance that was made of the module.
-#[tactic(auto, using(crate::proofs::CoreInstancesRebuilt::made_fits))]
+/// The type of a core instance that was made of the module. It counts what the module exports, and no more than the
+/// module does.
 pub fn core_instance_of(types: &TypeAlloc, id: ComponentCoreModuleTypeId) -> InstanceType
     requires { Stands types.now (p.Module id) }
     ensures fits { Fits types.now (n.CoreInstance result) }
     ensures kind { result.kind ≡ CoreInstanceTypeKind.Instantiated id }
-    ensures size { result.info.size ≡ capped (suc (size (tree_at types.now (p.Module id)))) }
+    ensures size { result.info.size ≡ own_size types.now.core (exported_items (tree_at types.now (p.Module id))) }
+    ensures small { result.info.size ≤ size (tree_at types.now (p.Module id)) }
 {
+    types.nodes_fit();
     let info = types.nodes.facts(id.index as usize).info;
     InstanceType {
         info: TypeInfo {
-            size: info.size.saturating_add(1),
+            size: exporting_size(types.core_types(), types.get(id)),
             depth: info.depth.saturating_add(1),
         },
         kind: CoreInstanceTypeKind::Instantiated(id),
@@ -62,7 +66,7 @@ fn instance_again(
     requires fits { Fits types.now (n.CoreInstance shape.now) }
     requires sorts { SameSorts (parts_of (n.CoreInstance shape.now)) parts.now }
     requires stand { All (Stands types.now) parts.now }
-    requires counts { HeadCounts (head_of 0 (n.CoreInstance shape.now)) (slot_parts (trees types.now.nodes) (refill (slots_of (n.CoreInstance shape.now)) parts.now)) }
+    requires counts { HeadCounts types.now.core (head_of 0 (n.CoreInstance shape.now)) (slot_parts (trees types.now.nodes) (refill (slots_of (n.CoreInstance shape.now)) parts.now)) }
     ensures fits { IfOk result (λ s. Fits types.now (n.CoreInstance s)) }
     ensures slots { IfOk result (λ s. slots_of (n.CoreInstance s) ≡ refill (slots_of (n.CoreInstance shape.now)) parts.now) }
     ensures size { IfOk result (λ s. s.info.size ≡ shape.now.info.size) }

@@ -1,8 +1,10 @@
 // Imports and exports of a core module by name.
-ghost use Rattle.std.specs.Prelude.{◌≡◌, List, [], ◌∷◌, ◌++◌, length, take, slice_get, option_copied, IfOk, OnOk, OnErr};
+ghost use Rattle.std.specs.Prelude.{◌≡◌, List, [], ◌∷◌, ◌++◌, bytes_eq, length, take, slice_get, option_copied, IfOk, OnOk, OnErr};
+ghost use Rattle.std.specs.Map.{lookup};
+ghost use Rattle.wcv_core.specs.TextSet.{same_pair};
 
 use crate::again::copy_text;
-use crate::by_name::ByName;
+use crate::by_name::{ByName, walk};
 use std::alloc::Global;
 use std::marker::Model;
 use wcv_core::{EntityType, OutOfMemory, Text};
@@ -21,6 +23,13 @@ impl Model for ImportMap {
     ghost Value = { List ((Text × Text) × EntityType) };
 
     ghost view = { λ m. m.entries.items };
+}
+
+/// Whether the pairs of names are one.
+fn is_pair(a: &(Text, Text), b: &(Text, Text)) -> bool
+    ensures { result ≡ same_pair a.now b.now }
+{
+    a.0.as_str() == b.0.as_str() && a.1.as_str() == b.1.as_str()
 }
 
 impl ImportMap {
@@ -67,6 +76,19 @@ impl ImportMap {
         ensures { option_copied result ≡ slice_get self.now k }
     {
         self.entries.get(k)
+    }
+
+    /// What is imported under the first pair of these names, by a walk through all of them.
+    #[tactic(auto, using(crate::proofs::FirstPlaces::next_entry, crate::proofs::FirstPlaces::no_entry))]
+    pub fn get(&self, key: &(Text, Text)) -> Option<&EntityType>
+        ensures { option_copied result ≡ lookup (same_pair key.now) self.now }
+    {
+        for entry in self.as_slice() {
+            if is_pair(key, &entry.0) {
+                return Some(&entry.1);
+            }
+        }
+        None
     }
 
     /// An equal map.
@@ -150,6 +172,14 @@ impl ExportMap {
         ensures { result.now ≡ self.now }
     {
         self.entries.as_slice()
+    }
+
+    /// What is exported under the first pair of this name, by a walk through all of them. Of a type that the arena
+    /// has, `TypeAlloc::module_export_of` and `TypeAlloc::listed_export_of` find it faster.
+    pub fn get(&self, key: &Text) -> Option<&EntityType>
+        ensures { option_copied result ≡ lookup (bytes_eq key.now) self.now }
+    {
+        walk(self.as_slice(), key)
     }
 
     /// The same pairs, by their names. Who will ask for many names asks there.

@@ -50,13 +50,13 @@ pub struct ComponentTypeId {
 }
 
 /// The id of the type of a core module.
-#[derive(Clone, Copy, Debug, PartialEq, Eq)]
+#[derive(Clone, Copy, Debug, PartialEq, Eq, Hash, PartialOrd, Ord)]
 pub struct ComponentCoreModuleTypeId {
     pub index: u64,
 }
 
 /// The id of the type of a core instance.
-#[derive(Clone, Copy, Debug, PartialEq, Eq)]
+#[derive(Clone, Copy, Debug, PartialEq, Eq, Hash, PartialOrd, Ord)]
 pub struct ComponentCoreInstanceTypeId {
     pub index: u64,
 }
@@ -72,7 +72,7 @@ pub enum ComponentAnyTypeId {
 }
 
 /// The id of a core type or of the type of a core module.
-#[derive(Clone, Copy, Debug)]
+#[derive(Clone, Copy, Debug, PartialEq, Eq, Hash, PartialOrd, Ord)]
 pub enum ComponentCoreTypeId {
     Sub(CoreTypeId),
     Module(ComponentCoreModuleTypeId),

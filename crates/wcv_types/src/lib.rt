@@ -11,6 +11,7 @@ mod core_calls;
 mod core_instance_sort;
 mod core_maps;
 mod core_shapes;
+mod core_sizes;
 mod core_sort;
 mod defined_facts;
 mod defined_sort;
@@ -87,6 +88,7 @@ pub use component_type::ComponentType;
 pub use core_instance_sort::core_instance_of;
 pub use core_maps::{ExportMap, ImportMap};
 pub use core_shapes::{CoreInstanceTypeKind, InstanceType, ModuleType};
+pub use core_sizes::core_items_size;
 pub use flat_type::FlatType;
 pub use ids::{
     AliasableResourceId, ComponentAnyTypeId, ComponentCoreInstanceTypeId,
