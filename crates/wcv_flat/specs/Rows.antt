@@ -32,11 +32,15 @@ cm_error_context = 131072
 pub data Option_name : Type 0 where
   memory_option realloc_option post_return_option async_option callback_option : Option_name
 
+-- what carries values from one end to the other
+pub data Carrier_sort : Type 0 where
+  of_stream of_future : Carrier_sort
+
 -- where an option has to stand
 pub data Needed : Type 0 where
   in_any_case : Needed
-  -- where the stream or the future at the index carries something, and where a pointer stands in that
-  with_payload with_pointer : ℕ → Needed
+  -- where the stream, or the future, at the index carries something, and where a pointer stands in that
+  with_payload with_pointer : Carrier_sort → ℕ → Needed
 
 pub data Ask : Type 0 where
   -- a feature
@@ -188,10 +192,10 @@ abbrev pub canon_row : Canon_form → Row
 canon_row (form.lift f t os) = row (lifts f t os ∷ []) (lifted t)
 canon_row (form.lower f os) = row (bars of_lifting os ∷ async_func f os ∷ []) (lowered f)
 canon_row (form.task_return r os) = row (feature cm_async ∷ no_borrow r ∷ bars (realloc_option ∷ async_option ∷ of_lifting) os ∷ []) (returning r)
-canon_row (form.stream_read t os) = row (copies (stream_at t) (needs memory_option (with_payload t) os ∷ needs realloc_option (with_pointer t) os ∷ []) os) (core_func (i32 ∷ pointer_word ∷ pointer_word ∷ []) (pointer_word ∷ []))
-canon_row (form.stream_write t os) = row (copies (stream_at t) (needs memory_option (with_payload t) os ∷ []) os) (core_func (i32 ∷ pointer_word ∷ pointer_word ∷ []) (pointer_word ∷ []))
-canon_row (form.future_read t os) = row (copies (future_at t) (needs memory_option (with_payload t) os ∷ needs realloc_option (with_pointer t) os ∷ []) os) (core_func (i32 ∷ pointer_word ∷ []) (i32 ∷ []))
-canon_row (form.future_write t os) = row (copies (future_at t) (needs memory_option (with_payload t) os ∷ []) os) (core_func (i32 ∷ pointer_word ∷ []) (i32 ∷ []))
+canon_row (form.stream_read t os) = row (copies (stream_at t) (needs memory_option (with_payload of_stream t) os ∷ needs realloc_option (with_pointer of_stream t) os ∷ []) os) (core_func (i32 ∷ pointer_word ∷ pointer_word ∷ []) (pointer_word ∷ []))
+canon_row (form.stream_write t os) = row (copies (stream_at t) (needs memory_option (with_payload of_stream t) os ∷ []) os) (core_func (i32 ∷ pointer_word ∷ pointer_word ∷ []) (pointer_word ∷ []))
+canon_row (form.future_read t os) = row (copies (future_at t) (needs memory_option (with_payload of_future t) os ∷ needs realloc_option (with_pointer of_future t) os ∷ []) os) (core_func (i32 ∷ pointer_word ∷ []) (i32 ∷ []))
+canon_row (form.future_write t os) = row (copies (future_at t) (needs memory_option (with_payload of_future t) os ∷ []) os) (core_func (i32 ∷ pointer_word ∷ []) (i32 ∷ []))
 canon_row (form.error_context_new os) = row (feature cm_error_context ∷ bars (async_option ∷ of_lifting) os ∷ needs memory_option in_any_case os ∷ []) (core_func (pointer_word ∷ pointer_word ∷ []) (i32 ∷ []))
 canon_row (form.error_context_message os) = row (feature cm_error_context ∷ bars (async_option ∷ of_lifting) os ∷ needs memory_option in_any_case os ∷ needs realloc_option in_any_case os ∷ []) (core_func (i32 ∷ pointer_word ∷ []) [])
 canon_row (form.builtin f) = builtin_row f

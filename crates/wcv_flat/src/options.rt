@@ -10,7 +10,7 @@ use wcv_core::{Error, ErrorKind, Refusal, ValType, Why};
 use wcv_types::FlatType;
 
 /// How texts are written in memory.
-#[derive(Clone, Copy)]
+#[derive(Clone, Copy, Debug, PartialEq, Eq)]
 pub enum StringEncoding {
     Utf8,
     Utf16,
@@ -51,7 +51,7 @@ impl fmt::Display for StringEncoding {
 }
 
 /// Whether a call waits for its result, or what is called back when there is one.
-#[derive(Clone, Copy)]
+#[derive(Clone, Copy, Debug, PartialEq, Eq)]
 pub enum Concurrency {
     Sync,
     Async { callback: Option<u32> },

@@ -1,5 +1,5 @@
 -- What steps bring: entries that have what those of the context have, and resources by the names of their place.
-use Rattle.std.proofs.Common.{◌≡◌, ℕ, List, [], ◌∷◌, ◌++◌, map, refl, subst, Bool, true, false, cond, Some, None}
+use Rattle.std.proofs.Common.{◌≡◌, ℕ, List, [], ◌∷◌, ◌++◌, map, refl, subst, Bool, true, false, cond, ◌&&◌, Some, None}
 use Rattle.std.specs.Prelude.{Option, All, not, slice_get}
 use Rattle.std.specs.List.{list_all}
 use Rattle.std.specs.Option.{option_map, option_and_then}
@@ -30,10 +30,10 @@ use Rattle.wcv_types.specs.FirstPath.{first_path}
 use Rattle.wcv_types.specs.Unfold.{Type_tree}
 use Rattle.wcv_lower.specs.Checks.{is_none, same_sort}
 use Rattle.wcv_lower.specs.Context.{Side, importing, exporting, in_types, in_funcs, in_values, in_instances, in_components, Core_space, core_types, core_modules, core_instances, is_concrete, type_at, same_side}
-use Rattle.wcv_lower.specs.CoreInstances.{space_of, core_module_at, core_instance_at, item_listed, items_listed, listed_size, core_instance_made, instance_joins, core_instance_step, core_export_of, if_of, item_joins, core_alias_step}
-use Rattle.wcv_lower.specs.CoreItems.{core_entries, is_closable, types_join, closed_step, module_joins, core_type_made, core_type_step, core_module_made, core_module_step}
+use Rattle.wcv_lower.specs.CoreInstances.{space_of, core_module_at, core_instance_at, item_listed, items_listed, listed_size, module_instance, core_instance_made, instance_joins, core_instance_step, core_export_of, if_of, item_joins, core_alias_step}
+use Rattle.wcv_lower.specs.CoreItems.{core_entries, may_join, types_join, closed_step, module_joins, core_type_made, core_type_step, core_module_made, core_module_step}
 use Rattle.wcv_lower.specs.Defined.{former, written_parts, handle_index, made_of, defined_made}
-use Rattle.wcv_lower.specs.Entries.{extern_name, module_type_at, again_brought, written, items_of, exported_at, exported_as, exported_by, exported, import_step, export_step, exported_values}
+use Rattle.wcv_lower.specs.Entries.{extern_name, module_type_at, again_brought, written, items_of, exported_at, exported_as, exported_by, exported, is_new, new_there, import_step, export_step, exported_values}
 use Rattle.wcv_lower.specs.Marks.{uses_each, using}
 use Rattle.wcv_lower.specs.Names.{Names, Origin, introduced, again}
 use Rattle.wcv_lower.specs.NewTypes.{path_or_none}
@@ -41,7 +41,7 @@ use Rattle.wcv_lower.specs.Owned.{AllEntries}
 use Rattle.wcv_lower.specs.Readers.{New_node, func_node, defined_node, module_node, core_instance_node, core_exports_node, if_sort, Maker}
 use Rattle.wcv_lower.specs.Step.{Change, appends, lists, introduces, defines, creates, core_appends, interns, charges, types_slots, marks_value, uses_value, names_start, Step, Brought, bare, joins, enters, joins_types}
 use Rattle.wcv_lower.specs.Trees.{tree_reader, Tree_context, Tree_stack, node_tree, tree_maker, referenced, created}
-use Rattle.wcv_lower.specs.Types.{func_parts, func_made, added, type_step}
+use Rattle.wcv_lower.specs.Types.{func_parts, func_made, added, dtor_stands, type_step}
 use Rattle.wcv_lower.specs.Values.{type_of_sort, resource_at, value_entry, option_entry, Written_parts, behind, parts_entries}
 use Rattle.wcv_lower.proofs.Owning.{Inherited, leaf_has, entry_has, created_has, referenced_has, again_has, reference_has, instance_has, MadeOf, node_has}
 
@@ -82,6 +82,11 @@ any_then P Q f h (Some x) w = h x w
 pub any_cond : {A : Type 0} (P : A → Type 0) (b : Bool) (x : A) → P x → OfAny P (cond b (Some x) None)
 any_cond P true x w = w
 any_cond P false x w = tt
+
+-- where a test holds too
+pub any_if : {A : Type 0} (P : A → Type 0) (b : Bool) (o : Option A) → OfAny P o → OfAny P (cond b o None)
+any_if P true o w = w
+any_if P false o w = tt
 
 -- the items of a sort
 pub items_have : (P : Type_tree → Type 0) (c : Tree_context) → AllEntries P c → (k : ComponentExternalKind) → All P (items_of c k)
@@ -251,16 +256,19 @@ module _ {P : Type_tree → Type 0} {In : Parts Name Name → Type 0} (law : Inh
       types_bring (component_type ds) = tt
       types_bring (instance_type ds) = tt
       types_bring (resource_type rep dtor) =
-          any_cond (AllBring P New) (is_concrete c.kind) (defines mk.resource (Some rep) ∷ joins_types mk.reference)
+          any_cond (AllBring P New) (is_concrete c.kind && dtor_stands c dtor) (defines mk.resource (Some rep) ∷ joins_types mk.reference)
           (brings_more P New (defines mk.resource (Some rep)) (appends in_types mk.reference ∷ []) (fresh (introduced p)) (brings_one P New (appends in_types mk.reference) (reference_has law names p)))
 
       pub imports_bring : (i : ComponentImport) → OfAny (AllBring P New) (import_step mk c i)
-      imports_bring i = any_mapped BroughtOf (AllBring P New) (enters importing (extern_name i.name)) (enters_bring importing (extern_name i.name)) (written mk c i.ty) (written_has i.ty)
+      imports_bring i =
+          any_mapped BroughtOf (AllBring P New) (enters importing (extern_name i.name)) (enters_bring importing (extern_name i.name))
+          (new_there importing (extern_name i.name) c (written mk c i.ty)) (any_if BroughtOf (is_new importing i.name.name c) (written mk c i.ty) (written_has i.ty))
 
       pub exports_bring : (e : ComponentExport) → OfAny (AllBring P New) (export_step mk c e)
       exports_bring e =
-          using_brings P New (exported_values e) (option_map (enters exporting (extern_name e.name)) (exported mk c e))
-          (any_mapped BroughtOf (AllBring P New) (enters exporting (extern_name e.name)) (enters_bring exporting (extern_name e.name)) (exported mk c e) (exported_has e))
+          using_brings P New (exported_values e) (option_map (enters exporting (extern_name e.name)) (new_there exporting (extern_name e.name) c (exported mk c e)))
+          (any_mapped BroughtOf (AllBring P New) (enters exporting (extern_name e.name)) (enters_bring exporting (extern_name e.name)) (new_there exporting (extern_name e.name) c (exported mk c e))
+          (any_if BroughtOf (is_new exporting e.name.name c) (exported mk c e) (exported_has e)))
 
       core_types_join : (is : List ℕ) → AllBring P New (types_join tree_reader is)
       core_types_join [] = All-nil (Brings P New)
@@ -270,15 +278,10 @@ module _ {P : Type_tree → Type 0} {In : Parts Name Name → Type 0} (law : Inh
       module_brings k m w = brings_more P New (interns m.0) (core_appends k (mk.build (module_node m.1)) ∷ []) tt (brings_one P New (core_appends k (mk.build (module_node m.1))) (node_has law (names.identity (introduced p)) (module_node m.1) tt))
 
   module _ (names : Names) (p : Place) (s : Tree_stack) (all : AllEntries P s.top) where
-    -- where a test holds too
-    any_if : (b : Bool) (o : Option (New_node tree_reader)) → OfAny (MadeOf law) o → OfAny (MadeOf law) (cond b o None)
-    any_if true o w = w
-    any_if false o w = tt
-
     core_instance_has : (i : Core_instance_form) → OfAny (MadeOf law) (core_instance_made s i)
     core_instance_has (core_instantiate i args) =
-        any_if (list_all (λ (a : InstantiationArg). not (is_none (core_instance_at s.top a.index))) args) (option_map core_instance_node (core_module_at s.top i))
-        (any_mapped P (MadeOf law) core_instance_node (λ x w. w) (core_module_at s.top i) (any_at P (s.top.core core_modules) i (all.core core_modules)))
+        any_if (MadeOf law) (list_all (λ (a : InstantiationArg). not (is_none (core_instance_at s.top a.index))) args) (option_map (module_instance tree_reader s.groups) (core_module_at s.top i))
+        (any_mapped P (MadeOf law) (module_instance tree_reader s.groups) (λ x w. w) (core_module_at s.top i) (any_at P (s.top.core core_modules) i (all.core core_modules)))
     core_instance_has (core_bag es) =
         any_cond (MadeOf law) (list_all (λ (e : Export). not (is_none (item_listed s.top e))) es) (core_exports_node (listed_size s.groups (items_listed s.top es)) (items_listed s.top es)) tt
 
@@ -307,7 +310,7 @@ module _ {P : Type_tree → Type 0} {In : Parts Name Name → Type 0} (law : Inh
     pub core_types_bring : (t : Core_type_form) → OfAny (AllBring P New) (core_type_step fs (tree_maker names p) s t)
     core_types_bring (core_rec w) =
         let g : Group = closed_group (core_entries s.top) w in
-        any_cond (AllBring P New) (is_closable s.groups (core_entries s.top) w) (closed_step tree_reader s.groups g)
+        any_cond (AllBring P New) (may_join s.groups (core_entries s.top) w) (closed_step tree_reader s.groups g)
         (brings_more P New (interns (grown s.groups g)) (types_join tree_reader (group_ids s.groups g)) tt (core_types_join s.top all names p fresh (group_ids s.groups g)))
     core_types_bring (core_module_type ds) =
         any_mapped (λ m. Unit {0}) (AllBring P New) (module_joins (tree_maker names p) core_types) (module_brings s.top all names p fresh core_types) (core_type_made fs s (core_module_type ds)) (any_made (core_type_made fs s (core_module_type ds)))

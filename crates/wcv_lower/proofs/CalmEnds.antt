@@ -38,7 +38,7 @@ Ends c (component_node ins outs es es') = ((r : Name) → (member r (firsts ins)
 Ends c (func_node b ps) = ⊥
 Ends c (defined_node k ps) = ⊥
 Ends c (module_node m) = ⊥
-Ends c (core_instance_node t) = ⊥
+Ends c (core_instance_node n t) = ⊥
 Ends c (core_exports_node n es) = ⊥
 
 -- the kept resources are some of the defined ones
@@ -97,7 +97,7 @@ module _ (c : Tree_context) (i : Name) where
   end_spares r foreign all (func_node b ps) w = absurd w
   end_spares r foreign all (defined_node k ps) w = absurd w
   end_spares r foreign all (module_node m) w = absurd w
-  end_spares r foreign all (core_instance_node t) w = absurd w
+  end_spares r foreign all (core_instance_node n t) w = absurd w
   end_spares r foreign all (core_exports_node n es) w = absurd w
 
   end_apart : ((r : Name) → IsOwn c r → AllEntries (OwnsNot r) c) → AllEntries OwnApart c → (n : New_node tree_reader) → Ends c n → OwnApart (node_tree i n)
@@ -107,7 +107,7 @@ module _ (c : Tree_context) (i : Name) where
   end_apart spared all (func_node b ps) w = absurd w
   end_apart spared all (defined_node k ps) w = absurd w
   end_apart spared all (module_node m) w = absurd w
-  end_apart spared all (core_instance_node t) w = absurd w
+  end_apart spared all (core_instance_node n t) w = absurd w
   end_apart spared all (core_exports_node n es) w = absurd w
 
 -- the node that is made is as high as goes with what it owns
@@ -117,7 +117,7 @@ end_balanced v c i (component_node ins outs es es') all high w = ((tt, λ r o. h
 end_balanced v c i (func_node b ps) all high w = absurd w
 end_balanced v c i (defined_node k ps) all high w = absurd w
 end_balanced v c i (module_node m) all high w = absurd w
-end_balanced v c i (core_instance_node t) all high w = absurd w
+end_balanced v c i (core_instance_node n t) all high w = absurd w
 end_balanced v c i (core_exports_node n es) all high w = absurd w
 
 -- ## What joins

@@ -10,7 +10,7 @@ use Rattle.wcv_types.specs.Tree.{Extern_name}
 use Rattle.wcv_types.proofs.Lists.{some-inj}
 use Rattle.wcv_lower.specs.Context.{Side, exporting}
 use Rattle.wcv_lower.specs.Declared.{applied, declared_export_step}
-use Rattle.wcv_lower.specs.Entries.{extern_name, written}
+use Rattle.wcv_lower.specs.Entries.{extern_name, written, new_there}
 use Rattle.wcv_lower.specs.Even.{IsBalanced}
 use Rattle.wcv_lower.specs.Given.{Given, find, or_by_place, GivenNames, names_of, Numbers, AtMost, IsNewResource, AreGiven, GivesAt}
 use Rattle.wcv_lower.specs.Growth.{step, grow}
@@ -22,6 +22,7 @@ use Rattle.wcv_lower.specs.Trees.{tree_reader, Tree_stack, tree_maker}
 use Rattle.wcv_lower.proofs.Bringing.{OfAny, of_some, map-some, AllBring, BroughtOf, enters_bring, written_has}
 use Rattle.wcv_lower.proofs.Calm.{IsLate, IsGentle, gentle, calm_applied}
 use Rattle.wcv_lower.proofs.CalmInstances.{keeps_apart, calm_apart}
+use Rattle.wcv_lower.proofs.EntryLaws.{newly_there}
 use Rattle.wcv_lower.proofs.EvenInstances.{keeps_balanced}
 use Rattle.wcv_lower.proofs.EvenTypes.{balanced_inherited}
 use Rattle.wcv_lower.proofs.ItemsBring.{ItemKeeps, items_bring, items_bring_given}
@@ -81,8 +82,9 @@ module _ (In : Place → Type 0) (a b : Numbers) (n : GivenNames) (p : Place) (s
   pub calm_exports : (t : Tree_stack) (x : ComponentExternName) (r : ComponentTypeRef) → AllOwn b t.top → applied s (declared_export_step (tree_maker (names_of n) p) s.top x r) ≡ Some t → IsCalm b t
   calm_exports t x r own e =
       let w = map-some (λ q. apply q s) (declared_export_step (tree_maker (names_of n) p) s.top x r) t e in
-      let v = map-some (enters exporting (extern_name x)) (written (tree_maker (names_of n) p) s.top r) w.0 w.1 in
-      step_calm w.0 t (subst (IsGentle a s) (some-inj v.2) (entering exporting (extern_name x) r v.0 v.1)) w.2 own
+      let v = map-some (enters exporting (extern_name x)) (new_there exporting (extern_name x) s.top (written (tree_maker (names_of n) p) s.top r)) w.0 w.1 in
+      let found = newly_there exporting (extern_name x) s.top (written (tree_maker (names_of n) p) s.top r) v.0 v.1 in
+      step_calm w.0 t (subst (IsGentle a s) (some-inj v.2) (entering exporting (extern_name x) r v.0 found.0)) w.2 own
 
   item_apart : (fs : WasmFeatures) (t : Tree_stack) (f : Form) (all : Everywhere OwnApart s) → ItemRegular s.top f → grow fs (tree_maker (names_of n) p) s f ≡ Some t → ItemKeeps own_apart_inherited (IsLate a) (names_of n) p fresh s all f
   item_apart fs t (instance_item i) all w e = keeps_apart (IsLate a) (names_of n) p s (all zero s.top refl) i (calm_apart a (names_of n) p s t i h w e) fresh

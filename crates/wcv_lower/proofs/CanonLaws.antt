@@ -35,8 +35,8 @@ use Rattle.wcv_flat.specs.declared.options.Abi.TheVariants as abi
 use Rattle.wcv_flat.specs.declared.options.CanonicalOptions.{CanonicalOptions}
 use Rattle.wcv_flat.specs.declared.options.Concurrency.TheVariants as concurrency
 use Rattle.wcv_flat.specs.declared.rows.RowFacts.{RowFacts}
-use Rattle.wcv_lower.specs.CanonOptions.{stands, stands_without, first, post_return_in, core_entity_at, memory_rules, options_read, options_found, options_rules, options_checks}
-use Rattle.wcv_lower.specs.Canons.{func_at, core_id, core_id_at, as_table, table_type_at, element_size, rep_among, local_rep, start_param, options_in, canon_options, memory_alone, told_by, all_told, canon_facts, lifted_form, lowered_form, returning_form, row_form, alone, outline_checks, is_abroad, ask_found, value_found, appends_found, operands_found, canon_found, func_joins, func_step, func_added, row_step, slots_typed, canon_step, is_needed, is_async_alone, takes_64_bits, is_start, is_other_type, is_spawned, is_func_table, is_spawn_table, is_other_table, test_both, has_other_type, is_no_post_return, lift_checks, ask_rules, lifted_asks, lowered_asks, returning_asks, appended_asks, joining_checks, form_joins, canon_rules, canon_checks}
+use Rattle.wcv_lower.specs.CanonOptions.{stands, stands_without, first, post_return_in, core_entity_at, memory_rules, options_read, options_found, memory_found, options_rules, options_checks}
+use Rattle.wcv_lower.specs.Canons.{func_at, core_id, core_id_at, as_table, table_type_at, element_size, rep_among, local_rep, start_param, options_in, canon_options, memory_alone, told_by, all_told, canon_facts, lifted_form, lowered_form, returning_form, row_form, alone, outline_checks, is_abroad, ask_found, value_found, appends_found, operands_found, canon_found, func_joins, func_step, func_added, row_step, slots_typed, canon_step, is_needed, is_async_alone, is_start, is_other_type, is_spawned, is_func_table, is_spawn_table, is_other_table, test_both, has_other_type, is_no_post_return, lift_checks, ask_rules, lifted_asks, lowered_asks, returning_asks, appended_asks, joining_checks, form_joins, canon_rules, canon_checks}
 use Rattle.wcv_lower.specs.Checks.{Checks, IsFree, if_found, is_none, missing, no_room}
 use Rattle.wcv_lower.specs.Context.{Context, Stack, in_funcs, core_funcs, counts}
 use Rattle.wcv_lower.specs.CoreInstances.{test_found}
@@ -46,7 +46,7 @@ use Rattle.wcv_lower.specs.Outlines.{Outline, is_async_func, is_stream, is_futur
 use Rattle.wcv_lower.specs.Readers.{Reader}
 use Rattle.wcv_lower.specs.Step.{Step, core_appends, interns, types_slots}
 use Rattle.wcv_lower.specs.Values.{cm_async_stackful, cm64, type_at, type_of_sort, resource_at, option_entry}
-use Rattle.wcv_lower.proofs.CanonOptionLaws.{item_missing-mapped, entity-mapped, memory_type-mapped, memory_pointers-mapped, core_type_found-mapped, options_read-mapped, options_found-mapped, options_checks-mapped}
+use Rattle.wcv_lower.proofs.CanonOptionLaws.{item_missing-mapped, entity-mapped, memory_type-mapped, memory_pointers-mapped, core_type_found-mapped, options_read-mapped, memory_found-mapped, options_checks-mapped, memory_there}
 use Rattle.wcv_lower.proofs.Causes.{free_both, free_left, free_right}
 use Rattle.wcv_lower.proofs.CoreLaws.{core_entries-mapped}
 use Rattle.wcv_lower.proofs.DefinedLaws.{result-mapped}
@@ -170,7 +170,7 @@ module _ {X Y : Reader} (m : Map X Y) {Known : X.Entry → Type 0} (law : Commut
   operands-mapped s w f = λ j. all_checks (λ q. ask_found-mapped s w q j) (canon_row f).asks ++ appends_found-mapped s.top w (canon_row f).appends j
 
   canon_found-mapped : (s : Stack X) → IsKnown Known s.top → (f : Canon_form) → canon_found (map_stack m s) f ≡ canon_found s f
-  canon_found-mapped s w f = λ j. operands-mapped s w f j ++ if_found (λ os. options_found-mapped m law s.top os j) (options_in f)
+  canon_found-mapped s w f = λ j. operands-mapped s w f j ++ if_found (λ os. memory_found-mapped m law s.top os j) (options_in f)
 
   -- ## Steps
 
@@ -221,8 +221,8 @@ module _ {X Y : Reader} (m : Map X Y) {Known : X.Entry → Type 0} (law : Commut
 
   needed-mapped : (c : Context X) (n : Needed) → is_needed (map_context m c) n ≡ is_needed c n
   needed-mapped c row.in_any_case = refl
-  needed-mapped c (row.with_payload t) = outline_at-mapped (λ x. has_value (carried x)) c t
-  needed-mapped c (row.with_pointer t) = outline_at-mapped (λ x. any_contains pointer (carried x)) c t
+  needed-mapped c (row.with_payload k t) = outline_at-mapped (λ x. has_value (carried x k)) c t
+  needed-mapped c (row.with_pointer k t) = outline_at-mapped (λ x. any_contains pointer (carried x k)) c t
 
   async-mapped : (os : List CanonicalOption) (o : Option X.Entry) → is_async_alone Y os (option_map m.entry o) ≡ is_async_alone X os o
   async-mapped os o = ap (λ (b : Bool). stands async_option os && b) (outlined-mapped (λ t. not (is_async_func t)) o)
@@ -258,7 +258,7 @@ module _ {X Y : Reader} (m : Map X Y) {Known : X.Entry → Type 0} (law : Commut
   ask_rules-mapped fs s w (row.no_borrow r) = λ j. option_checks-mapped m law fs s.top w r j ++ result-mapped m law s.top w r j
   ask_rules-mapped fs s w (row.slot_of v n) = refl
   ask_rules-mapped fs s w (row.spawn_type_at t) = λ j. (error.Signature, other_type-mapped is_spawned s t j) ∷ []
-  ask_rules-mapped fs s w (row.start_type_at t) = λ j. (error.Signature, other_type-mapped (is_start fs) s t j) ∷ needs fs cm64 (test_found (λ (i : CoreTypeId). takes_64_bits (table.type_at s.groups i.index)) (core_id-mapped s.top t j))
+  ask_rules-mapped fs s w (row.start_type_at t) = λ j. (error.Signature, other_type-mapped (is_start fs) s t j) ∷ []
   ask_rules-mapped fs s w (row.spawn_table_at n) = λ j. (error.Signature, other_table-mapped is_spawn_table s.top n j) ∷ []
   ask_rules-mapped fs s w (row.start_table_at n) = λ j. (error.Signature, other_table-mapped (is_func_table false) s.top n j) ∷ needs fs cm64 (test_found (λ (t : TableType). t.table64) (table_type-mapped s.top n j))
   ask_rules-mapped fs s w (row.lifts f t os) = lift_checks-mapped fs s w f t os
@@ -311,9 +311,9 @@ module _ (X : Reader) (s : Stack X) where
   row_there f (row.returning r) h u = core_there false (row_form s f (row.returning r)) (mapped (returning_form X (canon_options s.top f)) (option_entry s.top r) (value_there r h)) u
   row_there f (row.lifted t) h u = mapped (func_added {X = X}) (type_of_sort is_func s.top t) (found_of X is_func (type_at s.top t) h)
 
-  options_there : (fs : WasmFeatures) (o : Option (List CanonicalOption)) → IsFree (if_found (options_checks fs s) o) → IsFree (if_found (options_found s.top) o)
+  options_there : (fs : WasmFeatures) (o : Option (List CanonicalOption)) → IsFree (if_found (options_checks fs s) o) → IsFree (if_found (memory_found s.top) o)
   options_there fs None h = h
-  options_there fs (Some os) h = free_left (options_found s.top os) (options_rules fs s os) h
+  options_there fs (Some os) h = memory_there X s.top os (free_left (options_found s.top os) (options_rules fs s os) h)
 
   pub canon_does : (fs : WasmFeatures) (f : Canon_form) → IsFree (canon_checks fs s f) → (p : Step X) × (canon_step s f ≡ Some p)
   canon_does fs f h =
@@ -325,7 +325,7 @@ module _ (X : Reader) (s : Stack X) where
       let rest : Checks = canon_rules fs s f ++ late in
       let operands : IsFree (operands_found s f) = free_left (operands_found s f) (options ++ rest) h in
       let others : IsFree (options ++ rest) = free_right (operands_found s f) (options ++ rest) h in
-      let found : IsFree (canon_found s f) = free_both (operands_found s f) (if_found (options_found s.top) (options_in f)) operands (options_there fs (options_in f) (free_left options rest others)) in
+      let found : IsFree (canon_found s f) = free_both (operands_found s f) (if_found (memory_found s.top) (options_in f)) operands (options_there fs (options_in f) (free_left options rest others)) in
       let joins : IsFree (form_joins s f q) = free_left (form_joins s f q) room (free_right (canon_rules fs s f) late (free_right options rest others)) in
       let p = row_there f q (free_right asked (appends_found s.top q) operands) joins in
       (slots_typed (canon_row f).asks p.0, (λ j. cond (said_free (canon_found s f) found j) (option_map (slots_typed (canon_row f).asks) (p.1 j)) None))

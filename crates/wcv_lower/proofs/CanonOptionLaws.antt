@@ -15,13 +15,14 @@ use Rattle.wcv_syntax.specs.declared.core_section.ExternalKind.TheVariants as ki
 use Rattle.wcv_flat.specs.Flat.{pointer_type}
 use Rattle.wcv_flat.specs.Options.{pointer_size}
 use Rattle.wcv_flat.specs.declared.options.CanonicalOptions.{CanonicalOptions}
-use Rattle.wcv_lower.specs.CanonOptions.{first, memory_in, core_entity_at, as_memory, memory_type_at, has_64_bits, size_of, memory_pointers, options_read, option_found, memory_rules, is_no_realloc, is_no_callback, option_rules, list_rules, pointer_of, options_found, options_rules, options_checks}
-use Rattle.wcv_lower.specs.Checks.{if_found, missing}
+use Rattle.wcv_lower.specs.CanonOptions.{first, memory_in, core_entity_at, as_memory, memory_type_at, has_64_bits, size_of, memory_pointers, options_read, option_found, memory_rules, is_no_realloc, is_no_callback, option_rules, list_rules, pointer_of, options_found, memory_found, options_rules, options_checks}
+use Rattle.wcv_lower.specs.Checks.{IsFree, if_found, missing}
 use Rattle.wcv_lower.specs.Context.{Context, Stack}
 use Rattle.wcv_lower.specs.CoreInstances.{core_item_at, test_found}
 use Rattle.wcv_lower.specs.CoreItems.{core_entries}
 use Rattle.wcv_lower.specs.Mapped.{Map, Commutes, map_context, map_stack}
 use Rattle.wcv_lower.specs.Readers.{Reader}
+use Rattle.wcv_lower.proofs.Causes.{free_left, free_right}
 use Rattle.wcv_lower.proofs.CoreInstanceLaws.{item_at-mapped, item_found-mapped}
 use Rattle.wcv_lower.proofs.CoreLaws.{core_entries-mapped}
 use Rattle.wcv_lower.proofs.Mapping.{missing-mapped}
@@ -65,6 +66,9 @@ module _ {X Y : Reader} (m : Map X Y) {Known : X.Entry → Type 0} (law : Commut
   pub options_found-mapped : (c : Context X) (os : List CanonicalOption) → options_found (map_context m c) os ≡ options_found c os
   options_found-mapped c os = λ j. all_checks (λ (o : CanonicalOption). option_found-mapped c o j) os
 
+  pub memory_found-mapped : (c : Context X) (os : List CanonicalOption) → memory_found (map_context m c) os ≡ memory_found c os
+  memory_found-mapped c os = λ j. if_found (λ i. item_missing-mapped c kind.Memory i j) (first memory_in os)
+
   option_rules-mapped : (fs : WasmFeatures) (s : Stack X) (p : ValType) (o : CanonicalOption) → option_rules fs (map_stack m s) p o ≡ option_rules fs s p o
   option_rules-mapped fs s p (option.Memory i) = ap (if_found (memory_rules fs)) (memory_type-mapped s.top i)
   option_rules-mapped fs s p (option.Realloc i) = λ j. (error.Options, is_no_realloc s.groups p (entity-mapped s.top kind.Func i j)) ∷ []
@@ -77,3 +81,11 @@ module _ {X Y : Reader} (m : Map X Y) {Known : X.Entry → Type 0} (law : Commut
 
   pub options_checks-mapped : (fs : WasmFeatures) (s : Stack X) (os : List CanonicalOption) → options_checks fs (map_stack m s) os ≡ options_checks fs s os
   options_checks-mapped fs s os = λ j. options_found-mapped s.top os j ++ options_rules-mapped fs s os j
+
+-- ## Without a cause
+
+-- the first memory is there where all are
+pub memory_there : (X : Reader) (c : Context X) (os : List CanonicalOption) → IsFree (options_found c os) → IsFree (memory_found c os)
+memory_there X c [] h = tt
+memory_there X c (option.Memory i ∷ os) h = free_left (missing (core_item_at c kind.Memory i)) (options_found c os) h
+memory_there X c (o ∷ os) h = memory_there X c os (free_right (option_found c o) (options_found c os) h)

@@ -1,10 +1,14 @@
 -- A core instance exports what its module exports, or what it lists; a core module imports what its declarations do.
 use Rattle.std.proofs.Common.{◌≡◌, ℕ, List, [], ◌∷◌, ◌∙◌, refl, ap}
 use Rattle.std.proofs.lemmas.List.{append-nil}
+use Rattle.wcv_core.specs.CoreForm.{Group}
 use Rattle.wcv_core.specs.Names.{Name}
 use Rattle.wcv_syntax.specs.ModuleTypes.{Core_import, Core_export, Module_type}
+use Rattle.wcv_types.specs.Measure.{size}
 use Rattle.wcv_types.specs.Tree.{none, core_imports, core_exports}
+use Rattle.wcv_types.specs.Unfold.{capped}
 use Rattle.wcv_matching.specs.ModuleItems.{core_imports_in, core_exports_in, instance_exports_in}
+use Rattle.wcv_lower.specs.CoreInstances.{listed_size, module_instance}
 use Rattle.wcv_lower.specs.Readers.{core_instance_node, core_exports_node, module_node}
 use Rattle.wcv_lower.specs.Trees.{tree_reader, node_tree}
 
@@ -28,8 +32,15 @@ listed_seen : (es : List Core_export) → instance_exports_in {R = Name} {I = Na
 listed_seen [] = refl
 listed_seen (e ∷ es) = ap (λ (xs : List Core_export). e ∷ xs) (listed_seen es)
 
-pub exports_of_module : (i j : Name) (m : Module_type) → tree_reader.core_exports (node_tree i (core_instance_node (node_tree j (module_node m)))) ≡ m.exports
-exports_of_module i j m = append-nil (core_exports_in {R = Name} {I = Name} (core_imports m.imports (core_exports m.exports none))) ∙ behind_imports m.imports m.exports
+pub exports_of_module : (i j : Name) (n : ℕ) (m : Module_type) → tree_reader.core_exports (node_tree i (core_instance_node n (node_tree j (module_node m)))) ≡ m.exports
+exports_of_module i j n m = append-nil (core_exports_in {R = Name} {I = Name} (core_imports m.imports (core_exports m.exports none))) ∙ behind_imports m.imports m.exports
+
+module_exports_in : (is : List Core_import) (es : List Core_export) → instance_exports_in {R = Name} {I = Name} (core_imports is (core_exports es none)) ≡ es
+module_exports_in [] es = listed_seen es
+module_exports_in (i ∷ is) es = module_exports_in is es
+
+pub counted : (i j : Name) (gs : List Group) (m : Module_type) → size (node_tree i (module_instance tree_reader gs (node_tree j (module_node m)))) ≡ capped (listed_size gs m.exports)
+counted i j gs m = ap (λ (es : List Core_export). capped (listed_size gs es)) (module_exports_in m.imports m.exports)
 
 pub exports_listed : (i : Name) (n : ℕ) (es : List Core_export) → tree_reader.core_exports (node_tree i (core_exports_node n es)) ≡ es
 exports_listed i n es = listed_seen es

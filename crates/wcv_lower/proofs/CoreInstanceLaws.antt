@@ -6,6 +6,7 @@ use Rattle.std.specs.Map.{lookup}
 use Rattle.std.specs.Option.{option_map, option_and_then}
 use Rattle.std.proofs.lemmas.Bool.{false≢true}
 use Rattle.wcv_core.specs.Checks.{all_checks}
+use Rattle.wcv_core.specs.CoreForm.{Group}
 use Rattle.wcv_core.specs.Limits.{max_size}
 use Rattle.wcv_core.specs.declared.core_types.EntityType.{EntityType}
 use Rattle.wcv_core.specs.declared.error.ErrorKind.TheVariants as error
@@ -19,7 +20,7 @@ use Rattle.wcv_types.specs.Tree.{Text, is_instance}
 use Rattle.wcv_matching.specs.ModuleItems.{before}
 use Rattle.wcv_lower.specs.Checks.{Checks, IsFree, too_many, is_none, missing, has_repeat, if_found, no_room}
 use Rattle.wcv_lower.specs.Context.{Context, Stack, core_modules, core_instances, is_concrete, counts}
-use Rattle.wcv_lower.specs.CoreInstances.{space_of, is_of, sort_needs, no_item_room, core_module_at, core_instance_at, core_item_at, exported_by, offered, all_served, is_no_item, item_listed, items_listed, listed_size, listed_checks, core_instance_made, instance_joins, core_instance_step, unserved, arg_names, listed_names, core_instance_checks, core_export_of, if_of, item_joins, core_alias_step, export_checks, core_alias_checks}
+use Rattle.wcv_lower.specs.CoreInstances.{space_of, is_of, sort_needs, no_item_room, core_module_at, core_instance_at, core_item_at, exported_by, offered, all_served, is_no_item, item_listed, items_listed, listed_size, listed_checks, module_instance, core_instance_made, instance_joins, core_instance_step, unserved, arg_names, listed_names, core_instance_checks, core_export_of, if_of, item_joins, core_alias_step, export_checks, core_alias_checks}
 use Rattle.wcv_lower.specs.Mapped.{Map, Commutes, MakesSame, map_context, map_stack, map_node, map_step}
 use Rattle.wcv_lower.specs.Readers.{Reader, Maker, New_node, core_instance_node, core_exports_node}
 use Rattle.wcv_lower.specs.Step.{Step, core_appends}
@@ -30,8 +31,8 @@ use Rattle.wcv_lower.proofs.Mapping.{missing-mapped, get-mapped, counts-mapped}
 use Rattle.wcv_lower.proofs.ValueLaws.{mapped, not-false}
 
 -- the nodes, with the kind of entry named
-abbrev of_module : (X : Reader) → X.Entry → New_node X
-of_module X x = core_instance_node x
+abbrev of_module : (X : Reader) → ℕ → X.Entry → New_node X
+of_module X n x = core_instance_node n x
 
 abbrev of_items : (X : Reader) → ℕ → List Core_export → New_node X
 of_items X n es = core_exports_node n es
@@ -97,10 +98,10 @@ module _ {X Y : Reader} (m : Map X Y) {Known : X.Entry → Type 0} (law : Commut
 
   -- ## Core instances
 
-  instantiated-mapped : (b : Bool) (o : Option X.Entry) → cond b (option_map (of_module Y) (option_map m.entry o)) None ≡ option_map (map_node m) (cond b (option_map (of_module X) o) None)
-  instantiated-mapped true None = refl
-  instantiated-mapped true (Some x) = refl
-  instantiated-mapped false o = refl
+  instantiated-mapped : (gs : List Group) (b : Bool) (o : Option X.Entry) → cond b (option_map (module_instance Y gs) (option_map m.entry o)) None ≡ option_map (map_node m) (cond b (option_map (module_instance X gs) o) None)
+  instantiated-mapped gs true None = refl
+  instantiated-mapped gs true (Some x) = ap (λ (es : List Core_export). Some (of_module Y (listed_size gs es) (m.entry x))) (law.core_exports x)
+  instantiated-mapped gs false o = refl
 
   listing-mapped : (b : Bool) (n : ℕ) (es : List Core_export) → cond b (Some (of_items Y n es)) None ≡ option_map (map_node m) (cond b (Some (of_items X n es)) None)
   listing-mapped true n es = refl
@@ -108,8 +109,8 @@ module _ {X Y : Reader} (m : Map X Y) {Known : X.Entry → Type 0} (law : Commut
 
   made-mapped : (s : Stack X) (i : Core_instance_form) → core_instance_made (map_stack m s) i ≡ option_map (map_node m) (core_instance_made s i)
   made-mapped s (core_instantiate i args) =
-      (λ j. cond (list_all (λ (a : InstantiationArg). not (instance_none-mapped s.top a.index j)) args) (option_map (of_module Y) (module_at-mapped s.top i j)) None) ∙
-      instantiated-mapped (list_all (λ (a : InstantiationArg). not (is_none (core_instance_at s.top a.index))) args) (core_module_at s.top i)
+      (λ j. cond (list_all (λ (a : InstantiationArg). not (instance_none-mapped s.top a.index j)) args) (option_map (module_instance Y s.groups) (module_at-mapped s.top i j)) None) ∙
+      instantiated-mapped s.groups (list_all (λ (a : InstantiationArg). not (is_none (core_instance_at s.top a.index))) args) (core_module_at s.top i)
   made-mapped s (core_bag es) =
       (λ j. cond (list_all (λ (e : Export). not (is_none (item_listed-mapped s.top e j))) es) (Some (of_items Y (listed_size s.groups (items_listed-mapped s.top es j)) (items_listed-mapped s.top es j))) None) ∙
       listing-mapped (list_all (λ (e : Export). not (is_none (item_listed s.top e))) es) (listed_size s.groups (items_listed s.top es)) (items_listed s.top es)
@@ -185,8 +186,8 @@ module _ (X : Reader) where
       (λ (a : InstantiationArg). missing (core_instance_at s.top a.index))
       (λ (a : InstantiationArg). not (is_none (core_instance_at s.top a.index)))
       (λ a f. ap not f.0) args (free_left each rest (free_right (missing o) (each ++ rest) h)) in
-      let w : (n : New_node X) × (option_map (of_module X) o ≡ Some n) = mapped (of_module X) o (some_there o h.0) in
-      (w.0, ap (λ (b : Bool). cond b (option_map (of_module X) o) None) there ∙ w.1)
+      let w : (n : New_node X) × (option_map (module_instance X s.groups) o ≡ Some n) = mapped (module_instance X s.groups) o (some_there o h.0) in
+      (w.0, ap (λ (b : Bool). cond b (option_map (module_instance X s.groups) o) None) there ∙ w.1)
   node_there fs s (core_bag es) h =
       let n : New_node X = of_items X (listed_size s.groups (items_listed s.top es)) (items_listed s.top es) in
       let rest : Checks = too_many max_size (listed_size s.groups (items_listed s.top es)) ++ ((error.Conflict, has_repeat (listed_names es)) ∷ no_room (counts s.top) is_instance) in

@@ -11,14 +11,14 @@ use Rattle.wcv_syntax.specs.Model.{Module_decl, Core_type_form, core_rec, core_m
 use Rattle.wcv_syntax.specs.ModuleTypes.{Made, empty_module, module_checks, module_left}
 use Rattle.wcv_lower.specs.Checks.{IsFree, no_type_room, no_core_type_room, full}
 use Rattle.wcv_lower.specs.Context.{Context, Stack, Core_space, core_types, core_modules, counts}
-use Rattle.wcv_lower.specs.CoreItems.{core_entries, outer_entries, is_closable, types_join, closed_step, group_step, module_made, module_joins, core_type_made, core_type_step, core_type_checks, core_module_made, core_module_step, core_module_checks, core_module_left}
+use Rattle.wcv_lower.specs.CoreItems.{core_entries, outer_entries, may_join, types_join, closed_step, group_step, module_made, module_joins, core_type_made, core_type_step, core_type_checks, core_module_made, core_module_step, core_module_checks, core_module_left}
 use Rattle.wcv_lower.specs.Mapped.{Map, Commutes, MakesSame, map_context, map_stack, map_node, map_step}
 use Rattle.wcv_lower.specs.Readers.{Reader, Maker, New_node, module_node}
 use Rattle.wcv_lower.specs.Step.{Step, core_appends, interns}
 use Rattle.wcv_lower.specs.Uses.{made_node, core_type_uses, core_module_uses}
 use Rattle.wcv_lower.proofs.Causes.{free_left}
 use Rattle.wcv_lower.proofs.Mapping.{counts-mapped}
-use Rattle.wcv_lower.proofs.ModulesMade.{closable, all_made}
+use Rattle.wcv_lower.proofs.ModulesMade.{joinable, all_made}
 use Rattle.wcv_lower.proofs.ValueLaws.{mapped}
 
 module _ {X Y : Reader} (m : Map X Y) {Known : X.Entry → Type 0} (law : Commutes m Known) where
@@ -47,7 +47,7 @@ module _ {X Y : Reader} (m : Map X Y) {Known : X.Entry → Type 0} (law : Commut
 
   group_step-mapped : (s : Stack X) (w : Group) → group_step (map_stack m s) w ≡ option_map (map_step m) (group_step s w)
   group_step-mapped s w =
-      (λ j. cond (is_closable s.groups (core_entries-mapped s.top j) w) (Some (closed_step-mapped s.groups (closed_group (core_entries-mapped s.top j) w) j)) None) ∙ go (is_closable s.groups (core_entries s.top) w)
+      (λ j. cond (may_join s.groups (core_entries-mapped s.top j) w) (Some (closed_step-mapped s.groups (closed_group (core_entries-mapped s.top j) w) j)) None) ∙ go (may_join s.groups (core_entries s.top) w)
     where
       go : (b : Bool) → cond b (Some (map_step m (closed_step X s.groups (closed_group (core_entries s.top) w)))) None ≡ option_map (map_step m) (cond b (Some (closed_step X s.groups (closed_group (core_entries s.top) w))) None)
       go true = refl
@@ -83,7 +83,7 @@ module _ (X : Reader) (fs : WasmFeatures) (mk : Maker X) (s : Stack X) where
   core_type_does (core_rec w) h =
       let g : Group = w in
       let p : Step X = closed_step X s.groups (closed_group (core_entries s.top) g) in
-      (p, ap (λ (b : Bool). cond b (Some p) None) (closable fs s.groups (core_entries s.top) g (free_left (group_checks fs s.groups (core_entries s.top) g) (no_core_type_room (length w) (counts s.top)) h)))
+      (p, ap (λ (b : Bool). cond b (Some p) None) (joinable fs s.groups (core_entries s.top) g (free_left (group_checks fs s.groups (core_entries s.top) g) (no_core_type_room (length w) (counts s.top)) h)))
   core_type_does (core_module_type ds) h =
       mapped (module_joins mk core_types) (core_type_made fs s (core_module_type ds))
       (all_made (outer_entries s) s.groups (empty_module fs) ds (free_left (module_checks (outer_entries s) s.groups (empty_module fs) ds) (no_type_room true (counts s.top)) h))

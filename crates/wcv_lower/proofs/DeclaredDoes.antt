@@ -1,11 +1,10 @@
 -- Declared types where there is no cause: what is read is there.
 use Rattle.std.proofs.Common.{◌≡◌, ℕ, zero, suc, List, [], ◌∷◌, length, refl, sym, ◌∙◌, ap, subst, Bool, true, Some, None}
-use Rattle.std.specs.Prelude.{Option, ◌&&◌}
+use Rattle.std.specs.Prelude.{Option}
 use Rattle.std.specs.Option.{option_map, option_and_then}
 use Rattle.std.proofs.Math.Nat.{suc_inj}
 use Rattle.wcv_core.specs.Names.{Place, deeper}
 use Rattle.wcv_core.specs.declared.features.WasmFeatures.{WasmFeatures}
-use Rattle.wcv_core.proofs.Names.{and_left, and_right}
 use Rattle.wcv_syntax.specs.Model.{core_type_item, type_item, import_item, Type_form, defined_type, func_type, component_type, instance_type, resource_type, Decl, core_type_decl, type_decl, alias_decl, export_decl, import_decl, Decls, no_decls, declare}
 use Rattle.wcv_lower.specs.Aliases.{alias_step}
 use Rattle.wcv_lower.specs.Checks.{Checks, IsFree, no_type_room}
@@ -16,17 +15,16 @@ use Rattle.wcv_lower.specs.Ending.{declared_made, declared_end_checks}
 use Rattle.wcv_lower.specs.Entries.{extern_name, written, written_checks, import_step}
 use Rattle.wcv_lower.specs.Growth.{step}
 use Rattle.wcv_lower.specs.Readers.{Reader}
-use Rattle.wcv_lower.specs.Step.{Change, appends, lists, introduces, defines, creates, core_appends, interns, charges, types_slots, marks_value, uses_value, names_start, Step, change_at, change, apply, enters}
+use Rattle.wcv_lower.specs.SideNames.{TellsRepeats}
+use Rattle.wcv_lower.specs.Step.{Change, appends, lists, introduces, defines, creates, core_appends, interns, charges, types_slots, marks_value, uses_value, names_start, Step, change_at, change, apply}
 use Rattle.wcv_lower.specs.Types.{type_step}
-use Rattle.std.proofs.lemmas.Bool.{false≢true}
 use Rattle.wcv_lower.proofs.AliasLaws.{alias_does}
 use Rattle.wcv_lower.proofs.Causes.{free_left, free_right}
 use Rattle.wcv_lower.proofs.CoreLaws.{core_type_does}
 use Rattle.wcv_lower.proofs.DeclaredLaws.{then-some}
 use Rattle.wcv_lower.proofs.EndingLaws.{has_node}
-use Rattle.wcv_lower.proofs.EntryLaws.{written_there, free_looked, import_does}
+use Rattle.wcv_lower.proofs.EntryLaws.{written_there, free_looked, entry_does, import_does}
 use Rattle.wcv_lower.proofs.TypeLaws.{type_does}
-use Rattle.wcv_lower.proofs.ValueLaws.{mapped}
 use Rattle.wcv_types.proofs.Lists.{some-inj}
 
 -- ## How many contexts stand on the stack
@@ -127,31 +125,33 @@ module _ (X : Reader) (fs : WasmFeatures) (mk : Makers X) where
       let v = ended_there c p s w.0 (read_decls-outer p 0 (inside c s) w.0 ds w.1) w.2 in
       (v.0, ap (option_and_then (ended c (mk p))) w.1 ∙ v.1)
 
-  mutual
-    -- where there is no cause, what is read is there
-    pub type_there : (limited : Bool) (p : Place) (s : Stack X) (t : Type_form) → IsFree (declared_checks limited fs mk p s t) → (u : Stack X) × (read_type fs mk p s t ≡ Some u)
-    type_there limited p s (component_type ds) h =
-        declared_there declares_component p s ds (decls_there p 0 declares_component (inside declares_component s) ds (free_left _ (no_type_room limited (counts s.top)) (free_right (full_stack s) _ h)))
-    type_there limited p s (instance_type ds) h =
-        declared_there declares_instance p s ds (decls_there p 0 declares_instance (inside declares_instance s) ds (free_left _ (no_type_room limited (counts s.top)) (free_right (full_stack s) _ h)))
-    type_there limited p s (defined_type d) h = applied_there s (type_step (mk p) s.top (defined_type d)) (type_does X fs (mk p) s limited (defined_type d) refl h)
-    type_there limited p s (func_type f) h = applied_there s (type_step (mk p) s.top (func_type f)) (type_does X fs (mk p) s limited (func_type f) refl h)
-    type_there limited p s (resource_type rep dtor) h = applied_there s (type_step (mk p) s.top (resource_type rep dtor)) (type_does X fs (mk p) s limited (resource_type rep dtor) refl h)
+  module _ (tells : TellsRepeats X) where
+    mutual
+      -- where there is no cause, what is read is there
+      pub type_there : (limited : Bool) (p : Place) (s : Stack X) (t : Type_form) → IsFree (declared_checks limited fs mk p s t) → (u : Stack X) × (read_type fs mk p s t ≡ Some u)
+      type_there limited p s (component_type ds) h =
+          declared_there declares_component p s ds (decls_there p 0 declares_component (inside declares_component s) ds (free_left _ (no_type_room limited (counts s.top)) (free_right (full_stack s) _ h)))
+      type_there limited p s (instance_type ds) h =
+          declared_there declares_instance p s ds (decls_there p 0 declares_instance (inside declares_instance s) ds (free_left _ (no_type_room limited (counts s.top)) (free_right (full_stack s) _ h)))
+      type_there limited p s (defined_type d) h = applied_there s (type_step (mk p) s.top (defined_type d)) (type_does X fs (mk p) s limited (defined_type d) refl h)
+      type_there limited p s (func_type f) h = applied_there s (type_step (mk p) s.top (func_type f)) (type_does X fs (mk p) s limited (func_type f) refl h)
+      type_there limited p s (resource_type rep dtor) h = applied_there s (type_step (mk p) s.top (resource_type rep dtor)) (type_does X fs (mk p) s limited (resource_type rep dtor) refl h)
 
-    decl_there : (p : Place) (s : Stack X) (d : Decl) → IsFree (decl_checks fs mk p s d) → (u : Stack X) × (read_decl fs mk p s d ≡ Some u)
-    decl_there p s (core_type_decl t) h = applied_there s (core_type_step fs (mk p) s t) (core_type_does X fs (mk p) s t h)
-    decl_there p s (type_decl t) h = type_there true p s t h
-    decl_there p s (alias_decl a) h = applied_there s (alias_step s a) (alias_does X fs s a h)
-    decl_there p s (export_decl n r) h =
-        applied_there s (declared_export_step (mk p) s.top n r)
-        (mapped (enters exporting (extern_name n)) (written (mk p) s.top r) (written_there X fs (mk p) s.top r (free_looked X fs exporting (extern_name n) s.top (written_checks fs s.top r) (written (mk p) s.top r) h)))
-    decl_there p s (import_decl i) h = applied_there s (import_step (mk p) s.top i) (import_does X fs (mk p) s.top i h)
+      decl_there : (p : Place) (s : Stack X) (d : Decl) → IsFree (decl_checks fs mk p s d) → (u : Stack X) × (read_decl fs mk p s d ≡ Some u)
+      decl_there p s (core_type_decl t) h = applied_there s (core_type_step fs (mk p) s t) (core_type_does X fs (mk p) s t h)
+      decl_there p s (type_decl t) h = type_there true p s t h
+      decl_there p s (alias_decl a) h = applied_there s (alias_step s a) (alias_does X fs s a h)
+      decl_there p s (export_decl n r) h =
+          applied_there s (declared_export_step (mk p) s.top n r)
+          (entry_does X tells fs exporting (extern_name n) s.top (written_checks fs s.top r) (written (mk p) s.top r)
+          (written_there X fs (mk p) s.top r (free_looked X fs exporting (extern_name n) s.top (written_checks fs s.top r) (written (mk p) s.top r) h)) h)
+      decl_there p s (import_decl i) h = applied_there s (import_step (mk p) s.top i) (import_does X tells fs (mk p) s.top i h)
 
-    decls_there : (p : Place) (n : ℕ) (c : Kind) (s : Stack X) (ds : Decls) → IsFree (decls_checks fs mk p n c s ds) → (u : Stack X) × (read_decls fs mk p n s ds ≡ Some u) × IsFree (declared_end_checks c u.top)
-    decls_there p n c s no_decls h = (s, refl, h)
-    decls_there p n c s (declare d ds) h =
-        let own : Checks = decl_checks fs mk (deeper p n) s d in
-        let rest : Checks = on_read (λ t. decls_checks fs mk p (suc n) c t ds) (read_decl fs mk (deeper p n) s d) in
-        let t = decl_there (deeper p n) s d (free_left own rest h) in
-        let u = decls_there p (suc n) c t.0 ds (subst (λ (o : Option (Stack X)). IsFree (on_read (λ t. decls_checks fs mk p (suc n) c t ds) o)) t.1 (free_right own rest h)) in
-        (u.0, ap (option_and_then (λ t. read_decls fs mk p (suc n) t ds)) t.1 ∙ u.1, u.2)
+      decls_there : (p : Place) (n : ℕ) (c : Kind) (s : Stack X) (ds : Decls) → IsFree (decls_checks fs mk p n c s ds) → (u : Stack X) × (read_decls fs mk p n s ds ≡ Some u) × IsFree (declared_end_checks c u.top)
+      decls_there p n c s no_decls h = (s, refl, h)
+      decls_there p n c s (declare d ds) h =
+          let own : Checks = decl_checks fs mk (deeper p n) s d in
+          let rest : Checks = on_read (λ t. decls_checks fs mk p (suc n) c t ds) (read_decl fs mk (deeper p n) s d) in
+          let t = decl_there (deeper p n) s d (free_left own rest h) in
+          let u = decls_there p (suc n) c t.0 ds (subst (λ (o : Option (Stack X)). IsFree (on_read (λ t. decls_checks fs mk p (suc n) c t ds) o)) t.1 (free_right own rest h)) in
+          (u.0, ap (option_and_then (λ t. read_decls fs mk p (suc n) t ds)) t.1 ∙ u.1, u.2)

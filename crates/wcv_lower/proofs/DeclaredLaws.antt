@@ -74,7 +74,7 @@ module _ {X Y : Reader} (m : Map X Y) {Known : X.Entry → Type 0} (law : Commut
   -- ## Declarations
 
   export_step-mapped : (p : Place) (c : Context X) → IsKnown Known c → (n : ComponentExternName) (r : ComponentTypeRef) → MakesSame m Known (k p) (l p) (ref_uses c r) → declared_export_step (l p) (map_context m c) n r ≡ option_map (map_step m) (declared_export_step (k p) c n r)
-  export_step-mapped p c w n r u = entering m law exporting (extern_name n) (written (k p) c r) _ (written-mapped m law (k p) (l p) c w r u) (written_known m law (k p) (l p) c w r u)
+  export_step-mapped p c w n r u = entering m law exporting (extern_name n) c (written (k p) c r) _ (written-mapped m law (k p) (l p) c w r u) (written_known m law (k p) (l p) c w r u)
 
   export_checks-mapped : (p : Place) (c : Context X) → IsKnown Known c → (n : ComponentExternName) (r : ComponentTypeRef) → MakesSame m Known (k p) (l p) (ref_uses c r) → declared_export_checks fs (l p) (map_context m c) n r ≡ declared_export_checks fs (k p) c n r
   export_checks-mapped p c w n r u = entry_checks-mapped m law fs exporting (extern_name n) c _ (written_checks fs c r) (written (k p) c r) _ (written_checks-mapped m law fs c w r) (written-mapped m law (k p) (l p) c w r u) (written_known m law (k p) (l p) c w r u)

@@ -21,7 +21,7 @@ use Rattle.wcv_matching.specs.Matching.{named, named_imports}
 use Rattle.wcv_matching.specs.OnePass.{argument_for, made_paths}
 use Rattle.wcv_lower.specs.Checks.{is_none}
 use Rattle.wcv_lower.specs.Context.{exporting, in_instances}
-use Rattle.wcv_lower.specs.Instances.{component_at, argument_at, arguments, if_opened, listed_at, listed, bag_made, instance_of_component, instance_of_items, instance_made, instance_joins, instance_values, instance_step}
+use Rattle.wcv_lower.specs.Instances.{component_at, argument_at, arguments, if_opened, listed_at, listed, all_listed, may_list, bag_made, instance_of_component, instance_of_items, instance_made, instance_joins, instance_values, instance_step}
 use Rattle.wcv_matching.specs.GivenTypes.{given_by, given_in, given_for}
 use Rattle.wcv_lower.specs.Instantiated.{opened_resource, opening, instantiated}
 use Rattle.wcv_lower.specs.Mapped.{map_entries}
@@ -30,7 +30,7 @@ use Rattle.wcv_lower.specs.Owned.{OwnsNot, OwnsNotIn, OwnsApart, AllEntries}
 use Rattle.wcv_lower.specs.Readers.{New_node, instance_node}
 use Rattle.wcv_lower.specs.Step.{Brought, introduces, appends}
 use Rattle.wcv_lower.specs.Trees.{tree_reader, Tree_stack, tree_maker}
-use Rattle.wcv_lower.proofs.Bringing.{OfAny, any_mapped, any_cond, AllBring, brings_one, brings_more, BroughtOf, using_brings}
+use Rattle.wcv_lower.proofs.Bringing.{OfAny, any_mapped, any_cond, any_if, AllBring, brings_one, brings_more, BroughtOf, using_brings}
 use Rattle.wcv_lower.proofs.Instantiating.{arguments_have, listed_have, component_has}
 use Rattle.wcv_lower.proofs.Owning.{Inherited, KeptWhereGiven, MadeOf, first_has, node_has}
 
@@ -179,7 +179,8 @@ module _ {P : Type_tree → Type 0} {In : Parts Name Name → Type 0} (law : Inh
           go true (Some c) e = made c e (tree_reader.opens s.groups (arguments s.top args) c)
       brought_of (bag es) keep =
           any_mapped (MadeOf law) (BroughtOf law New) (instance_of_items (tree_maker names p)) (λ n w. (node_has law (names.identity (introduced p)) n w, All-nil (λ (x : Name × List ℕ). New x.0))) (bag_made s.top es)
-          (any_cond (MadeOf law) (list_all (λ (e : ComponentExport). not (is_none (listed_at s.top e))) es) (items_of_bag (listed s.top es)) (listed_have P s.top all es))
+          (any_if (MadeOf law) (may_list s.top es) (all_listed s.top es)
+          (any_cond (MadeOf law) (list_all (λ (e : ComponentExport). not (is_none (listed_at s.top e))) es) (items_of_bag (listed s.top es)) (listed_have P s.top all es)))
 
       pub instances_bring : (i : Instance_form) → Keeps i → OfAny (AllBring P New) (instance_step (tree_maker names p) s i)
       instances_bring i keep =

@@ -1,21 +1,20 @@
 -- The laws of items, whether declared types, components or others: names of their places alone, renamed names, and what is without a
 -- cause.
-use Rattle.std.proofs.Common.{◌≡◌, ℕ, suc, ◌++◌, length, refl, sym, ◌∙◌, ap, Bool, true, false, cond, Some}
+use Rattle.std.proofs.Common.{◌≡◌, ℕ, suc, ◌++◌, length, refl, sym, ◌∙◌, ap, true, Some}
 use Rattle.std.specs.Option.{option_map, option_and_then}
 use Rattle.std.proofs.Math.Nat.{suc_inj}
-use Rattle.std.proofs.lemmas.Bool.{false≢true}
 use Rattle.wcv_core.specs.Limits.{max_list}
 use Rattle.wcv_core.specs.Names.{Place, deeper}
 use Rattle.wcv_core.specs.declared.features.WasmFeatures.{WasmFeatures}
 use Rattle.wcv_core.proofs.Places.{under-refl}
-use Rattle.wcv_syntax.specs.Model.{Form, Type_form, type_item, component_item, Items, no_items, next_item}
+use Rattle.wcv_syntax.specs.Model.{Form, type_item, component_item, Items, no_items, next_item}
 use Rattle.wcv_types.specs.Tree.{is_component}
 use Rattle.wcv_types.proofs.Lists.{some-inj}
 use Rattle.wcv_lower.specs.Checks.{IsFree, too_many, no_room}
 use Rattle.wcv_lower.specs.Context.{concrete, Stack}
 use Rattle.wcv_lower.specs.Declared.{Makers, inside, ended, declared_checks, declared_left}
 use Rattle.wcv_lower.specs.DeclaredCalls.{FromDecl}
-use Rattle.wcv_lower.specs.Growth.{is_plain, step, grow, checks}
+use Rattle.wcv_lower.specs.Growth.{step, grow, checks}
 use Rattle.wcv_lower.specs.Items.{read_item, read_items, item_count, item_causes, EndsFree}
 use Rattle.wcv_lower.specs.Mapped.{map_stack}
 use Rattle.wcv_lower.specs.Names.{Names, Under, AreRenamed, SameNames}
@@ -30,6 +29,7 @@ use Rattle.wcv_lower.proofs.Growing.{grow-renamed, checks-renamed}
 use Rattle.wcv_lower.proofs.GrowthLaws.{grows}
 use Rattle.wcv_lower.proofs.MadeRenamed.{makes_renamed}
 use Rattle.wcv_lower.proofs.Mapping.{counts-mapped}
+use Rattle.wcv_lower.proofs.NewNames.{trees_tell}
 use Rattle.wcv_lower.proofs.Renamed.{renaming_commutes}
 
 -- ## The same names
@@ -109,8 +109,8 @@ module _ (X : Reader) (fs : WasmFeatures) (mk : Makers X) where
 module _ (n : Names) (p : Place) (fs : WasmFeatures) (s : Tree_stack) where
   -- where there is no cause, and none at the end of a component, the item is read
   pub item_there : (f : Form) → IsFree (item_causes fs (tree_maker n) p s f) → EndsFree fs (tree_maker n) p s f → (u : Tree_stack) × (read_item fs (tree_maker n) p s f ≡ Some u)
-  item_there (type_item t) h w = type_there tree_reader fs (tree_maker n) true p s t (free_left (declared_checks true fs (tree_maker n) p s t) (declared_left t) h)
+  item_there (type_item t) h w = type_there tree_reader fs (tree_maker n) trees_tell true p s t (free_left (declared_checks true fs (tree_maker n) p s t) (declared_left t) h)
   item_there (component_item is end) h w =
       let v = ended_there tree_reader fs (tree_maker n) concrete p s w.0 (read_items-outer tree_reader fs (tree_maker n) p 0 (inside concrete s) w.0 is w.1) w.2 in
       (v.0, ap (option_and_then (ended concrete (tree_maker n p))) w.1 ∙ v.1)
-  item_there f h w = grows fs (tree_maker n p) s f refl h
+  item_there f h w = grows trees_tell fs (tree_maker n p) s f refl h

@@ -53,7 +53,7 @@ module _ (w : Renaming) where
   node_tree-renamed i (defined_node k ps) = ap (node (defined (g i) k)) (parts-made ps)
   node_tree-renamed i (module_node t) =
       ap (node (core_module (g i) (capped t.size))) (sym (core_imports-renamed t.imports (core_exports t.exports none) ∙ ap (core_imports t.imports) (core_exports-renamed t.exports none)))
-  node_tree-renamed i (core_instance_node t) = ap (λ (n : ℕ). node (core_instance (g i) (capped (suc n))) (part here (to t) none)) (size-rename f g t)
+  node_tree-renamed i (core_instance_node n t) = refl
   node_tree-renamed i (core_exports_node n es) = ap (node (core_instance (g i) (capped n))) (sym (core_exports-renamed es none))
   node_tree-renamed i (instance_node own es) = ap (node (instance (g i) (map f own))) (sym (entries-renamed export es none))
   node_tree-renamed i (component_node ins outs es es') =

@@ -1,5 +1,5 @@
 -- Groups of core types without a cause are closed, and declarations of a core module without one make a module.
-use Rattle.std.proofs.Common.{◌≡◌, ℕ, List, [], ◌∷◌, ◌++◌, refl, sym, ◌∙◌, ap, subst, Bool, true, cond, Some, None, length}
+use Rattle.std.proofs.Common.{◌≡◌, ℕ, List, [], ◌∷◌, ◌++◌, refl, sym, ◌∙◌, ap, subst, Bool, true, false, cond, Some, None, length}
 use Rattle.std.specs.Prelude.{Option, slice_get, not, ◌&&◌, is_some}
 use Rattle.std.proofs.lemmas.Bool.{false≢true}
 use Rattle.wcv_core.specs.Checks.{all_checks}
@@ -20,7 +20,7 @@ use Rattle.wcv_syntax.specs.ModuleTypes.{Module_type, Made, module_entries, spac
 use Rattle.wcv_syntax.specs.declared.core_section.TypeRef.{TypeRef}
 use Rattle.wcv_syntax.specs.declared.core_section.TypeRef.TheVariants as ref
 use Rattle.wcv_lower.specs.Checks.{Checks, IsFree, missing}
-use Rattle.wcv_lower.specs.CoreItems.{is_closable, is_found, is_declarable, declaration_made, module_made}
+use Rattle.wcv_lower.specs.CoreItems.{is_closable, is_core_rule, keeps_rules, may_join, is_found, is_declarable, declaration_made, module_made}
 use Rattle.wcv_lower.proofs.Causes.{free_left, free_right}
 use Rattle.wcv_lower.proofs.ValueLaws.{mapped, found_there}
 
@@ -30,6 +30,15 @@ pub said_free : (cs : Checks) → IsFree cs → is_free cs ≡ true
 said_free [] f = refl
 said_free (c ∷ cs) f = λ j. not (f.0 j) && said_free cs f.1 j
 
+-- without a cause, none is a rule that is broken
+rules_kept : (cs : Checks) → IsFree cs → keeps_rules cs ≡ true
+rules_kept [] f = refl
+rules_kept (c ∷ cs) f = (λ j. not (is_core_rule c.0 && f.0 j) && keeps_rules cs) ∙ go (is_core_rule c.0) (rules_kept cs f.1)
+  where
+    go : (b : Bool) → keeps_rules cs ≡ true → (not (b && false) && keeps_rules cs) ≡ true
+    go true e = e
+    go false e = e
+
 free_first : (cs ds : Checks) → IsFree (then_checks cs ds) → IsFree cs
 free_first cs ds h = free_left cs (cond (is_free cs) ds []) h
 
@@ -38,10 +47,13 @@ free_second cs ds h = subst (λ (b : Bool). IsFree (cond b ds [])) (said_free cs
 
 -- ## Groups
 
-pub closable : (fs : WasmFeatures) (gs : List Group) (es : List Core_entry) (w : Group) → IsFree (group_checks fs gs es w) → is_closable gs es w ≡ true
+closable : (fs : WasmFeatures) (gs : List Group) (es : List Core_entry) (w : Group) → IsFree (group_checks fs gs es w) → is_closable gs es w ≡ true
 closable fs gs es w h =
     let indices : Checks = all_checks (index_checks (total gs) es (length w)) w ++ order_checks (length es) w in
     said_free indices (free_right (group_needs fs w) indices (free_first (written_checks fs (total gs) es w) (table_checks gs (closed_group es w)) h))
+
+pub joinable : (fs : WasmFeatures) (gs : List Group) (es : List Core_entry) (w : Group) → IsFree (group_checks fs gs es w) → may_join gs es w ≡ true
+joinable fs gs es w h = λ j. closable fs gs es w h j && rules_kept (table_checks gs (closed_group es w)) (free_second (written_checks fs (total gs) es w) (table_checks gs (closed_group es w)) h) j
 
 -- ## What is looked up is there
 
@@ -80,7 +92,7 @@ entry_there (Some module_entry) h = absurd (false≢true (sym (free_right (missi
 -- ## Declarations
 
 declarable : (outers : List (List Core_entry)) (gs : List Group) (m : Module_type) (d : Module_decl) → IsFree (decl_checks outers gs m d) → is_declarable gs m d ≡ true
-declarable outers gs m (module_type w) h = closable m.features gs (module_entries m) w (free_right (types_checks m (length w)) (group_checks m.features gs (module_entries m) w) h)
+declarable outers gs m (module_type w) h = joinable m.features gs (module_entries m) w (free_right (types_checks m (length w)) (group_checks m.features gs (module_entries m) w) h)
 declarable outers gs m (module_import i) h = found m.features gs m.types i.ty (free_left (ref_checks m.features gs m.types i.ty) (if_entity (import_checks gs m) (entity_of m.types i.ty)) h)
 declarable outers gs m (module_export n t) h = found m.features gs m.types t (free_left (ref_checks m.features gs m.types t) (if_entity (export_checks gs m n) (entity_of m.types t)) h)
 declarable outers gs m (module_outer k i) h = refl

@@ -24,7 +24,7 @@ use Rattle.wcv_types.specs.Unfold.{Type_tree}
 use Rattle.wcv_lower.specs.Aliases.{sort_named, instance_at, export_of, joining, outer_at, outer_joins, is_charged, concrete_at, charged, alias_step}
 use Rattle.wcv_lower.specs.Context.{Side, is_concrete, core_types, type_at, exporting, same_side}
 use Rattle.wcv_lower.specs.CoreInstances.{core_instance_at, core_export_of, if_of, item_joins}
-use Rattle.wcv_lower.specs.CoreItems.{core_entries, is_closable, types_join, closed_step, module_joins, core_type_made, core_type_step}
+use Rattle.wcv_lower.specs.CoreItems.{core_entries, may_join, types_join, closed_step, module_joins, core_type_made, core_type_step}
 use Rattle.wcv_lower.specs.Defined.{defined_made}
 use Rattle.wcv_lower.specs.Entries.{module_type_at, again_brought, written}
 use Rattle.wcv_lower.specs.Names.{names_by_place}
@@ -33,7 +33,7 @@ use Rattle.wcv_lower.specs.Owned.{AllEntries, IsOnce, OwnsOnce, IsMadeAt}
 use Rattle.wcv_lower.specs.Readers.{if_sort, Maker}
 use Rattle.wcv_lower.specs.Step.{Step, charges, defines, joins_types, Brought, bare, joins, enters}
 use Rattle.wcv_lower.specs.Trees.{tree_reader, Tree_context, Tree_stack, tree_maker}
-use Rattle.wcv_lower.specs.Types.{func_made, added, type_step}
+use Rattle.wcv_lower.specs.Types.{func_made, added, dtor_stands, type_step}
 use Rattle.wcv_lower.specs.Values.{type_of_sort, value_entry}
 use Rattle.wcv_lower.proofs.Bringing.{OfAny, any_mapped, any_cond, of_sort_has}
 use Rattle.wcv_lower.proofs.Given.{not_so, or_left, or_right}
@@ -49,7 +49,7 @@ pub record AreMade (q : Place) (ns : List Name) : Type 0 where
 pub none_made : (q : Place) → AreMade q []
 none_made q = record { once = tt; made = λ r e. absurd (false≢true e) }
 
-any_is : {A : Type 0} (o : Option A) → OfAny (λ x. Unit {0}) o
+pub any_is : {A : Type 0} (o : Option A) → OfAny (λ x. Unit {0}) o
 any_is None = tt
 any_is (Some x) = tt
 
@@ -143,7 +143,7 @@ module _ (q : Place) where
     types_once (func_type f) = any_mapped (λ x. Unit {0}) StepOnce (added mk) (λ x w. none_made q) (func_made c f) (any_is (func_made c f))
     types_once (component_type ds) = tt
     types_once (instance_type ds) = tt
-    types_once (resource_type rep dtor) = any_cond StepOnce (is_concrete c.kind) (defines mk.resource (Some rep) ∷ joins_types mk.reference) base_made
+    types_once (resource_type rep dtor) = any_cond StepOnce (is_concrete c.kind && dtor_stands c dtor) (defines mk.resource (Some rep) ∷ joins_types mk.reference) base_made
 
   types_quiet : (is : List ℕ) → new_names (types_join tree_reader is) ≡ []
   types_quiet [] = refl
@@ -152,7 +152,7 @@ module _ (q : Place) where
   pub core_types_once : (fs : WasmFeatures) (s : Tree_stack) (t : Core_type_form) → OfAny StepOnce (core_type_step fs mk s t)
   core_types_once fs s (core_rec w) =
       let g : Group = closed_group (core_entries s.top) w in
-      any_cond StepOnce (is_closable s.groups (core_entries s.top) w) (closed_step tree_reader s.groups g) (quiet (closed_step tree_reader s.groups g) (types_quiet (group_ids s.groups g)))
+      any_cond StepOnce (may_join s.groups (core_entries s.top) w) (closed_step tree_reader s.groups g) (quiet (closed_step tree_reader s.groups g) (types_quiet (group_ids s.groups g)))
   core_types_once fs s (core_module_type ds) = any_mapped (λ x. Unit {0}) StepOnce (module_joins mk core_types) (λ x w. none_made q) (core_type_made fs s (core_module_type ds)) (any_is (core_type_made fs s (core_module_type ds)))
 
   outer_quiet : (w : ComponentOuterAliasKind) (x : Type_tree) → new_names (outer_joins w x) ≡ []

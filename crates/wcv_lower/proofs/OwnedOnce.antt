@@ -14,7 +14,7 @@ use Rattle.wcv_lower.specs.Aliases.{alias_step}
 use Rattle.wcv_lower.specs.Context.{Kind, concrete, declares_instance, declares_component, importing, exporting, in_types, at_distance, charge}
 use Rattle.wcv_lower.specs.Declared.{inside, around, closed_as, ended, applied, declared_export_step, read_type, read_decl, read_decls}
 use Rattle.wcv_lower.specs.Ending.{any_free, kept, component_of, component_made, instance_made, declared_made}
-use Rattle.wcv_lower.specs.Entries.{extern_name, written}
+use Rattle.wcv_lower.specs.Entries.{extern_name, written, is_new, new_there}
 use Rattle.wcv_lower.specs.Growth.{step, grow}
 use Rattle.wcv_lower.specs.Names.{Names, names_by_place}
 use Rattle.wcv_lower.specs.Owned.{AllEntries, Everywhere, own_resources, IsOwn, IsOnce, OwnsOnce, IsMadeAt}
@@ -23,7 +23,7 @@ use Rattle.wcv_lower.specs.Step.{Change, appends, lists, introduces, defines, cr
 use Rattle.wcv_lower.specs.Trees.{tree_reader, Tree_context, Tree_stack, tree_maker, node_tree, type_entry}
 use Rattle.wcv_lower.specs.Types.{added}
 use Rattle.wcv_lower.proofs.Applied.{change_at_cases, applied_has}
-use Rattle.wcv_lower.proofs.Bringing.{OfAny, of_some, map-some, any_mapped, AllBring, enters_bring, BroughtOf, written_has}
+use Rattle.wcv_lower.proofs.Bringing.{OfAny, of_some, map-some, any_mapped, any_if, AllBring, enters_bring, BroughtOf, written_has}
 use Rattle.wcv_lower.proofs.Calm.{inside_has, stood, around_has}
 use Rattle.wcv_lower.proofs.BroughtByAliases.{aliases_bring}
 use Rattle.wcv_lower.proofs.CalmEnds.{exports_in_it, sides_in_it, closed_bring, closed_own}
@@ -175,16 +175,18 @@ module _ (fs : WasmFeatures) where
 
   export_grew : (q : Place) (s u : Tree_stack) (x : _) (r : _) → Everywhere OwnsOnce s → applied s (declared_export_step (mk q) s.top x r) ≡ Some u → Grew q s u
   export_grew q s u x r all e =
-      let o = written (mk q) s.top r in
+      let b : Bool = is_new exporting (extern_name x).name s.top in
+      let o = new_there exporting (extern_name x) s.top (written (mk q) s.top r) in
       applied_grew q s u (declared_export_step (mk q) s.top x r) all
       (any_mapped (BroughtOf owns_once_inherited (λ r. Unit {0})) (AllBring OwnsOnce (λ r. Unit {0})) (enters exporting (extern_name x)) (enters_bring owns_once_inherited (λ r. Unit {0}) exporting (extern_name x)) o
-      (written_has owns_once_inherited (λ r. Unit {0}) s.top (all zero s.top refl) names_by_place q (λ o. tt) r))
-      (any_mapped (λ b. AreMade q (names_in b.resources)) (λ p. AreMade q (new_names p)) (enters exporting (extern_name x)) (enters_once q exporting (extern_name x)) o (written_once q s.top (all zero s.top refl) r)) e
+      (any_if (BroughtOf owns_once_inherited (λ r. Unit {0})) b (written (mk q) s.top r) (written_has owns_once_inherited (λ r. Unit {0}) s.top (all zero s.top refl) names_by_place q (λ o. tt) r)))
+      (any_mapped (λ b. AreMade q (names_in b.resources)) (λ p. AreMade q (new_names p)) (enters exporting (extern_name x)) (enters_once q exporting (extern_name x)) o
+      (any_if (λ b. AreMade q (names_in b.resources)) b (written (mk q) s.top r) (written_once q s.top (all zero s.top refl) r))) e
 
   import_made : (q : Place) (s : Tree_stack) (i : _) → Everywhere OwnsOnce s → OfAny (λ p. AreMade q (new_names p)) (step fs (mk q) s (import_item i))
   import_made q s i all =
-      any_mapped (λ b. AreMade q (names_in b.resources)) (λ p. AreMade q (new_names p)) (enters importing (extern_name i.name)) (enters_once q importing (extern_name i.name)) (written (mk q) s.top i.ty)
-      (written_once q s.top (all zero s.top refl) i.ty)
+      any_mapped (λ b. AreMade q (names_in b.resources)) (λ p. AreMade q (new_names p)) (enters importing (extern_name i.name)) (enters_once q importing (extern_name i.name)) (new_there importing (extern_name i.name) s.top (written (mk q) s.top i.ty))
+      (any_if (λ b. AreMade q (names_in b.resources)) (is_new importing (extern_name i.name).name s.top) (written (mk q) s.top i.ty) (written_once q s.top (all zero s.top refl) i.ty))
 
   item_grew : (q : Place) (s u : Tree_stack) (f : _) → Everywhere OwnsOnce s → OfAny (λ p. AreMade q (new_names p)) (step fs (mk q) s f) → applied s (step fs (mk q) s f) ≡ Some u → Grew q s u
   item_grew q s u f all m e = applied_grew q s u (step fs (mk q) s f) all (items_bring_given owns_once_inherited (λ r. Unit {0}) names_by_place q (λ o. tt) s all owns_once_given fs f) m e

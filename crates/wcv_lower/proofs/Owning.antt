@@ -384,7 +384,7 @@ module _ {P : Type_tree → Type 0} {In : Parts Name Name → Type 0} (law : Inh
   MadeOf (func_node b ps) = All (λ p. P p.1) ps
   MadeOf (defined_node k ps) = All (λ p. P p.1) ps
   MadeOf (module_node m) = Unit {0}
-  MadeOf (core_instance_node t) = P t
+  MadeOf (core_instance_node n t) = P t
   MadeOf (core_exports_node n es) = Unit {0}
   MadeOf (instance_node [] es) = All (λ e. P e.1) es
   MadeOf (instance_node (r ∷ own) es) = ⊥
@@ -394,7 +394,7 @@ module _ {P : Type_tree → Type 0} {In : Parts Name Name → Type 0} (law : Inh
   node_has i (func_node b ps) w = law.bare (func i b) (tree_parts ps) (λ r. refl) tt (parts_have ps w)
   node_has i (defined_node k ps) w = law.bare (defined i k) (tree_parts ps) (λ r. refl) tt (parts_have ps w)
   node_has i (module_node m) w = module_has i m
-  node_has i (core_instance_node t) w = law.bare (core_instance i (capped (suc (size t)))) (part here t none) (λ r. refl) tt (law.part_in here t none w law.none_in)
+  node_has i (core_instance_node n t) w = law.bare (core_instance i (capped n)) (part here t none) (λ r. refl) tt (law.part_in here t none w law.none_in)
   node_has i (core_exports_node n es) w = law.bare (core_instance i (capped n)) (core_exports es none) (λ r. refl) tt (core_exports_have es none law.none_in)
   node_has i (instance_node [] es) w = law.bare (instance i []) (entries export es none) (λ r. refl) tt (entries_have export es none w law.none_in)
   node_has i (instance_node (r ∷ own) es) w = absurd w

@@ -181,6 +181,10 @@ pointer_of c os = pointer_type (pointer_size (options_read c os))
 abbrev pub options_found : {X : Reader} → Context X → List CanonicalOption → Checks
 options_found c os = all_checks (option_found c) os
 
+-- that of the first memory, which decides of pointers
+abbrev pub memory_found : {X : Reader} → Context X → List CanonicalOption → Checks
+memory_found c os = if_found (λ i. missing (core_item_at c kind.Memory i)) (first memory_in os)
+
 abbrev pub options_rules : {X : Reader} → WasmFeatures → Stack X → List CanonicalOption → Checks
 options_rules fs s os = all_checks (option_rules fs s (pointer_of s.top os)) os ++ list_rules os
 

@@ -43,7 +43,7 @@ use Rattle.wcv_flat.specs.declared.options.Concurrency.TheVariants as concurrenc
 use Rattle.wcv_flat.specs.declared.options.PtrSize.{PtrSize}
 use Rattle.wcv_flat.specs.declared.options.StringEncoding.TheVariants as encoding
 use Rattle.wcv_flat.specs.declared.rows.RowFacts.{RowFacts}
-use Rattle.wcv_lower.specs.CanonOptions.{stands, first, post_return_in, core_entity_at, memory_type_at, memory_pointers, memory_rules, size_of, options_read, options_found, options_checks, stands_without}
+use Rattle.wcv_lower.specs.CanonOptions.{stands, first, post_return_in, core_entity_at, memory_type_at, memory_pointers, memory_rules, size_of, options_read, memory_found, options_checks, stands_without}
 use Rattle.wcv_lower.specs.Checks.{Checks, if_found, is_none, missing, no_room, too_many}
 use Rattle.wcv_lower.specs.Context.{Context, Stack, in_funcs, core_funcs, counts}
 use Rattle.wcv_lower.specs.CoreInstances.{core_item_at, test_found}
@@ -197,12 +197,13 @@ appends_found c (row.returning r) = value_found c r
 appends_found c (row.lifted t) = sort_checks is_func c t
 appends_found c q = []
 
--- so of all operands, and of the options
+-- so of all operands
 abbrev pub operands_found : {X : Reader} → Stack X → Canon_form → Checks
 operands_found s f = all_checks (ask_found s) (canon_row f).asks ++ appends_found s.top (canon_row f).appends
 
+-- and of the options the first memory: no other index in them says what is appended
 abbrev pub canon_found : {X : Reader} → Stack X → Canon_form → Checks
-canon_found s f = operands_found s f ++ if_found (options_found s.top) (options_in f)
+canon_found s f = operands_found s f ++ if_found (memory_found s.top) (options_in f)
 
 -- ## Steps
 
@@ -236,8 +237,8 @@ canon_step s f = cond (is_free (canon_found s f)) (option_map (slots_typed (cano
 -- an option has to stand
 abbrev pub is_needed : {X : Reader} → Context X → Needed → Bool
 is_needed c row.in_any_case = true
-is_needed {X} c (row.with_payload t) = test_found (λ (x : X.Entry). has_value (carried (X.outline x))) (type_at c t)
-is_needed {X} c (row.with_pointer t) = test_found (λ (x : X.Entry). any_contains pointer (carried (X.outline x))) (type_at c t)
+is_needed {X} c (row.with_payload k t) = test_found (λ (x : X.Entry). has_value (carried (X.outline x) k)) (type_at c t)
+is_needed {X} c (row.with_pointer k t) = test_found (λ (x : X.Entry). any_contains pointer (carried (X.outline x) k)) (type_at c t)
 
 -- the options have `async`, and what was found is no async function
 abbrev pub is_async_alone : (X : Reader) → List CanonicalOption → Option X.Entry → Bool
@@ -323,7 +324,7 @@ ask_rules fs s (row.memory_at m) = if_found (memory_rules fs) (memory_type_at s.
 ask_rules {X} fs s (row.no_borrow r) = option_checks fs s.top r ++ if_found (has_borrow X) (option_entry s.top r)
 ask_rules fs s (row.slot_of v n) = slot_checks fs s.top.context_type v n
 ask_rules fs s (row.spawn_type_at t) = (error.Signature, is_other_type is_spawned s t) ∷ []
-ask_rules fs s (row.start_type_at t) = (error.Signature, is_other_type (is_start fs) s t) ∷ needs fs cm64 (test_found (λ (i : CoreTypeId). takes_64_bits (table.type_at s.groups i.index)) (core_id_at s.top t))
+ask_rules fs s (row.start_type_at t) = (error.Signature, is_other_type (is_start fs) s t) ∷ []
 ask_rules fs s (row.spawn_table_at n) = (error.Signature, is_other_table is_spawn_table s.top n) ∷ []
 ask_rules fs s (row.start_table_at n) = (error.Signature, is_other_table (is_func_table false) s.top n) ∷ needs fs cm64 (test_found (λ (t : TableType). t.table64) (table_type_at s.top n))
 ask_rules fs s (row.lifts f t os) = lift_checks fs s f t os

@@ -105,7 +105,7 @@ abbrev pub items_listed : {X : Reader} → Context X → List Export → List Co
 items_listed c [] = []
 items_listed c (e ∷ es) = before e.name (item_listed c e) (items_listed c es)
 
--- what an instance counts that lists them
+-- what an instance counts that exports them: itself, and each of them
 abbrev pub listed_size : List Group → List Core_export → ℕ
 listed_size gs es = suc (entity_sizes gs (map (λ (e : Core_export). e.1) es))
 
@@ -115,10 +115,14 @@ listed_checks {X} fs c e =
 
 -- ## Core instances
 
--- the node that is made: of a module it has what the module exports
+-- that of a module has what the module exports
+abbrev pub module_instance : (X : Reader) → List Group → X.Entry → New_node X
+module_instance X gs m = core_instance_node (listed_size gs (X.core_exports m)) m
+
+-- the node that is made
 abbrev pub core_instance_made : {X : Reader} → Stack X → Core_instance_form → Option (New_node X)
-core_instance_made s (core_instantiate i args) = cond (list_all (λ (a : InstantiationArg). not (is_none (core_instance_at s.top a.index))) args) (option_map core_instance_node (core_module_at s.top i)) None
-core_instance_made s (core_bag es) =
+core_instance_made {X} s (core_instantiate i args) = cond (list_all (λ (a : InstantiationArg). not (is_none (core_instance_at s.top a.index))) args) (option_map (module_instance X s.groups) (core_module_at s.top i)) None
+core_instance_made {X} s (core_bag es) =
     cond (list_all (λ (e : Export). not (is_none (item_listed s.top e))) es) (Some (core_exports_node (listed_size s.groups (items_listed s.top es)) (items_listed s.top es))) None
 
 -- it joins the core instances

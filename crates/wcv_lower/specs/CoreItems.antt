@@ -1,14 +1,17 @@
 -- Core types and core modules.
 use Rattle.wcv_core.specs.Limits.{max_instances}
-use Rattle.std.specs.Prelude.{ℕ, List, [], ◌∷◌, ◌++◌, map, length, slice_get, Bool, true, cond, Option, Some, None}
+use Rattle.std.specs.Prelude.{ℕ, List, [], ◌∷◌, ◌++◌, map, length, slice_get, Bool, true, false, ◌&&◌, not, cond, Option, Some, None}
+use Rattle.std.specs.List.{list_all}
 use Rattle.std.specs.Option.{option_map}
 use Rattle.wcv_core.specs.Checks.{all_checks}
 use Rattle.wcv_core.specs.CoreFeatures.{group_left}
 use Rattle.wcv_core.specs.CoreForm.{Group}
 use Rattle.wcv_core.specs.CoreGroups.{total}
-use Rattle.wcv_core.specs.CoreJoining.{is_free, order_checks, group_checks, group_ids, grown}
+use Rattle.wcv_core.specs.CoreJoining.{is_free, order_checks, table_checks, group_checks, group_ids, grown}
 use Rattle.wcv_core.specs.CoreWritten.{Core_entry, heap_checks, val_checks, index_checks, closed_group}
 use Rattle.wcv_core.specs.declared.core_types.CoreTypeId.{CoreTypeId}
+use Rattle.wcv_core.specs.declared.error.ErrorKind.{ErrorKind}
+use Rattle.wcv_core.specs.declared.error.ErrorKind.TheVariants as kind
 use Rattle.wcv_core.specs.declared.features.WasmFeatures.{WasmFeatures}
 use Rattle.wcv_syntax.specs.CoreItems.{type_entries, func_checks}
 use Rattle.wcv_syntax.specs.Model.{Module_decl, module_type, module_import, module_export, module_outer, Core_type_form, core_rec, core_module_type}
@@ -36,6 +39,19 @@ outer_entries s = core_entries s.top ∷ map core_entries s.outer
 abbrev pub is_closable : List Group → List Core_entry → Group → Bool
 is_closable gs es w = is_free (all_checks (index_checks (total gs) es (length w)) w ++ order_checks (length es) w)
 
+-- checks of this kind are the rules of core types
+abbrev pub is_core_rule : ErrorKind → Bool
+is_core_rule kind.CoreType = true
+is_core_rule _ = false
+
+-- none of the rules is broken; limits are no rules
+abbrev pub keeps_rules : Checks → Bool
+keeps_rules cs = list_all (λ c. not (is_core_rule c.0 && c.1)) cs
+
+-- it can be closed, and its types keep the rules in the table that has it
+abbrev pub may_join : List Group → List Core_entry → Group → Bool
+may_join gs es w = is_closable gs es w && keeps_rules (table_checks gs (closed_group es w))
+
 -- core types join their space
 abbrev pub types_join : (X : Reader) → List ℕ → Step X
 types_join X is = map (λ i. core_appends core_types (X.core_type i)) is
@@ -45,7 +61,7 @@ abbrev pub closed_step : (X : Reader) → List Group → Group → Step X
 closed_step X gs g = interns (grown gs g) ∷ types_join X (group_ids gs g)
 
 abbrev pub group_step : {X : Reader} → Stack X → Group → Option (Step X)
-group_step {X} s w = cond (is_closable s.groups (core_entries s.top) w) (Some (closed_step X s.groups (closed_group (core_entries s.top) w))) None
+group_step {X} s w = cond (may_join s.groups (core_entries s.top) w) (Some (closed_step X s.groups (closed_group (core_entries s.top) w))) None
 
 -- ## Modules
 
@@ -57,9 +73,9 @@ is_found gs ts (ref.Table t) = is_free (heap_checks (total gs) (type_entries ts)
 is_found gs ts (ref.Memory m) = true
 is_found gs ts (ref.Global g) = is_free (val_checks (total gs) (type_entries ts) 0 g.content_type)
 
--- so in a declaration. What an outer alias names is looked up where it is made
+-- so in a declaration, of which a group keeps the rules. What an outer alias names is looked up where it is made
 abbrev pub is_declarable : List Group → Module_type → Module_decl → Bool
-is_declarable gs m (module_type w) = is_closable gs (module_entries m) w
+is_declarable gs m (module_type w) = may_join gs (module_entries m) w
 is_declarable gs m (module_import i) = is_found gs m.types i.ty
 is_declarable gs m (module_export n t) = is_found gs m.types t
 is_declarable gs m (module_outer k i) = true
@@ -67,7 +83,7 @@ is_declarable gs m (module_outer k i) = true
 abbrev pub declaration_made : List (List Core_entry) → List Group → Module_type → Module_decl → Option Made
 declaration_made outers gs m d = cond (is_declarable gs m d) (declared outers gs m d) None
 
--- what declarations make. There is nothing where an index in one has nothing, or something of another sort
+-- what declarations make. There is nothing where an index in one has nothing, or something of another sort, and where a group breaks a rule
 abbrev pub module_made : List (List Core_entry) → List Group → Module_type → List Module_decl → Option Made
 module_made outers gs m [] = Some (gs, m)
 module_made outers gs m (d ∷ ds) = and_then (λ s. module_made outers s.0 s.1 ds) (declaration_made outers gs m d)

@@ -14,7 +14,7 @@ use Rattle.wcv_lower.specs.Checks.{Checks, too_many, each_too_long, texts_of, no
 use Rattle.wcv_lower.specs.Context.{Kind, concrete, declares_instance, declares_component, in_components, Context, Stack, empty, exporting, counts}
 use Rattle.wcv_lower.specs.CoreItems.{core_type_checks, core_type_left}
 use Rattle.wcv_lower.specs.Ending.{declared_made, declared_end_checks}
-use Rattle.wcv_lower.specs.Entries.{extern_name, written, written_checks, entry_checks, import_checks}
+use Rattle.wcv_lower.specs.Entries.{extern_name, new_there, written, written_checks, entry_checks, import_checks}
 use Rattle.wcv_lower.specs.Growth.{grow}
 use Rattle.wcv_lower.specs.Readers.{Reader, Maker, New_node}
 use Rattle.wcv_lower.specs.Step.{appends, Step, apply, enters}
@@ -59,7 +59,7 @@ applied s o = option_map (λ x. apply x s) o
 
 -- an export that is declared is of a written type, as an import is
 abbrev pub declared_export_step : {X : Reader} → Maker X → Context X → ComponentExternName → ComponentTypeRef → Option (Step X)
-declared_export_step mk c n r = option_map (enters exporting (extern_name n)) (written mk c r)
+declared_export_step mk c n r = option_map (enters exporting (extern_name n)) (new_there exporting (extern_name n) c (written mk c r))
 
 abbrev pub declared_export_checks : {X : Reader} → WasmFeatures → Maker X → Context X → ComponentExternName → ComponentTypeRef → Checks
 declared_export_checks fs mk c n r = entry_checks fs exporting (extern_name n) c (written_checks fs c r) (written mk c r)

@@ -1,7 +1,7 @@
 -- Instances: those of components, and those that list items, over any kind of entry.
-use Rattle.std.specs.Prelude.{ℕ, List, [], ◌∷◌, ◌++◌, map, not, cond, Option, Some, None, is_some, slice_get, length}
+use Rattle.std.specs.Prelude.{ℕ, List, [], ◌∷◌, ◌++◌, map, Bool, true, not, ◌&&◌, cond, Option, Some, None, is_some, slice_get, length}
 use Rattle.std.specs.List.{list_all}
-use Rattle.std.specs.Option.{option_map, option_and_then}
+use Rattle.std.specs.Option.{option_map, option_map_or, option_and_then}
 use Rattle.wcv_core.specs.Checks.{all_checks}
 use Rattle.wcv_core.specs.CoreForm.{Group}
 use Rattle.wcv_core.specs.Limits.{max_depth, max_list, max_size}
@@ -14,9 +14,10 @@ use Rattle.wcv_syntax.specs.declared.instance.ComponentInstantiationArg.{Compone
 use Rattle.wcv_syntax.specs.declared.name.ComponentExport.{ComponentExport}
 use Rattle.wcv_types.specs.Tree.{Text, is_instance}
 use Rattle.wcv_matching.specs.ModuleItems.{before}
+use Rattle.wcv_names.specs.Externs.{entry_names}
 use Rattle.wcv_lower.specs.Checks.{Checks, too_many, each_too_long, has_repeat, if_found, is_none, missing, no_room, texts_of}
 use Rattle.wcv_lower.specs.Context.{Context, Stack, in_instances, in_components, exporting, counts}
-use Rattle.wcv_lower.specs.Entries.{extern_name, items_of, written_checks, lends}
+use Rattle.wcv_lower.specs.Entries.{extern_name, items_of, is_written, written_checks, lends}
 use Rattle.wcv_lower.specs.Marks.{value_index, using, use_checks}
 use Rattle.wcv_lower.specs.Readers.{Reader, Maker, Named, New_node, Brought, instance_node}
 use Rattle.wcv_lower.specs.Step.{Step, introduces, appends, bare}
@@ -59,8 +60,16 @@ listed c [] = []
 listed c (e ∷ es) = before (extern_name e.name) (listed_at c e) (listed c es)
 
 -- the node that lists them, where something stands at each index
+abbrev pub all_listed : {X : Reader} → Context X → List ComponentExport → Option (New_node X)
+all_listed c es = cond (list_all (λ (e : ComponentExport). not (is_none (listed_at c e))) es) (Some (instance_node [] (listed c es))) None
+
+-- no name stands twice among them, and what a type that is written beside one names is there
+abbrev pub may_list : {X : Reader} → Context X → List ComponentExport → Bool
+may_list c es = not (has_repeat (entry_names (listed c es))) && list_all (λ (e : ComponentExport). option_map_or (is_written c) e.ty true) es
+
+-- the node that is made
 abbrev pub bag_made : {X : Reader} → Context X → List ComponentExport → Option (New_node X)
-bag_made c es = cond (list_all (λ (e : ComponentExport). not (is_none (listed_at c e))) es) (Some (instance_node [] (listed c es))) None
+bag_made c es = cond (may_list c es) (all_listed c es) None
 
 -- ## What is made
 
@@ -135,7 +144,7 @@ made_checks {X} fs mk s (instantiate i args) =
     ++ ((error.Conflict, has_repeat (argument_names args)) ∷ (if_found size_checks (instance_made mk s (instantiate i args)) ++ no_room (counts s.top) is_instance))))
 made_checks {X} fs mk s (bag es) =
     all_checks (listed_checks fs s.top) es
-    ++ (names_checks X fs [] (listed s.top es) ++ (if_found size_checks (instance_made mk s (bag es)) ++ no_room (counts s.top) is_instance))
+    ++ (names_checks X fs [] (listed s.top es) ++ (if_found size_checks (option_map (instance_of_items mk) (all_listed s.top es)) ++ no_room (counts s.top) is_instance))
 
 abbrev pub instance_checks : {X : Reader} → WasmFeatures → Maker X → Stack X → Instance_form → Checks
 instance_checks fs mk s i = use_checks s.top (instance_values i) ++ made_checks fs mk s i

@@ -121,7 +121,7 @@ module _ {X Y : Reader} (m : Map X Y) where
   map_node (func_node b ps) = func_node b (map_parts m.entry ps)
   map_node (defined_node k ps) = defined_node k (map_parts m.entry ps)
   map_node (module_node t) = module_node t
-  map_node (core_instance_node x) = core_instance_node (m.entry x)
+  map_node (core_instance_node n x) = core_instance_node n (m.entry x)
   map_node (core_exports_node n es) = core_exports_node n es
   map_node (instance_node own es) = instance_node (map m.resource own) (map_entries m.entry es)
   map_node (component_node ins outs es es') = component_node (map_paths m.resource ins) (map_paths m.resource outs) (map_entries m.entry es) (map_entries m.entry es')

@@ -2,6 +2,7 @@
 use Rattle.std.specs.Prelude.{Bool, true, false, ◌||◌}
 use Rattle.wcv_types.specs.Rename.{rename, no_identity}
 use Rattle.wcv_types.specs.Tree.{Head, defined, func, stream_of, future_of, Tree, node, Parts, none, part, head, is_value, sort}
+use Rattle.wcv_flat.specs.Rows.{Carrier_sort, of_stream, of_future}
 use Rattle.wcv_lower.specs.Checks.{same_sort}
 
 abbrev pub Outline : Type 0
@@ -29,11 +30,11 @@ abbrev pub is_future : Outline → Bool
 is_future (node (defined i future_of) ps) = true
 is_future t = false
 
--- what a stream or a future carries
-abbrev pub carried : Outline → Parts (Unit {0}) (Unit {0})
-carried (node (defined i stream_of) ps) = ps
-carried (node (defined i future_of) ps) = ps
-carried t = none
+-- what a stream, or a future, carries; nothing where the type is no such one
+abbrev pub carried : Outline → Carrier_sort → Parts (Unit {0}) (Unit {0})
+carried (node (defined i stream_of) ps) of_stream = ps
+carried (node (defined i future_of) ps) of_future = ps
+carried t k = none
 
 -- it is not left out
 abbrev pub has_value : {R I : Type 0} → Parts R I → Bool

@@ -103,8 +103,8 @@ pub data New_node (X : Reader) : Type 0 where
   func_node : Bool → Made_parts X → New_node X
   defined_node : Former → Made_parts X → New_node X
   module_node : Module_type → New_node X
-  -- a core instance of a core module
-  core_instance_node : X.Entry → New_node X
+  -- a core instance of a core module, with what it counts
+  core_instance_node : ℕ → X.Entry → New_node X
   -- one that lists its exports, with what it counts
   core_exports_node : ℕ → List Core_export → New_node X
   -- the resources that an instance type owns, and the exports

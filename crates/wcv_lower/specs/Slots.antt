@@ -143,7 +143,7 @@ abbrev pub next_node : {X : Reader} → Arena → New_node X → Part
 next_node a (func_node b ps) = p.Func (record { index = length a.nodes })
 next_node a (defined_node k ps) = p.Defined (record { index = length a.nodes })
 next_node a (module_node m) = p.Module (record { index = length a.nodes })
-next_node a (core_instance_node x) = p.CoreInstance (record { index = length a.nodes })
+next_node a (core_instance_node n x) = p.CoreInstance (record { index = length a.nodes })
 next_node a (core_exports_node n es) = p.CoreInstance (record { index = length a.nodes })
 next_node a (instance_node own es) = p.Instance (record { index = length a.nodes })
 next_node a (component_node ins outs es es') = p.Component (record { index = length a.nodes })

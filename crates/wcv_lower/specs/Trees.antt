@@ -203,9 +203,9 @@ tree_parts (p ∷ ps) = part p.0 p.1 (tree_parts ps)
 abbrev pub module_tree : Name → Module_type → Type_tree
 module_tree i m = module_type i (capped m.size) m.imports m.exports
 
--- the type of a core instance, under an identity. One of a module counts it whole
-abbrev pub of_module : Name → Type_tree → Type_tree
-of_module i t = node (tree.core_instance i (capped (suc (size t)))) (part here t none)
+-- the type of a core instance, under an identity, with what it counts
+abbrev pub of_module : Name → ℕ → Type_tree → Type_tree
+of_module i n t = node (tree.core_instance i (capped n)) (part here t none)
 
 abbrev pub of_items : Name → ℕ → List Core_export → Type_tree
 of_items i n es = node (tree.core_instance i (capped n)) (core_exports es none)
@@ -215,7 +215,7 @@ abbrev pub node_tree : Name → New_node tree_reader → Type_tree
 node_tree i (func_node b ps) = node (func i b) (tree_parts ps)
 node_tree i (defined_node k ps) = node (defined i k) (tree_parts ps)
 node_tree i (module_node m) = module_tree i m
-node_tree i (core_instance_node t) = of_module i t
+node_tree i (core_instance_node n t) = of_module i n t
 node_tree i (core_exports_node n es) = of_items i n es
 node_tree i (instance_node own es) = instance_type i own es
 node_tree i (component_node ins outs es es') = component_type i ins outs es es'

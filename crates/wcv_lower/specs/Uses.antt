@@ -11,7 +11,7 @@ use Rattle.wcv_lower.specs.Context.{Context, Stack}
 use Rattle.wcv_lower.specs.CoreInstances.{core_instance_made}
 use Rattle.wcv_lower.specs.CoreItems.{core_type_made, core_module_made}
 use Rattle.wcv_lower.specs.Entries.{made_from, instance_from, makes_new, exported_from, exported_instance}
-use Rattle.wcv_lower.specs.Instances.{opened, bag_made}
+use Rattle.wcv_lower.specs.Instances.{opened, all_listed}
 use Rattle.wcv_lower.specs.Readers.{Reader, New_node, module_node}
 use Rattle.wcv_lower.specs.Types.{type_made}
 
@@ -75,10 +75,10 @@ core_type_uses fs s t = uses_node (made_node (core_type_made fs s t))
 abbrev pub core_module_uses : {X : Reader} → WasmFeatures → Stack X → List Module_decl → Uses X
 core_module_uses fs s ds = uses_node (made_node (core_module_made fs s ds))
 
--- an instantiation the component, a bag its node
+-- an instantiation the component, a bag the node of its items
 abbrev pub instance_uses : {X : Reader} → Stack X → Instance_form → Uses X
 instance_uses s (instantiate i args) = uses_component (opened s i args)
-instance_uses s (bag es) = uses_node (bag_made s.top es)
+instance_uses s (bag es) = uses_node (all_listed s.top es)
 
 abbrev pub core_instance_uses : {X : Reader} → Stack X → Core_instance_form → Uses X
 core_instance_uses s i = uses_node (core_instance_made s i)

@@ -1,19 +1,25 @@
 -- Worked canonical functions: the contexts in which they are read, and what is said of them.
-use Rattle.std.specs.Prelude.{ℕ, zero, suc, List, [], ◌∷◌, Bool, false, cond, Option, Some, None}
+use Rattle.std.specs.Prelude.{ℕ, zero, suc, List, [], ◌∷◌, Bool, true, false, cond, Option, Some, None}
 use Rattle.wcv_core.specs.CoreForm.{func_form, Group}
 use Rattle.wcv_core.specs.Names.{Name, base, stamped}
+use Rattle.wcv_core.specs.declared.core_types.AbstractHeap.TheVariants as heap_name
 use Rattle.wcv_core.specs.declared.core_types.EntityType.TheVariants as entity
+use Rattle.wcv_core.specs.declared.core_types.HeapType.TheVariants as heap
+use Rattle.wcv_core.specs.declared.core_types.TableType.{TableType}
 use Rattle.wcv_core.specs.declared.core_types.ValType.{ValType}
 use Rattle.wcv_core.specs.declared.core_types.ValType.TheVariants as val
 use Rattle.wcv_core.specs.declared.error.ErrorKind.{ErrorKind}
 use Rattle.wcv_core.specs.declared.features.WasmFeatures.{WasmFeatures}
 use Rattle.wcv_core.specs.declared.primitive.PrimitiveValType.TheVariants as prim
+use Rattle.wcv_syntax.specs.Model.{Canon_form}
+use Rattle.wcv_syntax.specs.Model as form
+use Rattle.wcv_syntax.specs.declared.canonical.CanonicalOption.{CanonicalOption}
 use Rattle.wcv_types.specs.Tree as tree
 use Rattle.wcv_types.specs.Tree.{Text}
 use Rattle.wcv_types.specs.Unfold.{Type_tree, left_out}
 use Rattle.wcv_lower.specs.Canons.{alone, func_joins}
 use Rattle.wcv_lower.specs.Checks.{Checks}
-use Rattle.wcv_lower.specs.Context.{empty, concrete, Space, in_types, in_funcs, Core_space, core_types, core_funcs, core_memories, same_core_space}
+use Rattle.wcv_lower.specs.Context.{empty, concrete, Space, in_types, in_funcs, Core_space, core_types, core_funcs, core_memories, core_tables, same_core_space, push_core}
 use Rattle.wcv_lower.specs.Step.{Step}
 use Rattle.wcv_lower.specs.Trees.{tree_reader, Tree_stack, type_entry}
 
@@ -31,6 +37,21 @@ appends_type s ps rs = Some (func_joins tree_reader s.groups (alone false (func_
 -- the default features with some more
 abbrev pub default_with : ℕ → WasmFeatures
 default_with bits = record { 0 = bits }
+
+-- ## Functions
+
+-- the same function with these options, where it has any
+abbrev pub with_options : List CanonicalOption → Canon_form → Canon_form
+with_options os (form.lift f t ps) = form.lift f t os
+with_options os (form.lower f ps) = form.lower f os
+with_options os (form.task_return r ps) = form.task_return r os
+with_options os (form.stream_read t ps) = form.stream_read t os
+with_options os (form.stream_write t ps) = form.stream_write t os
+with_options os (form.future_read t ps) = form.future_read t os
+with_options os (form.future_write t ps) = form.future_write t os
+with_options os (form.error_context_new ps) = form.error_context_new os
+with_options os (form.error_context_message ps) = form.error_context_message os
+with_options os (form.builtin f) = form.builtin f
 
 -- ## Contexts
 
@@ -85,9 +106,22 @@ with_code v = root_of (type_entry (takes_numbers 1) ∷ []) [] (alone false (fun
 abbrev pub with_core_type : Bool → Tree_stack
 with_core_type shared = root_of [] [] (alone shared (func_form (val.I32 ∷ []) []) ∷ []) core_types (tree_reader.core_type 0 ∷ [])
 
--- with a stream of bytes
+-- with a core type that takes this and gives nothing, and a table of functions
+abbrev pub with_start : ValType → Tree_stack
+with_start v =
+    let s : Tree_stack = root_of [] [] (alone false (func_form (v ∷ []) []) ∷ []) core_types (tree_reader.core_type 0 ∷ []) in
+    let funcs : TableType = record { element_type = record { nullable = true; shared = false; heap = heap.Abstract heap_name.Func }; table64 = false; initial = 1; maximum = None; shared = false } in
+    record s { top = push_core core_tables (tree_reader.core_item (entity.Table funcs)) s.top }
+
+-- with a type that carries bytes
+abbrev carries : tree.Former → Tree_stack
+carries k = root_of (type_entry (tree.node (tree.defined (base (2 ∷ [])) k) (tree.part tree.here (tree.primitive_type prim.U8) tree.none)) ∷ []) [] [] core_types []
+
 abbrev pub with_stream : Tree_stack
-with_stream = root_of (type_entry (tree.node (tree.defined (base (2 ∷ [])) tree.stream_of) (tree.part tree.here (tree.primitive_type prim.U8) tree.none)) ∷ []) [] [] core_types []
+with_stream = carries tree.stream_of
+
+abbrev pub with_future : Tree_stack
+with_future = carries tree.future_of
 
 abbrev pub bare_root : Tree_stack
 bare_root = root_of [] [] [] core_types []

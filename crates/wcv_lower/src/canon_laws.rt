@@ -1,6 +1,6 @@
 // Laws of canonical functions, over the definitions alone.
 ghost use Rattle.std.specs.Option.{option_or};
-ghost use Rattle.std.specs.Prelude.{◌≡◌, ◌⊎◌, ℕ, List, [], ◌∷◌, ◌++◌, All, Bool, true, false, Some};
+ghost use Rattle.std.specs.Prelude.{◌≡◌, ◌⊎◌, ℕ, List, [], ◌∷◌, ◌++◌, All, Bool, true, false, Some, None};
 ghost use Rattle.wcv_core.specs.CoreForm.{SubForm, Group, func_form};
 ghost use Rattle.wcv_core.specs.CoreGroups.{IsValWithin};
 ghost use Rattle.wcv_core.specs.CoreJoining.{first_id, grown};
@@ -13,26 +13,32 @@ ghost use Rattle.wcv_core.specs.declared.core_types.ValType.{ValType};
 ghost use Rattle.wcv_core.specs.declared.core_types.ValType.TheVariants as val;
 ghost use Rattle.wcv_core.specs.declared.error.ErrorKind.TheVariants as error;
 ghost use Rattle.wcv_core.specs.declared.primitive.PrimitiveValType.TheVariants as prim;
-ghost use Rattle.wcv_syntax.specs.Model.{Canon_form};
+ghost use Rattle.wcv_syntax.specs.Model.{Canon_form, resource_type};
 ghost use Rattle.wcv_syntax.specs.Model as form;
 ghost use Rattle.wcv_syntax.specs.declared.canonical.CanonicalFunction.TheVariants as canon;
 ghost use Rattle.wcv_syntax.specs.declared.canonical.CanonicalOption.{CanonicalOption};
 ghost use Rattle.wcv_syntax.specs.declared.canonical.CanonicalOption.TheVariants as option;
 ghost use Rattle.wcv_syntax.specs.declared.component_type.ComponentValType.TheVariants as value;
+ghost use Rattle.wcv_syntax.specs.declared.core_section.ExternalKind.TheVariants as kind;
 ghost use Rattle.wcv_types.specs.Tree.{is_func, parts};
 ghost use Rattle.wcv_types.specs.Unfold.{Type_tree};
 ghost use Rattle.wcv_flat.specs.Options.{pointer_size, type_checks};
+ghost use Rattle.wcv_flat.specs.Rows.{async_option};
 ghost use Rattle.wcv_flat.specs.RowTypes.{sync, taking};
 ghost use Rattle.wcv_flat.specs.Signature.{core_type};
 ghost use Rattle.wcv_flat.specs.declared.options.Abi.TheVariants as abi;
 ghost use Rattle.wcv_flat.specs.declared.options.CanonicalOptions.{CanonicalOptions};
 ghost use Rattle.wcv_flat.specs.declared.options.Concurrency.TheVariants as concurrency;
-ghost use Rattle.wcv_lower.specs.Canons.{alone, canon_group, canon_step, canon_checks, func_added, lifted_form, lowered_form, returning_form, lifted_asks, lowered_asks, returning_asks};
+ghost use Rattle.wcv_lower.specs.CanonOptions.{first, memory_in, stands};
+ghost use Rattle.wcv_lower.specs.Canons.{alone, options_in, canon_group, canon_step, canon_checks, func_added, lifted_form, lowered_form, returning_form, lifted_asks, lowered_asks, returning_asks};
 ghost use Rattle.wcv_lower.specs.Context.{core_funcs};
+ghost use Rattle.wcv_lower.specs.CoreInstances.{core_item_at};
+ghost use Rattle.wcv_lower.specs.Readers.{Maker};
 ghost use Rattle.wcv_lower.specs.Step.{Step, apply};
-ghost use Rattle.wcv_lower.specs.Trees.{tree_reader, Tree_stack};
+ghost use Rattle.wcv_lower.specs.Trees.{tree_reader, Tree_context, Tree_stack};
+ghost use Rattle.wcv_lower.specs.Types.{type_step};
 ghost use Rattle.wcv_lower.specs.Values.{type_of_sort};
-ghost use Rattle.wcv_lower.specs.WorkedCanons.{kinds, appends_type, default_with, with_resource, with_local_resource, times, with_func, with_memory, with_code, with_core_type, with_stream, bare_root, with_slots};
+ghost use Rattle.wcv_lower.specs.WorkedCanons.{kinds, appends_type, default_with, with_resource, with_local_resource, times, with_func, with_memory, with_code, with_core_type, with_start, with_stream, with_future, bare_root, with_slots, with_options};
 
 /// Where a canonical function appends a core function, the groups that were read are those before it with its own, and the core function
 /// is of that group's type, by its id. One that lifts appends a function of the type that is named. The first that reads or writes a
@@ -46,6 +52,14 @@ pub fn a_canonical_function_appends_the_type_of_its_row()
     ensures id { (gs hs : List Group) (g : Group) → first_id (with_group gs g ++ hs) g ≡ first_id gs g }
     ensures closed { (es : List Core_entry) (b : Bool) (ps rs : List ValType) → All (IsValWithin 0 0) ps → All (IsValWithin 0 0) rs → closed_group es (alone b (func_form ps rs)) ≡ alone b (func_form ps rs) }
     ensures ty { (gs : List Group) (x : SubForm) → type_at (with_group gs (x ∷ [])) (first_id gs (x ∷ [])) ≡ x }
+{}
+
+/// Growth takes of the options the first memory and whether `async` stands, and nothing else. It is undefined where nothing stands at the
+/// index of that memory, or at the index of a resource's destructor.
+pub fn growth_takes_the_first_memory_and_async()
+    ensures options { (s : Tree_stack) (f : Canon_form) (os ps : List CanonicalOption) → first memory_in os ≡ first memory_in ps → stands async_option os ≡ stands async_option ps → canon_step s (with_options os f) ≡ canon_step s (with_options ps f) }
+    ensures memory { (s : Tree_stack) (f : Canon_form) (os : List CanonicalOption) (i : ℕ) → options_in f ≡ Some os → first memory_in os ≡ Some i → core_item_at s.top kind.Memory i ≡ None → canon_step s f ≡ None }
+    ensures destructor { (mk : Maker tree_reader) (c : Tree_context) (rep : ValType) (i : ℕ) → core_item_at c kind.Func i ≡ None → type_step mk c (resource_type rep (Some i)) ≡ None }
 {}
 
 /// The core type of a function, and what it asks of options, are those of the type with its names.
@@ -75,4 +89,9 @@ pub fn worked_canonical_functions()
     ensures thread { kinds (canon_checks default_features bare_root (form.builtin canon.ThreadIndex)) ≡ error.Feature ∷ [] }
     ensures slots { kinds (canon_checks (default_with 8511) (with_slots val.I32) (form.builtin (canon.ContextSet val.I64 0))) ≡ error.Context ∷ [] }
     ensures stream { kinds (canon_checks default_features with_stream (form.stream_read 0 (option.Async ∷ []))) ≡ error.Options ∷ [] }
+    ensures future { kinds (canon_checks default_features with_future (form.stream_read 0 (option.Async ∷ []))) ≡ error.WrongSort ∷ [] }
+    ensures narrow { kinds (canon_checks (default_with 4415) (with_start val.I64) (form.builtin (canon.ThreadNewIndirect 0 0))) ≡ error.Signature ∷ [] }
+    ensures started { kinds (canon_checks (default_with 12607) (with_start val.I64) (form.builtin (canon.ThreadNewIndirect 0 0))) ≡ [] }
+    ensures grows { canon_step (with_func 0) (form.lower 0 (option.Realloc 0 ∷ option.PostReturn 0 ∷ option.Callback 0 ∷ option.CoreType 0 ∷ [])) ≡ appends_type bare_root [] [] }
+    ensures undefined { canon_step (with_func 0) (form.lower 0 (option.Memory 0 ∷ [])) ≡ None }
 {}

@@ -1,13 +1,13 @@
 // Laws of the rules, over the definitions alone.
 ghost use Rattle.std.specs.Option.{option_map};
 ghost use Rattle.std.specs.Bool.{Decides};
-ghost use Rattle.std.specs.Prelude.{◌≡◌, ℕ, List, All, [], ◌∷◌, ◌++◌, map, Bool, Some, false, true};
+ghost use Rattle.std.specs.Prelude.{◌≡◌, ℕ, List, All, [], ◌∷◌, ◌++◌, map, Bool, Some, false, true, bytes_eq, is_some};
 ghost use Rattle.wcv_core.specs.CoreForm.{Group};
 ghost use Rattle.wcv_core.specs.CoreGroups.{total};
 ghost use Rattle.wcv_core.specs.CoreSizes.{IsEntityWithin};
 ghost use Rattle.wcv_core.specs.Names.{Name, Place, at, deeper, member};
 ghost use Rattle.wcv_core.specs.declared.features.WasmFeatures.{WasmFeatures};
-ghost use Rattle.wcv_syntax.specs.Model.{Text, Form, instance_item, Instance_form, instantiate, Type_form, instance_type, Decls};
+ghost use Rattle.wcv_syntax.specs.Model.{Text, Form, instance_item, Instance_form, instantiate, Items, Type_form, instance_type, Decl, Decls};
 ghost use Rattle.wcv_syntax.specs.ModuleTypes.{Core_import, Core_export, Module_type};
 ghost use Rattle.wcv_syntax.specs.declared.component_type.ComponentTypeRef.{ComponentTypeRef};
 ghost use Rattle.wcv_syntax.specs.declared.name.ComponentExport.{ComponentExport};
@@ -15,16 +15,18 @@ ghost use Rattle.wcv_syntax.specs.declared.name.ComponentExternName.{ComponentEx
 ghost use Rattle.wcv_syntax.specs.declared.instance.ComponentAlias.{ComponentAlias};
 ghost use Rattle.wcv_syntax.specs.declared.instance.ComponentInstantiationArg.{ComponentInstantiationArg};
 ghost use Rattle.wcv_types.specs.Arena.{Arena};
+ghost use Rattle.wcv_types.specs.ByName.{NamesDiffer};
 ghost use Rattle.wcv_types.specs.Entities.{SlotStands};
 ghost use Rattle.wcv_types.specs.Identity.{Identity};
 ghost use Rattle.wcv_types.specs.Measure.{size};
 ghost use Rattle.wcv_types.specs.Replacing.{SparesOwn};
 ghost use Rattle.wcv_types.specs.Standing.{AllFit};
 ghost use Rattle.wcv_types.specs.Tree.{exports, firsts, head, imported_at, owned};
-ghost use Rattle.wcv_types.specs.Unfold.{Slot, Type_tree, slot_tree, trees};
+ghost use Rattle.wcv_types.specs.Unfold.{Slot, Type_tree, capped, slot_tree, trees};
 ghost use Rattle.wcv_closed.specs.ClosedTable.{IsTable};
 ghost use Rattle.wcv_closed.specs.CoreModules.{AllServed, EachArgument};
 ghost use Rattle.wcv_matching.specs.Formed.{node_height};
+ghost use Rattle.wcv_matching.specs.Matching.{named};
 ghost use Rattle.wcv_matching.specs.ModuleItems.{ItemsMatch};
 ghost use Rattle.wcv_matching.specs.OnePass.{argument_for};
 ghost use Rattle.wcv_matching.specs.Orderly.{Orderly};
@@ -32,24 +34,25 @@ ghost use Rattle.wcv_matching.specs.TableMatching.{CoreWithin, Opens};
 ghost use Rattle.wcv_lower.specs.Aliases.{alias_step, alias_checks};
 ghost use Rattle.wcv_lower.specs.Checks.{IsFree};
 ghost use Rattle.wcv_lower.specs.Context.{Kind, Stack, in_types, in_components, importing};
-ghost use Rattle.wcv_lower.specs.CoreInstances.{all_served};
-ghost use Rattle.wcv_lower.specs.Declared.{Makers, inside, ended, read_type, declared_checks};
+ghost use Rattle.wcv_lower.specs.CoreInstances.{all_served, listed_size, module_instance};
+ghost use Rattle.wcv_lower.specs.Declared.{Makers, inside, ended, read_type, read_decl, declared_checks};
 ghost use Rattle.wcv_lower.specs.DeclaredMaps.{TypeAlike};
-ghost use Rattle.wcv_lower.specs.Entries.{extern_name, written, exported_at, exported, export_checks};
+ghost use Rattle.wcv_lower.specs.Entries.{extern_name, written, is_written, exported_at, exported, export_checks};
 ghost use Rattle.wcv_lower.specs.Even.{IsEven, IsBalanced, IsRegular};
 ghost use Rattle.wcv_lower.specs.Given.{AtMost, GivenNames, GivesAt, Numbers, names_of};
 ghost use Rattle.wcv_lower.specs.Growth.{is_plain, grow, checks};
-ghost use Rattle.wcv_lower.specs.Instances.{component_at, arguments, instance_checks};
+ghost use Rattle.wcv_lower.specs.Instances.{component_at, arguments, listed, bag_made, instance_checks};
 ghost use Rattle.wcv_lower.specs.Instantiated.{opened_resource, opening, instantiated, instantiated_resources};
-ghost use Rattle.wcv_lower.specs.Items.{read_item, item_causes, EndsFree};
+ghost use Rattle.wcv_lower.specs.Items.{read_item, read_items, item_causes, EndsFree};
 ghost use Rattle.wcv_lower.specs.Mapped.{IsKnown, MakesSame, map_stack, map_step};
 ghost use Rattle.wcv_lower.specs.Names.{Names, names_by_place, Under, AreRenamed, SameNames};
 ghost use Rattle.wcv_lower.specs.Owned.{AllEntries, AllOwn, AreRegular, Everywhere, InstanceApart, ItemRegular, IsCalm, IsOnce, OwnsOnce, IsMadeAt};
-ghost use Rattle.wcv_lower.specs.Readers.{Brought, Maker, core_instance_node, core_exports_node, module_node};
+ghost use Rattle.wcv_lower.specs.Readers.{Brought, Maker, New_node, core_instance_node, core_exports_node, instance_node, module_node};
 ghost use Rattle.wcv_lower.specs.Renamed.{Renaming, renaming};
+ghost use Rattle.wcv_lower.specs.SideNames.{AllSidesDiffer, TellsRepeats};
 ghost use Rattle.wcv_lower.specs.Slots.{slot_reader, to_trees};
 ghost use Rattle.wcv_lower.specs.Step.{Step};
-ghost use Rattle.wcv_lower.specs.Trees.{Tree_stack, tree_reader, tree_maker, node_tree, type_entry};
+ghost use Rattle.wcv_lower.specs.Trees.{Tree_context, Tree_stack, tree_reader, tree_maker, node_tree, type_entry};
 ghost use Rattle.wcv_lower.specs.Uses.{uses};
 ghost use Rattle.wcv_lower.specs.WorkedInstance.{made, third, worked_arguments, worked_component, worked_instance};
 ghost use Rattle.wcv_lower.specs.WorkedNested.{nested_root, nested_inside, made_func, made_component};
@@ -83,9 +86,11 @@ pub fn items_of_ids_are_those_of_trees()
 {}
 
 /// A core instance that is made of a core module exports what the module does, and one that lists items exports
-/// these. A core module imports what its declarations do.
+/// these. A core module imports what its declarations do. A core instance that is made of a core module counts itself
+/// and what the module exports.
 pub fn a_core_instance_exports_what_it_is_made_of()
-    ensures made { (i j : Name) (m : Module_type) → tree_reader.core_exports (node_tree i (core_instance_node (node_tree j (module_node m)))) ≡ m.exports }
+    ensures made { (i j : Name) (n : ℕ) (m : Module_type) → tree_reader.core_exports (node_tree i (core_instance_node n (node_tree j (module_node m)))) ≡ m.exports }
+    ensures counted { (i j : Name) (gs : List Group) (m : Module_type) → size (node_tree i (module_instance tree_reader gs (node_tree j (module_node m)))) ≡ capped (listed_size gs m.exports) }
     ensures listed { (i : Name) (n : ℕ) (es : List Core_export) → tree_reader.core_exports (node_tree i (core_exports_node n es)) ≡ es }
     ensures imports { (i : Name) (m : Module_type) → tree_reader.core_imports (node_tree i (module_node m)) ≡ m.imports }
 {}
@@ -166,6 +171,20 @@ pub fn a_component_keeps_a_stack_calm()
     ensures closed { (a : Numbers) (k : Kind) (n : Names) (p : Place) (s t : Tree_stack) → IsCalm a s → ended k (tree_maker n p) s ≡ Some t → IsCalm a t }
 {}
 
+/// Growth gives no list a name twice: where names differ on each side of each open context, they do so behind an item, also a declared
+/// type or a component, behind a declaration, and where a context opens; and in an instance that lists items they differ. A name that a
+/// list has is a cause, so what has none is not stopped by that. A written type gives something where what it names is there.
+pub fn growth_gives_no_list_a_name_twice()
+    ensures item { (fs : WasmFeatures) (n : Names) (p : Place) (s t : Tree_stack) (f : Form) → AllSidesDiffer s → read_item fs (tree_maker n) p s f ≡ Some t → AllSidesDiffer t }
+    ensures items { (fs : WasmFeatures) (n : Names) (p : Place) (k : ℕ) (s t : Tree_stack) (is : Items) → AllSidesDiffer s → read_items fs (tree_maker n) p k s is ≡ Some t → AllSidesDiffer t }
+    ensures declaration { (fs : WasmFeatures) (n : Names) (p : Place) (s t : Tree_stack) (d : Decl) → AllSidesDiffer s → read_decl fs (tree_maker n) p s d ≡ Some t → AllSidesDiffer t }
+    ensures opened { (k : Kind) (s : Tree_stack) → AllSidesDiffer s → AllSidesDiffer (inside k s) }
+    ensures listed { (c : Tree_context) (es : List ComponentExport) (n : New_node tree_reader) → bag_made c es ≡ Some n → (n ≡ instance_node [] (listed c es)) × NamesDiffer (named (listed c es)) }
+    ensures told { TellsRepeats tree_reader }
+    ensures told_of_ids { (a : Arena) → TellsRepeats (slot_reader a) }
+    ensures written { (n : Names) (p : Place) (c : Tree_context) (r : ComponentTypeRef) → is_some (written (tree_maker n p) c r) ≡ is_written c r }
+{}
+
 /// A declared type over ids of an arena is read to what it is read to over the trees that they stand for, and
 /// has the same causes, where at each declaration the makers make the same of what it uses.
 pub fn declared_types_of_ids_are_those_of_trees()
@@ -184,13 +203,13 @@ pub fn a_declared_type_owns_what_its_declarations_made()
     ensures grown { (fs : WasmFeatures) (n : Names) (p : Place) (s u : Tree_stack) (f : Form) → Everywhere OwnsOnce s → grow fs (tree_maker n p) s f ≡ Some u → Everywhere OwnsOnce u }
 {}
 
-/// A worked root: two imports of one instance type that owns a resource. Each brings a resource of its own, which
+/// A worked root: two imports of one instance type that owns a resource, under names that differ, as those of its exports do. Each brings a resource of its own, which
 /// stands at the first position inside it; what mentions the resource is made again, and the reference keeps its
 /// stamp.
 pub fn two_imports_of_a_type_have_two_resources()
-    ensures types { (fs : WasmFeatures) (r f a b : ComponentExternName) (x : Text) → option_map (λ (s : Tree_stack). s.top.space in_types) (imported_twice fs r f x a b) ≡ Some (type_entry (made_type r f x) ∷ []) }
-    ensures imports { (fs : WasmFeatures) (r f a b : ComponentExternName) (x : Text) → option_map (λ (s : Tree_stack). s.top.side importing) (imported_twice fs r f x a b) ≡ Some ((extern_name a, made_instance r f x 1) ∷ (extern_name b, made_instance r f x 2) ∷ []) }
-    ensures imported { (fs : WasmFeatures) (r f a b : ComponentExternName) (x : Text) → option_map (λ (s : Tree_stack). s.top.imported) (imported_twice fs r f x a b) ≡ Some ((at (1 ∷ []) own, 0 ∷ 0 ∷ []) ∷ (at (2 ∷ []) own, 1 ∷ 0 ∷ []) ∷ []) }
+    ensures types { (fs : WasmFeatures) (r f a b : ComponentExternName) (x : Text) → bytes_eq f.name r.name ≡ false → bytes_eq b.name a.name ≡ false → option_map (λ (s : Tree_stack). s.top.space in_types) (imported_twice fs r f x a b) ≡ Some (type_entry (made_type r f x) ∷ []) }
+    ensures imports { (fs : WasmFeatures) (r f a b : ComponentExternName) (x : Text) → bytes_eq f.name r.name ≡ false → bytes_eq b.name a.name ≡ false → option_map (λ (s : Tree_stack). s.top.side importing) (imported_twice fs r f x a b) ≡ Some ((extern_name a, made_instance r f x 1) ∷ (extern_name b, made_instance r f x 2) ∷ []) }
+    ensures imported { (fs : WasmFeatures) (r f a b : ComponentExternName) (x : Text) → bytes_eq f.name r.name ≡ false → bytes_eq b.name a.name ≡ false → option_map (λ (s : Tree_stack). s.top.imported) (imported_twice fs r f x a b) ≡ Some ((at (1 ∷ []) own, 0 ∷ 0 ∷ []) ∷ (at (2 ∷ []) own, 1 ∷ 0 ∷ []) ∷ []) }
 {}
 
 /// A worked root: a function type, and a component that aliases the type from the root and imports a function of it. Behind both the
