@@ -7,6 +7,7 @@ pub mod Sending
 pub mod Leading
 pub mod Slots
 pub mod Rebuilding
+pub mod References
 pub mod Looping
 pub mod Whole
 pub mod Counting

@@ -5,6 +5,7 @@ use Rattle.std.proofs.lemmas.List.Elements.{All-nil, All-cons, Contains-append_l
 use Rattle.std.proofs.lemmas.Map.Views.{Contains-from_lookup}
 use Rattle.std.specs.Prelude.{Option, Some, None, All, Contains, option_map}
 use Rattle.wcv_core.proofs.Names.{same-refl}
+use Rattle.wcv_core.specs.CoreForm.{Group}
 use Rattle.wcv_core.specs.Names.{Name, number, same}
 use Rattle.wcv_types.proofs.Grown.{extends_refl, stands_more, stands_rank, same_tree}
 use Rattle.wcv_types.proofs.Lists.{some-inj}
@@ -58,19 +59,19 @@ each_stands a map (q ∷ qs) [] e = absurd e
 
 -- ## The node may be made again
 
-no_counts : (h : Head Name Name) (ps : Parts Name Name) → (sort_at h ≡ is_core_instance → ⊥) → HeadCounts h ps
-no_counts (core_instance i n) ps h = absurd (h refl)
-no_counts nothing ps h = tt
-no_counts (primitive q) ps h = tt
-no_counts (resource q t) ps h = tt
-no_counts (defined i k) ps h = tt
-no_counts (func i b) ps h = tt
-no_counts (instance i own) ps h = tt
-no_counts (component i ins outs) ps h = tt
-no_counts type_entity ps h = tt
-no_counts (core_module i n) ps h = tt
-no_counts (core_type k) ps h = tt
-no_counts (core_item x) ps h = tt
+no_counts : (gs : List Group) (h : Head Name Name) (ps : Parts Name Name) → (sort_at h ≡ is_core_instance → ⊥) → HeadCounts gs h ps
+no_counts gs (core_instance i n) ps h = absurd (h refl)
+no_counts gs nothing ps h = tt
+no_counts gs (primitive q) ps h = tt
+no_counts gs (resource q t) ps h = tt
+no_counts gs (defined i k) ps h = tt
+no_counts gs (func i b) ps h = tt
+no_counts gs (instance i own) ps h = tt
+no_counts gs (component i ins outs) ps h = tt
+no_counts gs type_entity ps h = tt
+no_counts gs (core_module i n) ps h = tt
+no_counts gs (core_type k) ps h = tt
+no_counts gs (core_item x) ps h = tt
 
 not_instance : (q : Part) → is_node q ≡ true → sort_of q ≡ is_core_instance → ⊥
 not_instance (p.Resource r) h e = cc
@@ -82,8 +83,8 @@ not_instance (p.Func i) h e = cc
 not_instance (p.Instance i) h e = cc
 not_instance (p.Component i) h e = cc
 
-node_counts : (a : Arena) (q : Part) (ps : Parts Name Name) → is_node q ≡ true → Stands a q → HeadCounts (head (tree_at a q)) ps
-node_counts a q ps n st = no_counts (head (tree_at a q)) ps (λ e. not_instance q n (sym (sort_stands a q st) ∙ e))
+node_counts : (a : Arena) (q : Part) (ps : Parts Name Name) → is_node q ≡ true → Stands a q → HeadCounts a.core (head (tree_at a q)) ps
+node_counts a q ps n st = no_counts a.core (head (tree_at a q)) ps (λ e. not_instance q n (sym (sort_stands a q st) ∙ e))
 
 pub refits : (a : Arena) (map : Map) (q : Part) (tos : List Part) → is_node q ≡ true → Stands a q → Sound a map → Unfolds a q → Led (tree_at a q) → HygienicAt a map q → Each (Right a map) (parts_at a q) tos → Refits a q tos
 refits a map q tos n st snd u l y e = record {

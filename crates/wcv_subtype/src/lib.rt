@@ -9,6 +9,7 @@ mod entity;
 mod giving;
 mod ids;
 mod map;
+mod matches;
 mod modules;
 mod names;
 mod openings;
@@ -43,7 +44,10 @@ ghost use Rattle.wcv_subtype.specs.Remap.{ReachedFrom, Sends, Serves, Sound};
 pub use comparisons::{component_entity_type, component_val_type};
 pub use entity::remap_component_entity;
 pub use map::Remapping;
+pub use matches::Matches;
 pub use openings::{EntityMap, open_instance_type};
+pub use wcv_core::ExternKind;
+pub use wcv_matching::{entity_type, memory_type, table_type};
 
 /// A map that replaces resources by resources of the arena, and has no entry yet, is sound.
 #[tactic(auto, using(crate::proofs::Starting::sound_new))]

@@ -80,6 +80,13 @@ impl Remapping {
         Ok(())
     }
 
+    /// What resources are replaced by.
+    pub fn resources(&self) -> &IndexMapAppendOnly<ResourceId, ResourceId>
+        ensures { result.now ≡ self.now.resources }
+    {
+        &self.resources
+    }
+
     /// The reference that comes in the place of one.
     pub(crate) fn reference(&self, id: AliasableResourceId) -> AliasableResourceId
         ensures { result ≡ reference_to self.now id }
@@ -93,8 +100,8 @@ impl Remapping {
         }
     }
 
-    /// Where the type goes, if the map has it.
-    pub(crate) fn get(&self, id: ComponentAnyTypeId) -> Option<Part>
+    /// Where the type goes, if the map has it: it was given, or a rebuilding looked at it.
+    pub fn get(&self, id: ComponentAnyTypeId) -> Option<Part>
         ensures { result ≡ sent_to self.now (any_part id) }
     {
         match self.types.get(&id) {

@@ -1,7 +1,8 @@
 // What opens the imports of a component.
-ghost use Rattle.std.specs.Prelude.{◌≡◌, ◌+◌, ◌*◌, ◌≤◌, [], ◌∷◌, ◌++◌, List, map, All, Some, true, IfErr, IfOk, OnErr, OnOk};
+ghost use Rattle.std.specs.Prelude.{◌≡◌, ◌+◌, ◌*◌, ◌≤◌, [], ◌∷◌, ◌++◌, List, bytes_eq, length, map, option_copied, option_map, slice_get, All, Some, true, IfErr, IfOk, OnErr, OnOk};
 ghost use Rattle.std.specs.List.{IsDistinct};
-ghost use Rattle.std.specs.Map.{keys_of};
+ghost use Rattle.std.specs.Map.{keys_of, lookup};
+ghost use Rattle.std.specs.Map.Iter.{deref_pair};
 ghost use Rattle.wcv_core.specs.Names.{Name};
 ghost use Rattle.wcv_core.specs.Refusal.{error_kind, error_offset};
 ghost use Rattle.wcv_types.specs.Entities.{entity_tree, EntityStands, EntryStands};
@@ -81,6 +82,33 @@ impl EntityMap {
                 external_id: None,
             },
         ))
+    }
+
+    /// How many pairs there are.
+    pub fn len(&self) -> usize
+        ensures { result ≡ length self.now }
+    {
+        self.items.len()
+    }
+
+    /// The pair at this position.
+    pub fn get_index(&self, k: usize) -> Option<(&Text, &ComponentEntityType)>
+        ensures { option_map deref_pair result ≡ slice_get self.now k }
+    {
+        match self.items.get_index(k) {
+            Some(entry) => Some((&entry.0, &entry.1.ty)),
+            None => None,
+        }
+    }
+
+    /// The type of the first pair with this name.
+    pub fn get(&self, name: &Text) -> Option<&ComponentEntityType>
+        ensures { option_copied result ≡ lookup (bytes_eq name.now) self.now }
+    {
+        match self.items.get(name) {
+            Some(item) => Some(&item.ty),
+            None => None,
+        }
     }
 }
 
