@@ -34,13 +34,14 @@ use Rattle.wcv_lower.specs.Outlines.{outline, is_stream, is_future, carried, has
 use Rattle.wcv_lower.specs.Trees.{Type_tree, tree_reader}
 use Rattle.wcv_lower.specs.Values.{type_at}
 use Rattle.wcv_flat.specs.Rows as row
+use Rattle.wcv_flat.specs.Rows.{Carrier_sort, of_stream, of_future}
 use Rattle.wcv_state.specs.Contents.{Contents, context_of, id_tree, StateStands}
 use Rattle.wcv_state.specs.Promises.{CausedBy, MemoryOrCausedBy}
 use Rattle.wcv_state.proofs.Calls.{caused_more}
 use Rattle.wcv_state.proofs.CoreItems.{missing_mapped}
 use Rattle.wcv_state.proofs.Found.{get_same, type_is}
 use Rattle.wcv_canon.specs.Operands.{asked}
-use Rattle.wcv_canon.specs.Carriers.{carrier_of, is_of_stream, is_of_future, IsPayload, Carries, Shows}
+use Rattle.wcv_canon.specs.Carriers.{carrier_of, is_of_stream, is_of_future, value_of, IsPayload, Carries, Shows}
 use Rattle.wcv_canon.specs.declared.ask_types.Carrier.{Carrier}
 use Rattle.wcv_canon.specs.declared.ask_types.Carrier.TheVariants as carrier
 use Rattle.wcv_canon.proofs.OptionLists.{or_false}
@@ -71,41 +72,61 @@ module _ (a : Arena) where
   -- ## Defined types
 
   shown : (k : ℕ) (x : ComponentDefinedType) → All (StandsBefore a (suc k)) (parts_of (n.Defined x)) → Shows a (unfolded a k (n.Defined x)) (carrier_of x)
-  shown k (d.Stream o) h =
-      let s : SlotStands a (option_slot o) = payload_stands (suc k) o h in
-      record { stream = refl; future = refl; value = payload_value o s; points = payload_points o; stands = s }
-  shown k (d.Future o) h =
-      let s : SlotStands a (option_slot o) = payload_stands (suc k) o h in
-      record { stream = refl; future = refl; value = payload_value o s; points = payload_points o; stands = s }
-  shown k (d.Primitive q) h = record { stream = refl; future = refl; value = refl; points = refl; stands = tt }
-  shown k (d.Record fs) h = record { stream = refl; future = refl; value = refl; points = refl; stands = tt }
-  shown k (d.Variant cs) h = record { stream = refl; future = refl; value = refl; points = refl; stands = tt }
-  shown k (d.List t) h = record { stream = refl; future = refl; value = refl; points = refl; stands = tt }
-  shown k (d.Map q t) h = record { stream = refl; future = refl; value = refl; points = refl; stands = tt }
-  shown k (d.FixedLengthList t m) h = record { stream = refl; future = refl; value = refl; points = refl; stands = tt }
-  shown k (d.Tuple ts) h = record { stream = refl; future = refl; value = refl; points = refl; stands = tt }
-  shown k (d.Flags ns) h = record { stream = refl; future = refl; value = refl; points = refl; stands = tt }
-  shown k (d.Enum ns) h = record { stream = refl; future = refl; value = refl; points = refl; stands = tt }
-  shown k (d.Option t) h = record { stream = refl; future = refl; value = refl; points = refl; stands = tt }
-  shown k (d.Result o e) h = record { stream = refl; future = refl; value = refl; points = refl; stands = tt }
-  shown k (d.Own r) h = record { stream = refl; future = refl; value = refl; points = refl; stands = tt }
-  shown k (d.Borrow r) h = record { stream = refl; future = refl; value = refl; points = refl; stands = tt }
+  shown k (d.Stream o) h = let s : SlotStands a (option_slot o) = payload_stands (suc k) o h in record { stream = refl; future = refl; value = value s; points = points; stands = stands s }
+    where
+      value : SlotStands a (option_slot o) → (q : Carrier_sort) → has_value (carried (outline (unfolded a k (n.Defined (d.Stream o)))) q) ≡ is_some (value_of (carrier.Stream o) q)
+      value s of_stream = payload_value o s
+      value s of_future = refl
+
+      points : (q : Carrier_sort) → any_contains pointer (carried (outline (unfolded a k (n.Defined (d.Stream o)))) q) ≡ contains pointer (slot_tree (trees a.nodes) (option_slot (value_of (carrier.Stream o) q)))
+      points of_stream = payload_points o
+      points of_future = refl
+
+      stands : SlotStands a (option_slot o) → (q : Carrier_sort) → SlotStands a (option_slot (value_of (carrier.Stream o) q))
+      stands s of_stream = s
+      stands s of_future = tt
+  shown k (d.Future o) h = let s : SlotStands a (option_slot o) = payload_stands (suc k) o h in record { stream = refl; future = refl; value = value s; points = points; stands = stands s }
+    where
+      value : SlotStands a (option_slot o) → (q : Carrier_sort) → has_value (carried (outline (unfolded a k (n.Defined (d.Future o)))) q) ≡ is_some (value_of (carrier.Future o) q)
+      value s of_stream = refl
+      value s of_future = payload_value o s
+
+      points : (q : Carrier_sort) → any_contains pointer (carried (outline (unfolded a k (n.Defined (d.Future o)))) q) ≡ contains pointer (slot_tree (trees a.nodes) (option_slot (value_of (carrier.Future o) q)))
+      points of_stream = refl
+      points of_future = payload_points o
+
+      stands : SlotStands a (option_slot o) → (q : Carrier_sort) → SlotStands a (option_slot (value_of (carrier.Future o) q))
+      stands s of_stream = tt
+      stands s of_future = s
+  shown k (d.Primitive q) h = record { stream = refl; future = refl; value = λ q. refl; points = λ q. refl; stands = λ q. tt }
+  shown k (d.Record fs) h = record { stream = refl; future = refl; value = λ q. refl; points = λ q. refl; stands = λ q. tt }
+  shown k (d.Variant cs) h = record { stream = refl; future = refl; value = λ q. refl; points = λ q. refl; stands = λ q. tt }
+  shown k (d.List t) h = record { stream = refl; future = refl; value = λ q. refl; points = λ q. refl; stands = λ q. tt }
+  shown k (d.Map q t) h = record { stream = refl; future = refl; value = λ q. refl; points = λ q. refl; stands = λ q. tt }
+  shown k (d.FixedLengthList t m) h = record { stream = refl; future = refl; value = λ q. refl; points = λ q. refl; stands = λ q. tt }
+  shown k (d.Tuple ts) h = record { stream = refl; future = refl; value = λ q. refl; points = λ q. refl; stands = λ q. tt }
+  shown k (d.Flags ns) h = record { stream = refl; future = refl; value = λ q. refl; points = λ q. refl; stands = λ q. tt }
+  shown k (d.Enum ns) h = record { stream = refl; future = refl; value = λ q. refl; points = λ q. refl; stands = λ q. tt }
+  shown k (d.Option t) h = record { stream = refl; future = refl; value = λ q. refl; points = λ q. refl; stands = λ q. tt }
+  shown k (d.Result o e) h = record { stream = refl; future = refl; value = λ q. refl; points = λ q. refl; stands = λ q. tt }
+  shown k (d.Own r) h = record { stream = refl; future = refl; value = λ q. refl; points = λ q. refl; stands = λ q. tt }
+  shown k (d.Borrow r) h = record { stream = refl; future = refl; value = λ q. refl; points = λ q. refl; stands = λ q. tt }
 
   -- ## Other types
 
   no_value : (h : Head Name Name) (ps : Parts Name Name) → same_sort is_value (sort_at h) ≡ false → Shows a (node h ps) carrier.Other
   no_value (defined i k) ps e = absurd (false≢true (sym e))
   no_value (primitive q) ps e = absurd (false≢true (sym e))
-  no_value nothing ps e = record { stream = refl; future = refl; value = refl; points = refl; stands = tt }
-  no_value (resource r s) ps e = record { stream = refl; future = refl; value = refl; points = refl; stands = tt }
-  no_value (func i b) ps e = record { stream = refl; future = refl; value = refl; points = refl; stands = tt }
-  no_value (instance i own) ps e = record { stream = refl; future = refl; value = refl; points = refl; stands = tt }
-  no_value (component i ins outs) ps e = record { stream = refl; future = refl; value = refl; points = refl; stands = tt }
-  no_value type_entity ps e = record { stream = refl; future = refl; value = refl; points = refl; stands = tt }
-  no_value (core_module i m) ps e = record { stream = refl; future = refl; value = refl; points = refl; stands = tt }
-  no_value (core_instance i m) ps e = record { stream = refl; future = refl; value = refl; points = refl; stands = tt }
-  no_value (core_type i) ps e = record { stream = refl; future = refl; value = refl; points = refl; stands = tt }
-  no_value (core_item x) ps e = record { stream = refl; future = refl; value = refl; points = refl; stands = tt }
+  no_value nothing ps e = record { stream = refl; future = refl; value = λ q. refl; points = λ q. refl; stands = λ q. tt }
+  no_value (resource r s) ps e = record { stream = refl; future = refl; value = λ q. refl; points = λ q. refl; stands = λ q. tt }
+  no_value (func i b) ps e = record { stream = refl; future = refl; value = λ q. refl; points = λ q. refl; stands = λ q. tt }
+  no_value (instance i own) ps e = record { stream = refl; future = refl; value = λ q. refl; points = λ q. refl; stands = λ q. tt }
+  no_value (component i ins outs) ps e = record { stream = refl; future = refl; value = λ q. refl; points = λ q. refl; stands = λ q. tt }
+  no_value type_entity ps e = record { stream = refl; future = refl; value = λ q. refl; points = λ q. refl; stands = λ q. tt }
+  no_value (core_module i m) ps e = record { stream = refl; future = refl; value = λ q. refl; points = λ q. refl; stands = λ q. tt }
+  no_value (core_instance i m) ps e = record { stream = refl; future = refl; value = λ q. refl; points = λ q. refl; stands = λ q. tt }
+  no_value (core_type i) ps e = record { stream = refl; future = refl; value = λ q. refl; points = λ q. refl; stands = λ q. tt }
+  no_value (core_item x) ps e = record { stream = refl; future = refl; value = λ q. refl; points = λ q. refl; stands = λ q. tt }
 
   neither : (t : Type_tree) → same_sort is_value (sort t) ≡ false → Shows a t carrier.Other
   neither (node h ps) e = no_value h ps e
@@ -140,10 +161,10 @@ module _ (a : Arena) (s : Contents) (h : StateStands a s) (k : ℕ) where
         there = ap is_none t;
         stream = ap (test_found (λ (y : Type_tree). not (is_stream (outline y)))) t ∙ w.stream;
         future = ap (test_found (λ (y : Type_tree). not (is_future (outline y)))) t ∙ w.future;
-        payload = record {
-          value = ap (test_found (λ (y : Type_tree). has_value (carried (outline y)))) t ∙ w.value;
-          points = ap (test_found (λ (y : Type_tree). any_contains pointer (carried (outline y)))) t ∙ w.points;
-          stands = w.stands;
+        payload = λ q. record {
+          value = ap (test_found (λ (y : Type_tree). has_value (carried (outline y) q))) t ∙ w.value q;
+          points = ap (test_found (λ (y : Type_tree). any_contains pointer (carried (outline y) q))) t ∙ w.points q;
+          stands = w.stands q;
         };
       }
 
@@ -173,8 +194,8 @@ module _ (a : Arena) (s : Contents) (h : StateStands a s) (k : ℕ) where
         caused_more (missing (type_at (context_of a s) k)) (asked a s (row.future_at k)) offset e (λ c. cause_left (missing (type_at (context_of a s) k)) ((error.WrongSort, test_found (λ (y : Type_tree). not (is_future (outline y))) (type_at (context_of a s) k)) ∷ []) (error_kind e) c) t
 
   -- nothing that stands there carries anything
-  pub nothing_carried : is_none (type_at (context_of a s) k) ≡ true → IsPayload a (context_of a s) k None
-  nothing_carried e = record { value = go (λ (y : Type_tree). has_value (carried (outline y))) (type_at (context_of a s) k) e; points = go (λ (y : Type_tree). any_contains pointer (carried (outline y))) (type_at (context_of a s) k) e; stands = tt }
+  pub nothing_carried : (q : Carrier_sort) → is_none (type_at (context_of a s) k) ≡ true → IsPayload a (context_of a s) k q None
+  nothing_carried q e = record { value = go (λ (y : Type_tree). has_value (carried (outline y) q)) (type_at (context_of a s) k) e; points = go (λ (y : Type_tree). any_contains pointer (carried (outline y) q)) (type_at (context_of a s) k) e; stands = tt }
     where
       go : (test : Type_tree → Bool) (o : Option Type_tree) → is_none o ≡ true → test_found test o ≡ false
       go test None e = refl

@@ -34,7 +34,7 @@ use Rattle.wcv_flat.specs.RowTypes.{is_shared, row_checks}
 use Rattle.wcv_flat.specs.Rows.{Ask, Appends, canon_row}
 use Rattle.wcv_flat.specs.Rows as row
 use Rattle.wcv_flat.specs.declared.rows.RowFacts.{RowFacts}
-use Rattle.wcv_lower.specs.CanonOptions.{options_found, options_rules, options_checks}
+use Rattle.wcv_lower.specs.CanonOptions.{options_found, memory_found, options_rules, options_checks}
 use Rattle.wcv_lower.specs.Canons.{options_in, canon_options, row_form, alone, ask_found, appends_found, canon_found, func_joins, func_step, row_step, slots_typed, canon_step, ask_rules, appended_asks, form_joins, joining_checks, canon_checks}
 use Rattle.wcv_lower.specs.Checks.{Checks, Cause, IsFree, if_found, no_room}
 use Rattle.wcv_lower.specs.Context.{core_funcs, counts}
@@ -43,6 +43,7 @@ use Rattle.wcv_lower.specs.CoreItems.{core_entries}
 use Rattle.wcv_lower.specs.Given.{none_given}
 use Rattle.wcv_lower.specs.Step.{Step, apply}
 use Rattle.wcv_lower.specs.Trees.{Tree_context, Tree_stack, tree_reader}
+use Rattle.wcv_lower.proofs.CanonOptionLaws.{memory_there}
 use Rattle.wcv_lower.proofs.ModulesMade.{said_free}
 use Rattle.wcv_state.specs.Contents.{Contents, context_of, stack_of, sides, names, spent, with_core as with_core_id, StateStands}
 use Rattle.wcv_state.specs.Promises.{MemoryOrCausedBy, Keeps, Grew}
@@ -193,12 +194,12 @@ module _ (a : Arena) (s : Contents) (h : StateStands a s) (f : Canon_form) (kind
         (free_both listed ((ruled ++ typed) ++ (joins ++ room)) listed_free
         (free_both (ruled ++ typed) (joins ++ room) (free_both ruled typed ruled_free (free_left typed joins g)) (free_both joins room (free_right typed joins g) room_free)))
 
-    options_free : (o : Option (List CanonicalOption)) → IsFree (if_found (options_checks s.features Whole) o) → IsFree (if_found (options_found Here) o)
+    options_free : (o : Option (List CanonicalOption)) → IsFree (if_found (options_checks s.features Whole) o) → IsFree (if_found (memory_found Here) o)
     options_free None g = g
-    options_free (Some os) g = free_left (options_found Here os) (options_rules s.features Whole os) g
+    options_free (Some os) g = memory_there tree_reader Here os (free_left (options_found Here os) (options_rules s.features Whole os) g)
 
     looked_free : IsFree (canon_found Whole f)
-    looked_free = free_both (asked ++ there) (if_found (options_found Here) (options_in f)) (free_both asked there asked_free there_free) (options_free (options_in f) listed_free)
+    looked_free = free_both (asked ++ there) (if_found (memory_found Here) (options_in f)) (free_both asked there asked_free there_free) (options_free (options_in f) listed_free)
 
     -- ## The core type
 

@@ -1,5 +1,5 @@
 -- What is looked up by ids is what is looked up in the context.
-use Rattle.std.proofs.Common.{◌≡◌, ℕ, ◌<◌, List, [], ◌∷◌, ◌++◌, map, refl, sym, ◌∙◌, ap, subst, Bool, true, false, not, ◌||◌, cond, eqb, Some, None, inl, inr, ⊎_elim, ◌&&◌, get_or}
+use Rattle.std.proofs.Common.{◌≡◌, ℕ, ◌<◌, List, [], ◌∷◌, ◌++◌, map, refl, sym, ◌∙◌, ap, subst, Bool, true, false, not, ◌||◌, cond, eqb, Some, None, inl, inr, ⊎_elim, get_or}
 use Rattle.std.specs.Prelude.{Option, slice_get}
 use Rattle.std.specs.Map.{lookup}
 use Rattle.std.specs.Option.{option_map, option_and_then}
@@ -15,7 +15,6 @@ use Rattle.wcv_core.specs.declared.core_types.EntityType.TheVariants as entity
 use Rattle.wcv_core.specs.declared.core_types.MemoryType.{MemoryType}
 use Rattle.wcv_core.specs.declared.core_types.TableType.{TableType}
 use Rattle.wcv_core.specs.declared.core_types.ValType.{ValType}
-use Rattle.wcv_core.specs.declared.core_types.ValType.TheVariants as val
 use Rattle.wcv_core.specs.declared.error.Error.{Error}
 use Rattle.wcv_core.specs.declared.error.ErrorKind.{ErrorKind}
 use Rattle.wcv_core.specs.declared.error.ErrorKind.TheVariants as error
@@ -44,7 +43,7 @@ use Rattle.wcv_types.proofs.Unfolding.{sort_stands}
 use Rattle.wcv_flat.specs.Rows as row
 use Rattle.wcv_flat.specs.declared.options.PtrSize.TheVariants as ptr
 use Rattle.wcv_lower.specs.CanonOptions.{as_memory, has_64_bits, size_of, memory_pointers, core_entity_at, memory_type_at, memory_rules, is_other_func}
-use Rattle.wcv_lower.specs.Canons.{func_at, as_table, table_type_at, core_id, is_abroad, rep_among, is_spawned, is_start, takes_64_bits, is_func_table, is_spawn_table}
+use Rattle.wcv_lower.specs.Canons.{func_at, as_table, table_type_at, core_id, is_abroad, rep_among, is_spawned, is_start, is_func_table, is_spawn_table}
 use Rattle.wcv_lower.specs.Checks.{Checks, Cause, IsFree, if_found, is_none, missing, missing_of, same_sort}
 use Rattle.wcv_lower.specs.Context.{in_types, in_funcs}
 use Rattle.wcv_lower.specs.CoreInstances.{core_item_at, test_found}
@@ -53,8 +52,8 @@ use Rattle.wcv_lower.specs.Defined.{has_borrow}
 use Rattle.wcv_lower.specs.Outlines.{outline, is_async_func}
 use Rattle.wcv_lower.specs.Readers.{if_sort}
 use Rattle.wcv_lower.specs.Trees.{Type_tree, Tree_context, tree_reader, referenced}
-use Rattle.wcv_lower.specs.Types.{form_takes_and_gives, takes_and_gives}
-use Rattle.wcv_lower.specs.Values.{cm64, has_feature, type_at, type_of_sort, sort_checks}
+use Rattle.wcv_lower.specs.Types.{takes_and_gives}
+use Rattle.wcv_lower.specs.Values.{cm64, type_at, type_of_sort, sort_checks}
 use Rattle.wcv_state.specs.Contents.{Contents, IdStands, context_of, id_tree, defined_resource, core_entries_of, StateStands}
 use Rattle.wcv_state.specs.Looking.{any_sort, any_resource, core_item_in, rep_of, resource_in, local_rep, local_rep_checks}
 use Rattle.wcv_state.specs.Promises.{MemoryOrCausedBy}
@@ -151,10 +150,7 @@ module _ (a : Arena) (s : Contents) (h : StateStands a s) where
   spawn_type_looked t = ap of_spawn_type (entry_here t)
 
   abbrev of_start_type : Option Core_entry → Checks
-  of_start_type o =
-      entry_checks o ++
-      (error.Signature, test_found (λ (i : CoreTypeId). not (is_start s.features (table.type_at a.core i.index))) (option_and_then core_id o)) ∷
-      needs s.features cm64 (test_found (λ (i : CoreTypeId). takes_64_bits (table.type_at a.core i.index)) (option_and_then core_id o))
+  of_start_type o = entry_checks o ++ (error.Signature, test_found (λ (i : CoreTypeId). not (is_start s.features (table.type_at a.core i.index))) (option_and_then core_id o)) ∷ []
 
   pub start_type_looked : (t : ℕ) → asked a s (row.start_type_at t) ≡ of_start_type (slice_get (core_entries_of s) t)
   start_type_looked t = ap of_start_type (entry_here t)
@@ -323,9 +319,7 @@ module _ (a : Arena) (s : Contents) (h : StateStands a s) (t : ℕ) where
 
   pub start_type_missing : {M : Type 0} (offset : ℕ) (e : Error M) → MemoryOrCausedBy (entry_checks entry_at) offset e → MemoryOrCausedBy (asked a s (row.start_type_at t)) offset e
   start_type_missing offset e m =
-      left_caused (entry_checks entry_at)
-      ((error.Signature, test_found (λ (i : CoreTypeId). not (is_start s.features (type_at_id i))) (option_and_then core_id entry_at)) ∷ needs s.features cm64 (test_found (λ (i : CoreTypeId). takes_64_bits (type_at_id i)) (option_and_then core_id entry_at)))
-      (asked a s (row.start_type_at t)) offset e (start_type_looked a s h t) m
+      left_caused (entry_checks entry_at) ((error.Signature, test_found (λ (i : CoreTypeId). not (is_start s.features (type_at_id i))) (option_and_then core_id entry_at)) ∷ []) (asked a s (row.start_type_at t)) offset e (start_type_looked a s h t) m
 
   module _ (i : CoreTypeId) (w : entry_at ≡ Some (sub_entry i.index)) where
     spawn_type_is : asked a s (row.spawn_type_at t) ≡ of_spawn_type a s h (Some (sub_entry i.index))
@@ -340,32 +334,11 @@ module _ (a : Arena) (s : Contents) (h : StateStands a s) (t : ℕ) where
     start_type_is : asked a s (row.start_type_at t) ≡ of_start_type a s h (Some (sub_entry i.index))
     start_type_is = start_type_looked a s h t ∙ ap (of_start_type a s h) w
 
-    -- one that takes 64 bits is asked for the feature alone
-    pub start_type_wide : takes_64_bits (type_at_id i) ≡ true → IsFree (needs s.features cm64 true) → IsFree (asked a s (row.start_type_at t))
-    start_type_wide f g = subst IsFree (sym start_type_is) (refl, (refl, (signature, (ap (λ (b : Bool). b && not (has_feature s.features cm64)) f ∙ g.0, tt))))
-      where
-        signature : not (is_start s.features (type_at_id i)) ≡ false
-        signature = ap (λ (b : Bool). not (form_takes_and_gives (val.I32 ∷ []) [] (type_at_id i).inner || (b && has_feature s.features cm64))) f ∙ go (form_takes_and_gives (val.I32 ∷ []) [] (type_at_id i).inner) (has_feature s.features cm64) g.0
-          where
-            go : (b d : Bool) → not d ≡ false → not (b || d) ≡ false
-            go true d e = refl
-            go false d e = e
+    pub start_type_free : is_start s.features (type_at_id i) ≡ true → IsFree (asked a s (row.start_type_at t))
+    start_type_free f = subst IsFree (sym start_type_is) (refl, (refl, (ap not f, tt)))
 
-    pub start_type_needs : {M : Type 0} (offset : ℕ) (e : Error M) → takes_64_bits (type_at_id i) ≡ true → MemoryOrCausedBy (needs s.features cm64 true) offset e → MemoryOrCausedBy (asked a s (row.start_type_at t)) offset e
-    start_type_needs offset e f g =
-        subst (λ (ds : Checks). MemoryOrCausedBy ds offset e) (sym start_type_is)
-        (caused_more (needs s.features cm64 true) (of_start_type a s h (Some (sub_entry i.index))) offset e (λ k. inr (inr (inr (subst (λ (b : Bool). Cause (needs s.features cm64 b) (error_kind e)) (sym f) k)))) g)
-
-    pub start_type_free : takes_64_bits (type_at_id i) ≡ false → form_takes_and_gives (val.I32 ∷ []) [] (type_at_id i).inner ≡ true → IsFree (asked a s (row.start_type_at t))
-    start_type_free f g =
-        subst IsFree (sym start_type_is)
-        (refl, (refl, (ap (λ (b : Bool). not (b || (takes_64_bits (type_at_id i) && has_feature s.features cm64))) g, (ap (λ (b : Bool). b && not (has_feature s.features cm64)) f, tt))))
-
-    pub start_type_other : {M : Type 0} (offset : ℕ) (e : Error M) → takes_64_bits (type_at_id i) ≡ false → form_takes_and_gives (val.I32 ∷ []) [] (type_at_id i).inner ≡ false → error_kind e ≡ error.Signature → error_offset e ≡ offset →
-        MemoryOrCausedBy (asked a s (row.start_type_at t)) offset e
-    start_type_other offset e f g k o =
-        subst (λ (ds : Checks). MemoryOrCausedBy ds offset e) (sym start_type_is)
-        (inr (inr (inr (inl (k, (λ j. not (g j || (f j && has_feature s.features cm64)))))), o))
+    pub start_type_other : {M : Type 0} (offset : ℕ) (e : Error M) → is_start s.features (type_at_id i) ≡ false → error_kind e ≡ error.Signature → error_offset e ≡ offset → MemoryOrCausedBy (asked a s (row.start_type_at t)) offset e
+    start_type_other offset e f k o = subst (λ (ds : Checks). MemoryOrCausedBy ds offset e) (sym start_type_is) (inr (inr (inr (inl (k, ap not f))), o))
 
 module _ (a : Arena) (s : Contents) (h : StateStands a s) (k : ℕ) where
   abbrev sort_at : Option Sort

@@ -18,6 +18,8 @@ use Rattle.wcv_canon.specs.declared.ask.Ask.{Ask}
 use Rattle.wcv_canon.specs.declared.ask.Ask.TheVariants as ask
 use Rattle.wcv_canon.specs.declared.ask.Barred.{Barred}
 use Rattle.wcv_canon.specs.declared.ask.Barred.TheVariants as bars
+use Rattle.wcv_canon.specs.declared.ask.CarrierSort.{CarrierSort}
+use Rattle.wcv_canon.specs.declared.ask.CarrierSort.TheVariants as carrier
 use Rattle.wcv_canon.specs.declared.ask.Needed.{Needed}
 use Rattle.wcv_canon.specs.declared.ask.Needed.TheVariants as needs
 
@@ -46,10 +48,14 @@ barred bars.OfLifting = post_return_option ∷ callback_option ∷ []
 barred bars.Waiting = async_option ∷ post_return_option ∷ callback_option ∷ []
 barred bars.Returning = realloc_option ∷ async_option ∷ post_return_option ∷ callback_option ∷ []
 
+abbrev pub carrier_sort : CarrierSort → row.Carrier_sort
+carrier_sort carrier.Stream = row.of_stream
+carrier_sort carrier.Future = row.of_future
+
 abbrev pub needed : Needed → row.Needed
 needed needs.InAnyCase = row.in_any_case
-needed (needs.WithPayload t) = row.with_payload t
-needed (needs.WithPointer t) = row.with_pointer t
+needed (needs.WithPayload k t) = row.with_payload (carrier_sort k) t
+needed (needs.WithPointer k t) = row.with_pointer (carrier_sort k) t
 
 -- over the options that stand
 abbrev pub ask_of : List CanonicalOption → Ask → row.Ask

@@ -36,14 +36,21 @@ pub enum Barred {
     Returning,
 }
 
+/// What carries values from one end to the other.
+#[derive(Clone, Copy)]
+pub enum CarrierSort {
+    Stream,
+    Future,
+}
+
 /// Where an option has to stand.
 #[derive(Clone, Copy)]
 pub enum Needed {
     InAnyCase,
-    /// Where the stream or the future at the index carries something.
-    WithPayload(u32),
+    /// Where the stream, or the future, at the index carries something.
+    WithPayload(CarrierSort, u32),
     /// Where a pointer stands in that.
-    WithPointer(u32),
+    WithPointer(CarrierSort, u32),
 }
 
 /// One thing that a row asks. What is said of options is asked of the list of them.

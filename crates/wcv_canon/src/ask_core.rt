@@ -20,6 +20,7 @@ ghost use Rattle.wcv_state.specs.Promises.{MemoryOrCausedBy};
 ghost use Rattle.wcv_canon.specs.Operands.{asked};
 
 use crate::items::{require, takes_and_gives};
+use bitflags::Flags;
 use std::fmt;
 use wcv_core::{
     AbstractHeap, Error, ErrorKind, HeapType, InternRecGroup, RefType, SubType, TableType, ValType,
@@ -77,7 +78,15 @@ fn takes_64_bits(ty: &SubType) -> bool
     takes_and_gives(ty, &[ValType::I64], &[])
 }
 
-/// Whether the core type at the index is one of functions that start a thread.
+/// Whether it is one of functions that start a thread.
+fn is_start(ty: &SubType, features: &WasmFeatures) -> bool
+    ensures { result ≡ spec.is_start features.now (sub_form ty.now) }
+{
+    takes_and_gives(ty, &[ValType::I32], &[])
+        || takes_64_bits(ty) && features.contains(WasmFeatures::CM64)
+}
+
+/// So of the core type at the index.
 pub fn check_start_type(
     index: u32,
     state: &ComponentState,
@@ -90,21 +99,12 @@ pub fn check_start_type(
 {
     let id = state.type_id_at(index, offset)?;
     let ty = types.core_types().get(id);
-    if takes_64_bits(ty) {
-        return require(
-            state.features(),
-            WasmFeatures::CM64,
-            true,
-            "a function that starts a thread and takes i64",
-            offset,
-        );
-    }
-    if takes_and_gives(ty, &[ValType::I32], &[]) {
+    if is_start(ty, state.features()) {
         return Ok(());
     }
     Err(other(
         format_args!(
-            "core type {index} has to be a function that takes i32 or i64 and gives nothing, and is {ty}"
+            "core type {index} has to be a function that takes i32, or i64 with the feature `cm64`, and gives nothing, and is {ty}"
         ),
         offset,
     ))

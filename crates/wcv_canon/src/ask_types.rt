@@ -14,11 +14,11 @@ ghost use Rattle.wcv_lower.specs.Values.{type_at};
 ghost use Rattle.wcv_flat.specs.Rows as row;
 ghost use Rattle.wcv_state.specs.Contents.{StateStands, context_of};
 ghost use Rattle.wcv_state.specs.Promises.{CausedBy, MemoryOrCausedBy};
-ghost use Rattle.wcv_canon.specs.Operands.{asked, needed};
+ghost use Rattle.wcv_canon.specs.Operands.{asked, carrier_sort, needed};
 ghost use Rattle.wcv_canon.specs.Carriers as carriers;
 ghost use Rattle.wcv_canon.specs.Carriers.{Carries, Shows};
 
-use crate::ask::Needed;
+use crate::ask::{CarrierSort, Needed};
 use crate::items::require;
 use crate::lists::{OptionName, stands};
 use crate::options::refused;
@@ -48,14 +48,14 @@ impl Carrier {
         matches!(self, Carrier::Future(_))
     }
 
-    /// What it carries, if that is known.
-    fn carried(self) -> Option<ComponentValType>
-        ensures { result ≡ carriers.value_of self }
+    /// What it carries, where it is a stream, or a future.
+    fn carried(self, sort: CarrierSort) -> Option<ComponentValType>
+        ensures { result ≡ carriers.value_of self (carrier_sort sort) }
     {
-        match self {
-            Carrier::Stream(carried) => carried,
-            Carrier::Future(carried) => carried,
-            Carrier::Other => None,
+        match (sort, self) {
+            (CarrierSort::Stream, Carrier::Stream(carried)) => carried,
+            (CarrierSort::Future, Carrier::Future(carried)) => carried,
+            _ => None,
         }
     }
 }
@@ -143,18 +143,19 @@ pub fn check_future(
     Err(wrong_sort("type index %1 is not of a future", index, offset))
 }
 
-/// What the stream or the future at the index carries, if one stands there.
+/// What the stream, or the future, at the index carries, if one stands there.
 fn payload_at(
+    sort: CarrierSort,
     index: u32,
     state: &ComponentState,
     types: &TypeAlloc,
     offset: u64,
 ) -> Option<ComponentValType>
     requires stands { StateStands types.now state.now }
-    ensures { carriers.IsPayload types.now (context_of types.now state.now) index result }
+    ensures { carriers.IsPayload types.now (context_of types.now state.now) index (carrier_sort sort) result }
 {
     match carrier_at(index, state, types, offset) {
-        Ok(found) => found.carried(),
+        Ok(found) => found.carried(sort),
         Err(_) => None,
     }
 }
@@ -166,8 +167,10 @@ pub fn is_needed(when: Needed, state: &ComponentState, types: &TypeAlloc, offset
 {
     match when {
         Needed::InAnyCase => true,
-        Needed::WithPayload(index) => payload_at(index, state, types, offset).is_some(),
-        Needed::WithPointer(index) => match payload_at(index, state, types, offset) {
+        Needed::WithPayload(sort, index) => {
+            payload_at(sort, index, state, types, offset).is_some()
+        }
+        Needed::WithPointer(sort, index) => match payload_at(sort, index, state, types, offset) {
             Some(ty) => types.abi_info(&ty).contains_ptr,
             None => false,
         },

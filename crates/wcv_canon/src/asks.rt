@@ -8,7 +8,7 @@ ghost use Rattle.wcv_state.specs.Contents.{StateStands, stack_of};
 ghost use Rattle.wcv_state.specs.Promises.{MemoryOrCausedBy};
 ghost use Rattle.wcv_canon.specs.Operands.{operand_checks, row_asked, is_lift};
 
-use crate::ask::{Ask, Barred, Needed, check_asks};
+use crate::ask::{Ask, Barred, CarrierSort, Needed, check_asks};
 use crate::lists::OptionName;
 use wcv_core::{Error, WasmFeatures};
 use wcv_state::ComponentState;
@@ -178,8 +178,14 @@ fn check_row(
                 Ask::MoreWithoutAsync,
                 Ask::Stream(*ty),
                 Ask::Bars(Barred::OfLifting),
-                Ask::Needs(OptionName::Memory, Needed::WithPayload(*ty)),
-                Ask::Needs(OptionName::Realloc, Needed::WithPointer(*ty)),
+                Ask::Needs(
+                    OptionName::Memory,
+                    Needed::WithPayload(CarrierSort::Stream, *ty),
+                ),
+                Ask::Needs(
+                    OptionName::Realloc,
+                    Needed::WithPointer(CarrierSort::Stream, *ty),
+                ),
             ];
             check_asks(&asks, options.as_slice(), state, types, offset)
         }
@@ -189,7 +195,10 @@ fn check_row(
                 Ask::MoreWithoutAsync,
                 Ask::Stream(*ty),
                 Ask::Bars(Barred::OfLifting),
-                Ask::Needs(OptionName::Memory, Needed::WithPayload(*ty)),
+                Ask::Needs(
+                    OptionName::Memory,
+                    Needed::WithPayload(CarrierSort::Stream, *ty),
+                ),
             ];
             check_asks(&asks, options.as_slice(), state, types, offset)
         }
@@ -199,8 +208,14 @@ fn check_row(
                 Ask::MoreWithoutAsync,
                 Ask::Future(*ty),
                 Ask::Bars(Barred::OfLifting),
-                Ask::Needs(OptionName::Memory, Needed::WithPayload(*ty)),
-                Ask::Needs(OptionName::Realloc, Needed::WithPointer(*ty)),
+                Ask::Needs(
+                    OptionName::Memory,
+                    Needed::WithPayload(CarrierSort::Future, *ty),
+                ),
+                Ask::Needs(
+                    OptionName::Realloc,
+                    Needed::WithPointer(CarrierSort::Future, *ty),
+                ),
             ];
             check_asks(&asks, options.as_slice(), state, types, offset)
         }
@@ -210,7 +225,10 @@ fn check_row(
                 Ask::MoreWithoutAsync,
                 Ask::Future(*ty),
                 Ask::Bars(Barred::OfLifting),
-                Ask::Needs(OptionName::Memory, Needed::WithPayload(*ty)),
+                Ask::Needs(
+                    OptionName::Memory,
+                    Needed::WithPayload(CarrierSort::Future, *ty),
+                ),
             ];
             check_asks(&asks, options.as_slice(), state, types, offset)
         }

@@ -17,14 +17,14 @@ use Rattle.wcv_types.specs.declared.ids.ComponentCoreTypeId.TheVariants as core_
 use Rattle.wcv_types.proofs.Each.{length-mapped, map-push}
 use Rattle.wcv_lower.specs.Checks.{Checks, IsFree, no_core_type_room}
 use Rattle.wcv_lower.specs.Context.{counts}
-use Rattle.wcv_lower.specs.CoreItems.{core_entries, is_closable, types_join, closed_step}
+use Rattle.wcv_lower.specs.CoreItems.{core_entries, may_join, types_join, closed_step}
 use Rattle.wcv_lower.specs.Given.{none_given, names_of}
 use Rattle.wcv_lower.specs.Growth.{call_checks}
 use Rattle.wcv_lower.specs.Names.{Names}
 use Rattle.wcv_lower.specs.Step.{Step, apply}
 use Rattle.wcv_lower.specs.Trees.{Tree_context, Tree_stack, tree_reader, tree_maker}
 use Rattle.wcv_lower.proofs.Causes.{cause_left, cause_right, free_both}
-use Rattle.wcv_lower.proofs.ModulesMade.{closable}
+use Rattle.wcv_lower.proofs.ModulesMade.{joinable}
 use Rattle.wcv_state.specs.Contents.{Contents, context_of, stack_of, core_entry_of, core_entries_of, with_sub, spent, StateStands}
 use Rattle.wcv_state.specs.Promises.{MemoryOrCausedBy, Keeps, Grew}
 use Rattle.wcv_state.proofs.Calls.{caused_more}
@@ -92,16 +92,16 @@ module _ (a b : Arena) (s s' : Contents) (rec : RecGroup) (h : StateStands a s) 
   grow_if outer b g = option_map (λ (x : Step tree_reader). apply x (stack_of a s outer)) (cond b (Some (closed_step tree_reader a.core g)) None)
 
   group_grows : (outer : List Tree_context) → b.core ≡ grown a.core closed → s' ≡ with_types with_sub s (group_ids a.core closed) → IsFree Checked →
-      grow_if outer (is_closable a.core (core_entries Here) (group_form rec)) (closed_group (core_entries Here) (group_form rec)) ≡ Some (stack_of b s' outer)
+      grow_if outer (may_join a.core (core_entries Here) (group_form rec)) (closed_group (core_entries Here) (group_form rec)) ≡ Some (stack_of b s' outer)
   group_grows outer table group free =
       let es : core_entries Here ≡ core_entries_of s = entries_same a s h in
-      let closes : is_closable a.core (core_entries_of s) (group_form rec) ≡ true = closable s.features a.core (core_entries_of s) (group_form rec) free in
+      let closes : may_join a.core (core_entries_of s) (group_form rec) ≡ true = joinable s.features a.core (core_entries_of s) (group_form rec) free in
       let is : List ℕ = group_ids a.core closed in
       let e : context_of b s ≡ Here = same_context a b ext s h in
       let reached : stack_of b s' outer ≡ apply (closed_step tree_reader a.core closed) (stack_of a s outer) =
       ap (λ (z : Contents). stack_of b z outer) group ∙ joined_types b b.core outer s is ∙
       (λ j. apply (types_join tree_reader is) (record { top = e j; outer = outer; groups = table j })) in
-      (λ j. grow_if outer (is_closable a.core (es j) (group_form rec)) (closed_group (es j) (group_form rec))) ∙ ap (λ (x : Bool). grow_if outer x closed) closes ∙ ap Some (sym reached)
+      (λ j. grow_if outer (may_join a.core (es j) (group_form rec)) (closed_group (es j) (group_form rec))) ∙ ap (λ (x : Bool). grow_if outer x closed) closes ∙ ap Some (sym reached)
 
   pub group_grew : (outer : List Tree_context) (p : Place) → s.spent ≡ false → b.core ≡ grown a.core closed → s' ≡ with_types with_sub s (group_ids a.core closed) → IsFree Checked → IsFree Room → Grew a b outer p s s' (core_type_item (core_rec (group_form rec)))
   group_grew outer p live table group free room = record {

@@ -1,8 +1,12 @@
 -- The type of a module joins the arena and a state.
-use Rattle.std.proofs.Common.{◌≡◌, ℕ, suc, List, [], ◌∷◌, ◌++◌, map, length, sym, ◌∙◌, ap, subst, arith, length-append, All, Option, Some, false, true}
-use Rattle.std.specs.Prelude.{reverse, slice_get}
+use Rattle.std.proofs.Common.{◌≡◌, ℕ, suc, ◌+◌, ◌<◌, ◌^◌, ◌-◌, slice_set, List, [], ◌∷◌, ◌++◌, map, length, sym, ◌∙◌, ap, subst, arith, length-append, All, Option, Some, None, false, true}
+use Rattle.std.specs.Prelude.{reverse, slice_get, is_some}
+use Rattle.std.proofs.lemmas.Bool.{false≢true}
+use Rattle.std.proofs.lemmas.List.{length-map}
 use Rattle.std.specs.Option.{option_map}
+use Rattle.wcv_core.specs.CoreForm.{Group}
 use Rattle.wcv_core.specs.Names.{Place, number}
+use Rattle.wcv_core.specs.declared.core_types.CoreTypeId.{CoreTypeId}
 use Rattle.wcv_core.specs.Refusal.{error_kind}
 use Rattle.wcv_core.specs.declared.error.Error.{Error}
 use Rattle.wcv_core.specs.declared.features.WasmFeatures.{WasmFeatures}
@@ -22,7 +26,7 @@ use Rattle.wcv_types.specs.declared.ids.Part.TheVariants as p
 use Rattle.wcv_types.proofs.EntryParts.{module_node}
 use Rattle.wcv_types.proofs.Grown.{extends_push, is_last, length-trees}
 use Rattle.wcv_lower.specs.Checks.{Checks, IsFree, no_type_room}
-use Rattle.wcv_lower.specs.Context.{Core_space, core_types, core_modules, push_core, counts}
+use Rattle.wcv_lower.specs.Context.{in_types, Core_space, core_types, core_modules, push_core, counts}
 use Rattle.wcv_lower.specs.CoreItems.{outer_entries, module_made, module_joins}
 use Rattle.wcv_lower.specs.Given.{named, names_of, none_given}
 use Rattle.wcv_lower.specs.Growth.{call_checks}
@@ -30,19 +34,22 @@ use Rattle.wcv_lower.specs.Names.{Names, introduced}
 use Rattle.wcv_lower.specs.Readers.{Maker}
 use Rattle.wcv_lower.specs.Step.{Step, apply}
 use Rattle.wcv_lower.specs.Trees.{Type_tree, Tree_context, Tree_stack, tree_reader, tree_maker, module_tree}
-use Rattle.wcv_lower.proofs.Causes.{cause_left, cause_right, free_both, free_left}
+use Rattle.wcv_lower.proofs.Causes.{cause_left, cause_right, free_both, free_left, free_right}
 use Rattle.wcv_lower.proofs.ModulesMade.{made_same}
 use Rattle.wcv_state.specs.Contents as state
-use Rattle.wcv_state.specs.Contents.{Contents, Core_id, context_of, stack_of, core_slot, core_entries_of, CoreStands, StateStands}
+use Rattle.wcv_state.specs.Contents.{Contents, Core_id, context_of, stack_of, core_slot, core_tree, id_tree, core_entries_of, CoreStands, StateStands}
 use Rattle.wcv_state.specs.Promises.{MemoryOrCausedBy, Keeps, Grew, Refuses}
 use Rattle.wcv_state.proofs.Calls.{caused_more}
+use Rattle.wcv_state.proofs.CoreRoom.{counts_more}
 use Rattle.wcv_state.proofs.Keeping.{state_stands, same_context, keeps_grown, keeps_trans, keeps_with_core, with_core_context}
-use Rattle.wcv_state.proofs.Stacks.{none_made}
-use Rattle.wcv_decls.specs.CoreItems.{StoredModule, JoinedCore, JoinedModule, core_space, with_module, MadeIn, FreeIn, CausedIn}
+use Rattle.wcv_state.specs.Stack.{innermost, around}
+use Rattle.wcv_state.proofs.Stacks.{none_made, innermost_at, parted}
+use Rattle.wcv_decls.specs.CoreItems.{StoredModule, JoinedCore, JoinedModule, JoinsWith, JoinsMade, JoinsCoreType, core_space, with_module, MadeIn, FreeIn, CausedIn}
 use Rattle.wcv_decls.specs.Stack.{IsOpen, contexts_around, stack_on}
 use Rattle.wcv_decls.specs.declared.core_module.ModuleSpace.{ModuleSpace}
 use Rattle.wcv_decls.specs.declared.core_module.ModuleSpace.TheVariants as space
 use Rattle.wcv_decls.proofs.CoreEntries.{spaces_same}
+use Rattle.wcv_decls.proofs.InnermostStates.{set_last}
 use Rattle.wcv_decls.proofs.Naming.{node_names, node_given, node_name}
 
 -- ## The node
@@ -83,6 +90,23 @@ pub module_joined : (j : ModuleSpace) (a b : Arena) (s s' : Contents) (m : Modul
     StoredModule a b m i → s' ≡ with_module j i s → JoinedModule (core_space j) a b s s' m
 module_joined space.CoreTypes a b s s' m i h live w es = joined_as core_types (core_type.Module i) a b s s' (module_tree (number (length a.nodes)) m) h live w.arena w.nodes w.core w.tree w.stands es
 module_joined space.CoreModules a b s s' m i h live w es = joined_as core_modules i a b s s' (module_tree (number (length a.nodes)) m) h live w.arena w.nodes w.core w.tree w.stands es
+
+-- with the core types that it was given
+pub module_joins_with : (j : ModuleSpace) (a b : Arena) (s s' : Contents) (m : Module_type) (i : ComponentCoreModuleTypeId) → StoredModule a b m i → s' ≡ with_module j i s → JoinsWith (core_space j) b s s' m.types
+module_joins_with space.CoreTypes a b s s' m i w es = record { id = core_type.Module i; joined = ap (λ (z : Contents). z.spaces.core_types) es; types = w.types }
+module_joins_with space.CoreModules a b s s' m i w es = record { id = i; joined = ap (λ (z : Contents). z.spaces.core_modules) es; types = w.types }
+
+-- of modules that are made there is one
+abbrev types_of : Option Made → List CoreTypeId
+types_of None = []
+types_of (Some m) = m.1.types
+
+pub joins_made : (k : Core_space) (b : Arena) (s s' : Contents) (gs : List Group) (m : Module_type) (o : Option Made) → o ≡ Some (gs, m) → JoinsWith k b s s' m.types → JoinsMade k b s s' o
+joins_made k b s s' gs m o e w n f = let same : m.types ≡ n.1.types = ap types_of (sym e ∙ f) in subst (JoinsWith k b s s') same w
+
+-- a core type item that is no module type makes none
+pub joins_none : (k : Core_space) (b : Arena) (s s' : Contents) → JoinsMade k b s s' None
+joins_none k b s s' m e = absurd (false≢true (ap is_some e))
 
 -- ## After the declarations that made it
 
@@ -139,6 +163,32 @@ module_type_grew a b c s s' m h rest ext w ds ss outer e made free q =
       free = free outer s e named_so q;
       live = w.live;
     }
+
+-- so with the core types of a module type
+pub type_joins_made : (a b c : Arena) (ss : List Contents) (k : ℕ) (s s' : Contents) (m : Module_type) (ds : List Module_decl) → 0 < length ss → k ≡ length ss - 1 → s ≡ innermost ss → MadeIn a b ss ds m →
+    FreeIn a ss (core_type_item (core_module_type ds)) → JoinsWith core_types c s s' m.types → JoinsCoreType a c ss (slice_set ss k s') (core_module_type ds)
+type_joins_made a b c ss k s s' m ds some last here made free w =
+    let t : Contents = innermost ss in
+    let outer : List Contents = around ss in
+    let stack : Tree_stack = stack_on a outer t in
+    let parts : ss ≡ outer ++ t ∷ [] = parted ss some in
+    let checked : IsFree (module_checks (outer_entries stack) a.core (empty_module t.features) ds) =
+    free_left (module_checks (outer_entries stack) a.core (empty_module t.features) ds) (no_type_room true (counts (context_of a t))) (free outer t parts (names_of none_given) []) in
+    let now : innermost (slice_set ss k s') ≡ s' = ap innermost (set_last ss k s' some last) ∙ innermost_at outer s' in
+    joins_made core_types c t (innermost (slice_set ss k s')) b.core m (module_made (outer_entries stack) a.core (empty_module t.features) ds)
+    (made_same (outer_entries stack) a.core (empty_module t.features) ds checked ∙ made outer t parts)
+    (subst (λ (y : Contents × Contents). JoinsWith core_types c y.0 y.1 m.types) (λ j. (here j, sym now j)) w)
+
+-- and 32 bits count it
+pub module_type_counted : (a : Arena) (ss : List Contents) (s : Contents) (ds : List Module_decl) → 0 < length ss → s ≡ innermost ss → FreeIn a ss (core_type_item (core_module_type ds)) → length s.spaces.core_types + 1 < 2 ^ 32
+module_type_counted a ss s ds some here free =
+    let t : Contents = innermost ss in
+    let outer : List Contents = around ss in
+    let checks : Checks = module_checks (outer_entries (stack_on a outer t)) a.core (empty_module t.features) ds in
+    let room : IsFree (no_type_room true (counts (context_of a t))) = free_right checks (no_type_room true (counts (context_of a t))) (free outer t (parted ss some) (names_of none_given) []) in
+    let many : length (map (core_tree (trees a.nodes) core_types) t.spaces.core_types) ≡ length t.spaces.core_types = length-map t.spaces.core_types (core_tree (trees a.nodes) core_types) in
+    let counted = counts_more (length (map (core_tree (trees a.nodes) core_types) t.spaces.core_types)) (length (map (id_tree (trees a.nodes) in_types) t.spaces.types)) room in
+    subst (λ (z : Contents). length z.spaces.core_types + 1 < 2 ^ 32) (sym here) (subst (λ (n : ℕ). n + 1 < 2 ^ 32) many counted)
 
 -- a core module that was refused before it was made
 pub core_module_refused : {M : Type 0} (a b : Arena) (s s' : Contents) (ds : List Module_decl) (offset : ℕ) (e : Error M) → s'.spent ≡ true → MemoryOrCausedBy (module_checks [] a.core (empty_module s.features) ds) offset e →

@@ -1,5 +1,5 @@
 -- A resource that is defined: the state after it, and what is kept.
-use Rattle.std.proofs.Common.{◌≡◌, ◌+◌, List, [], ◌∷◌, refl, sym, ◌∙◌, ap, subst, arith, append-nil, Bool, true, false, cond, Some, None}
+use Rattle.std.proofs.Common.{◌≡◌, ◌+◌, List, [], ◌∷◌, refl, sym, ◌∙◌, ap, subst, arith, append-nil, Bool, true, false, cond, ◌&&◌, Some, None}
 use Rattle.std.specs.Prelude.{Option}
 use Rattle.std.specs.Option.{option_map}
 use Rattle.std.proofs.lemmas.Bool.{false≢true}
@@ -25,7 +25,7 @@ use Rattle.wcv_lower.specs.Given.{names_of}
 use Rattle.wcv_lower.specs.Readers.{Maker}
 use Rattle.wcv_lower.specs.Step.{Step, apply, joins_types, defines}
 use Rattle.wcv_lower.specs.Trees.{type_entry, Tree_context, tree_reader, tree_maker}
-use Rattle.wcv_lower.specs.Types.{rep_checks}
+use Rattle.wcv_lower.specs.Types.{dtor_stands, rep_checks}
 use Rattle.wcv_state.specs.Contents.{Contents, kind_of, context_of, stack_of, defined_resource, with_defined, with_id, spent, names, sides, is_number, StateStands}
 use Rattle.wcv_state.specs.Looking.{has_resource}
 use Rattle.wcv_state.specs.Promises.{Keeps}
@@ -127,12 +127,12 @@ module _ (a b : Arena) (s : Contents) (id : AliasableResourceId) (h : StateStand
       (λ j. push in_types (type_entry (reference_same a p j)) (define (resource_name a p j) (Some rep) (context_of a s))) ∙ sym (resource_context rep) in
       λ j. record { top = e j; outer = outer; groups = sym (ap (λ (x : Arena). x.core) eb) j }
 
-  pub resource_declares : (rep : ValType) (dtor : Option _) (s' : Contents) → is_concrete (kind_of s.kind) ≡ true → s.spent ≡ false → is_number (Some rep) ≡ true → s' ≡ with_resource rep → Declares a b s s' (resource_type rep dtor)
-  resource_declares rep dtor s' concrete live n es = subst (λ (z : Contents). Declares a b s z (resource_type rep dtor)) (sym es) (record {
+  pub resource_declares : (rep : ValType) (dtor : Option _) (s' : Contents) → is_concrete (kind_of s.kind) ≡ true → dtor_stands (context_of a s) dtor ≡ true → s.spent ≡ false → is_number (Some rep) ≡ true → s' ≡ with_resource rep → Declares a b s s' (resource_type rep dtor)
+  resource_declares rep dtor s' concrete there live n es = subst (λ (z : Contents). Declares a b s z (resource_type rep dtor)) (sym es) (record {
     given_names = resource_names a;
     given = λ p. resource_given a b p more stamps;
     grown = λ outer p.
-        ap (λ (x : Bool). option_map (λ (y : Step tree_reader). apply y (stack_of a s outer)) (cond x (Some (defines (maker_at p).resource (Some rep) ∷ joins_types (maker_at p).reference)) None)) concrete ∙
+        ap (λ (x : Bool). option_map (λ (y : Step tree_reader). apply y (stack_of a s outer)) (cond x (Some (defines (maker_at p).resource (Some rep) ∷ joins_types (maker_at p).reference)) None)) (λ j. concrete j && there j) ∙
         ap Some (resource_grows rep outer p);
     live = live;
     keeps = pushed_keeps (Some rep) n;

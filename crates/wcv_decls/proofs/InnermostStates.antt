@@ -6,10 +6,10 @@ use Rattle.wcv_types.specs.Arena.{Arena}
 use Rattle.wcv_types.specs.Standing.{Extends}
 use Rattle.wcv_lower.specs.Owned.{IsCalm}
 use Rattle.wcv_lower.specs.Trees.{Tree_context, Tree_stack}
-use Rattle.wcv_state.specs.Contents.{Contents, context_of, stack_of}
+use Rattle.wcv_state.specs.Contents.{Contents, spent, context_of, stack_of}
 use Rattle.wcv_state.specs.Promises.{numbers_of, Keeps}
 pub use Rattle.wcv_state.proofs.Stacks.{innermost_at, around_at, parted, some_at, indexed}
-use Rattle.wcv_state.proofs.Stacks.{open_split, around_kept, around_same}
+use Rattle.wcv_state.proofs.Stacks.{open_split, around_kept, around_same, marked}
 use Rattle.wcv_decls.specs.Declaring.{innermost, around, features_in, stack_in, IsInstanceBody, DeclaresInstance, StayReady, SameAround}
 use Rattle.wcv_decls.specs.Stack.{IsOpen, stay, all_spent, all_uncharged, ChangesLast, KeepsOn, AreCalm, contexts_around, stack_on}
 use Rattle.wcv_state.proofs.Keeping.{state_stands}
@@ -116,3 +116,10 @@ body_stays a b ss ss' w h g f d =
 
 pub marks_same : (ss ss' : List Contents) → ChangesLast stay ss ss' → SameAround ss ss'
 marks_same ss ss' w = ap (λ (xs : List Contents). all_spent (all_uncharged xs)) (around_stays ss ss' w)
+
+-- where it was spent, all are alike once they are marked
+pub spent_alike : (ss : List Contents) (k : ℕ) (s s' : Contents) → 0 < length ss → k ≡ length ss - 1 → s ≡ innermost ss → s' ≡ spent s → all_spent (slice_set ss k s') ≡ all_spent ss
+spent_alike ss k s s' h e i w =
+    let was : ss ≡ around ss ++ s ∷ [] = parted ss h ∙ ap (λ (x : Contents). around ss ++ x ∷ []) (sym i) in
+    let now : slice_set ss k s' ≡ around ss ++ spent s ∷ [] = set_last ss k s' h e ∙ ap (λ (x : Contents). around ss ++ x ∷ []) w in
+    marked (spent s) (around ss) (slice_set ss k s') now ∙ sym (marked s (around ss) ss was)

@@ -1,5 +1,5 @@
 -- Types that are made in one step, as types that are read.
-use Rattle.std.proofs.Common.{◌≡◌, ℕ, List, [], ◌∷◌, map, refl, sym, ◌∙◌, ap, subst, Bool, true, false, cond, Some, None, All}
+use Rattle.std.proofs.Common.{◌≡◌, ℕ, List, [], ◌∷◌, map, refl, sym, ◌∙◌, ap, subst, Bool, true, false, cond, ◌&&◌, Some, None, All}
 use Rattle.std.specs.Prelude.{Option}
 use Rattle.std.specs.Option.{option_map}
 use Rattle.std.proofs.lemmas.Bool.{false≢true}
@@ -23,7 +23,7 @@ use Rattle.wcv_lower.specs.Owned.{IsGiven, IsCalm, AllOwn}
 use Rattle.wcv_lower.specs.Readers.{New_node, Maker}
 use Rattle.wcv_lower.specs.Step.{Step, apply, defines, joins_types}
 use Rattle.wcv_lower.specs.Trees.{Entries, Tree_context, Tree_stack, tree_reader, tree_maker}
-use Rattle.wcv_lower.specs.Types.{is_plain_type, added, type_made, type_checks}
+use Rattle.wcv_lower.specs.Types.{is_plain_type, added, dtor_stands, type_made, type_checks}
 use Rattle.wcv_lower.proofs.CalmGrowth.{calm_grows}
 use Rattle.wcv_state.specs.Contents.{Contents, defined_resource, context_of, stack_of, StateStands}
 use Rattle.wcv_state.specs.Promises.{numbers_of}
@@ -96,9 +96,9 @@ module _ (fs : WasmFeatures) (mk : Maker tree_reader) (s u : Tree_stack) where
   plain_sides (component_type ds) k e = absurd (cc)
   plain_sides (instance_type ds) k e = absurd (cc)
   plain_sides (resource_type rep dtor) k e =
-      let none : option_map (λ (x : Step tree_reader). apply x s) (cond (is_concrete s.top.kind) (Some (defines mk.resource (Some rep) ∷ joins_types mk.reference)) None) ≡ None =
-      ap (λ (b : Bool). option_map (λ (x : Step tree_reader). apply x s) (cond b (Some (defines mk.resource (Some rep) ∷ joins_types mk.reference)) None)) k in
-      let e' : option_map (λ (x : Step tree_reader). apply x s) (cond (is_concrete s.top.kind) (Some (defines mk.resource (Some rep) ∷ joins_types mk.reference)) None) ≡ Some u = e in
+      let none : option_map (λ (x : Step tree_reader). apply x s) (cond (is_concrete s.top.kind && dtor_stands s.top dtor) (Some (defines mk.resource (Some rep) ∷ joins_types mk.reference)) None) ≡ None =
+      ap (λ (b : Bool). option_map (λ (x : Step tree_reader). apply x s) (cond (b && dtor_stands s.top dtor) (Some (defines mk.resource (Some rep) ∷ joins_types mk.reference)) None)) k in
+      let e' : option_map (λ (x : Step tree_reader). apply x s) (cond (is_concrete s.top.kind && dtor_stands s.top dtor) (Some (defines mk.resource (Some rep) ∷ joins_types mk.reference)) None) ≡ Some u = e in
       absurd (cc)
 
 -- the stack stays calm

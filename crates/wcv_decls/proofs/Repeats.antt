@@ -11,9 +11,10 @@ use Rattle.wcv_core.specs.Refusal.{error_kind}
 use Rattle.wcv_core.specs.declared.error.Error.{Error}
 use Rattle.wcv_core.specs.declared.error.ErrorKind.{ErrorKind}
 use Rattle.wcv_core.proofs.Names.{and_right}
-use Rattle.wcv_core.proofs.Among.{bytes_eq-sym, is_among-push}
+use Rattle.wcv_core.proofs.Among.{bytes_eq-sym}
 use Rattle.wcv_types.specs.Tree.{Text}
 use Rattle.wcv_lower.specs.Checks.{Cause, IsFree, is_among, has_repeat, label_checks, bad_label}
+use Rattle.wcv_lower.proofs.Repeats.{has_repeat-push}
 use Rattle.wcv_state.specs.Inside.{AreKeys}
 use Rattle.wcv_state.specs.Promises.{MemoryOrCausedBy}
 use Rattle.wcv_state.proofs.Calls.{caused_more}
@@ -21,25 +22,9 @@ use Rattle.wcv_decls.proofs.Positions.{take-at, split-at}
 
 -- ## Keys
 
--- (a or b) or (c or d), with the inner ones exchanged
-or_middle : (a b c d : Bool) → ((a || b) || (c || d)) ≡ ((a || c) || (b || d))
-or_middle true b c d = refl
-or_middle false true true d = refl
-or_middle false true false d = refl
-or_middle false false true d = refl
-or_middle false false false d = refl
-
 or_right : (a b : Bool) → b ≡ true → (a || b) ≡ true
 or_right true b h = refl
 or_right false b h = h
-
-pub has_repeat-push : (k : Text) (ks : List Text) → has_repeat (ks ++ k ∷ []) ≡ (has_repeat ks || is_among k ks)
-has_repeat-push k [] = refl
-has_repeat-push k (l ∷ ks) =
-    ap (λ (b : Bool). b || has_repeat (ks ++ k ∷ [])) (is_among-push l k ks) ∙
-    ap (λ (b : Bool). (is_among l ks || bytes_eq l k) || b) (has_repeat-push k ks) ∙
-    or_middle (is_among l ks) (bytes_eq l k) (has_repeat ks) (is_among k ks) ∙
-    ap (λ (b : Bool). (is_among l ks || has_repeat ks) || (b || is_among k ks)) (bytes_eq-sym l k)
 
 -- what stands among the first stands twice, where it stands once more
 pub has_repeat-again : (k : Text) (ks ls : List Text) → is_among k ks ≡ true → has_repeat (ks ++ k ∷ ls) ≡ true

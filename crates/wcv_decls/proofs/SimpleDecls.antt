@@ -27,10 +27,10 @@ use Rattle.wcv_types.specs.declared.ids.ComponentAnyTypeId.TheVariants as any
 use Rattle.wcv_types.specs.declared.ids.Part.TheVariants as part
 use Rattle.wcv_lower.specs.Checks.{Cause}
 use Rattle.wcv_lower.specs.Context.{core_types, in_instances, importing, exporting}
-use Rattle.wcv_lower.specs.CoreItems.{core_entries, is_closable, types_join, closed_step, module_joins, core_type_made}
+use Rattle.wcv_lower.specs.CoreItems.{core_entries, may_join, types_join, closed_step, module_joins, core_type_made}
 use Rattle.wcv_lower.specs.Declared.{applied, declared_export_step, declared_export_checks, decl_checks}
 use Rattle.wcv_lower.specs.DeclaredCalls.{DeclRead}
-use Rattle.wcv_lower.specs.Entries.{extern_name, written}
+use Rattle.wcv_lower.specs.Entries.{extern_name, written, new_there}
 use Rattle.wcv_lower.specs.Given.{GivenNames, names_of, GivesAt}
 use Rattle.wcv_lower.specs.Growth.{grow, call_checks}
 use Rattle.wcv_lower.specs.Names.{Under}
@@ -146,7 +146,7 @@ module _ (fs : WasmFeatures) (mk : Maker tree_reader) (s u : Tree_stack) where
   module_sides (Some m) e = let i : apply (module_joins mk core_types m) s ≡ u = cc in subst (λ (x : Tree_stack). SameSides s.top x.top) i (record { kind = refl; side = λ k. refl; defined = refl })
 
   pub core_sides : (t : Core_type_form) → grow fs mk s (core_type_item t) ≡ Some u → SameSides s.top u.top
-  core_sides (core_rec w) e = group_sides w (is_closable s.groups (core_entries s.top) w) e
+  core_sides (core_rec w) e = group_sides w (may_join s.groups (core_entries s.top) w) e
   core_sides (core_module_type ds) e = module_sides (core_type_made fs s (core_module_type ds)) e
 
 -- an entity that joins its space changes neither
@@ -165,7 +165,7 @@ joined_sides used is_core_item x s = record { kind = refl; side = λ k. refl; de
 
 -- an export is no import
 pub export_body : (mk : Maker tree_reader) (s u : Tree_stack) (n : ComponentExternName) (r : ComponentTypeRef) → applied s (declared_export_step mk s.top n r) ≡ Some u → IsInstanceBody s.top → IsLed u.top → IsInstanceBody u.top
-export_body mk s u n r e h led = go (written mk s.top r) e
+export_body mk s u n r e h led = go (new_there exporting (extern_name n) s.top (written mk s.top r)) e
   where
     go : (o : Option (Brought tree_reader)) → option_map (λ (x : Step tree_reader). apply x s) (option_map (enters exporting (extern_name n)) o) ≡ Some u → IsInstanceBody u.top
     go None e = absurd (cc)

@@ -7,11 +7,11 @@ ghost use Rattle.wcv_lower.specs.Checks.{IsFree};
 ghost use Rattle.wcv_lower.specs.Context.{concrete, in_components};
 ghost use Rattle.wcv_lower.specs.Ending.{component_end_checks};
 ghost use Rattle.wcv_lower.specs.Marks.{unused_checks};
-ghost use Rattle.wcv_state.specs.Contents.{StateStands};
+ghost use Rattle.wcv_state.specs.Contents.{StateStands, spent};
 ghost use Rattle.wcv_state.specs.Promises.{MemoryOrCausedBy, AddsComponent, Keeps, Finished};
-ghost use Rattle.wcv_decls.specs.Declaring.{innermost, around, stack_in, top_in, component_room, AreReady, SameAround, Opened, TypeKept, Ends};
+ghost use Rattle.wcv_decls.specs.Declaring.{innermost, around, stack_in, top_in, component_room, AreReady, Opened, TypeKept, Ends};
 ghost use Rattle.wcv_decls.specs.Items.{Stored};
-ghost use Rattle.wcv_decls.specs.Stack.{KeepsOn};
+ghost use Rattle.wcv_decls.specs.Stack.{KeepsOn, all_spent};
 
 use crate::close::{leave, look_at, pop_type};
 use crate::core_type::innermost;
@@ -21,7 +21,7 @@ use crate::room::check_components;
 use crate::used::check_used;
 use wcv_core::limits::MAX_LIST;
 use wcv_core::{Error, OutOfMemory, Refusal};
-use wcv_state::{ComponentKind, ComponentState};
+use wcv_state::{ComponentKind, ComponentState, mark_all_spent};
 use wcv_types::{ComponentType, ComponentTypeId, TypeAlloc};
 
 /// Whether a component of that many items may be read: there is room for one more that is open, and for its own type
@@ -71,6 +71,7 @@ fn join_component(
     requires fits { Fits types.old (node.Component ty) }
     ensures ok { OnOk result (Stored in_components types.old types.new state.old state.new (node.Component ty)) }
     ensures added { IfOk result (AddsComponent types.old types.new ty) }
+    ensures err { OnErr result (state.new ≡ spent state.old) }
     ensures keeps { OnErr result (Keeps types.old types.new state.old state.new) }
 {
     let id = state.add_component(ty, types)?;
@@ -98,7 +99,29 @@ fn pop_component(
     }
 }
 
-/// Ends a component, and says where its type stands in the arena.
+/// The innermost state leaves, and its type joins the components of the state around it. Says where the type stands.
+fn end_innermost(
+    components: &mut Vec<ComponentState>,
+    types: &mut TypeAlloc,
+    offset: u64,
+) -> Result<ComponentTypeId, Error>
+    requires ready { AreReady types.old components.old.items }
+    requires inside { 0 < length (around components.old.items) }
+    ensures ok { OnOk result (Ends concrete types.old types.new components.old.items components.new.items) }
+    ensures kept { IfOk result (TypeKept types.old types.new (innermost components.old.items)) }
+    ensures err { IfErr result (MemoryOrCausedBy (component_end_checks (top_in types.old components.old.items)) offset) }
+    ensures left { OnErr result (all_spent components.new.items ≡ all_spent (around components.old.items)) }
+    ensures keeps { KeepsOn types.old types.new (around components.old.items) components.new.items }
+{
+    let ty = pop_component(components, types, offset)?;
+    look_at(&ty.info);
+    let last = components.len() - 1;
+    let id = join_component(ty, &mut components[last], types)?;
+    Ok(id)
+}
+
+/// Ends a component, and says where its type stands in the arena. After an error, out of memory too, its state has
+/// left, and those around it stay as they were, but spent.
 pub fn end_component(
     components: &mut Vec<ComponentState>,
     types: &mut TypeAlloc,
@@ -109,12 +132,14 @@ pub fn end_component(
     ensures ok { OnOk result (Ends concrete types.old types.new components.old.items components.new.items) }
     ensures kept { IfOk result (TypeKept types.old types.new (innermost components.old.items)) }
     ensures err { IfErr result (MemoryOrCausedBy (component_end_checks (top_in types.old components.old.items)) offset) }
-    ensures around { OnErr result (SameAround (around components.old.items) components.new.items) }
+    ensures left { OnErr result (components.new.items ≡ all_spent (around components.old.items)) }
     ensures keeps { KeepsOn types.old types.new (around components.old.items) components.new.items }
 {
-    let ty = pop_component(components, types, offset)?;
-    look_at(&ty.info);
-    let last = components.len() - 1;
-    let id = join_component(ty, &mut components[last], types)?;
-    Ok(id)
+    match end_innermost(components, types, offset) {
+        Ok(id) => Ok(id),
+        Err(error) => {
+            mark_all_spent(components.as_mut_slice());
+            Err(error)
+        }
+    }
 }

@@ -1,5 +1,5 @@
 // Core modules, and the types of modules that join a state.
-ghost use Rattle.std.specs.Prelude.{◌≡◌, suc, true, false, List, [], All, map, Some, IfOk, OnOk, OnErr, IfErr};
+ghost use Rattle.std.specs.Prelude.{◌≡◌, ◌+◌, ◌<◌, ◌^◌, length, suc, true, false, List, [], All, map, Some, IfOk, OnOk, OnErr, IfErr};
 ghost use Rattle.wcv_core.specs.CoreGroups.{total};
 ghost use Rattle.wcv_core.specs.CoreSizes.{IsEntityWithin};
 ghost use Rattle.wcv_core.specs.Names.{Place};
@@ -11,10 +11,12 @@ ghost use Rattle.wcv_syntax.specs.View.{code_decl_view};
 ghost use Rattle.wcv_types.specs.CoreCalls.{with_core};
 ghost use Rattle.wcv_types.specs.Standing.{Extends, entity_sizes};
 ghost use Rattle.wcv_lower.specs.Checks.{IsFree};
+ghost use Rattle.wcv_lower.specs.Context.{core_modules};
+ghost use Rattle.wcv_lower.specs.CoreItems.{core_module_made};
 ghost use Rattle.wcv_lower.specs.Trees.{Tree_context};
-ghost use Rattle.wcv_state.specs.Contents.{StateStands, spent};
+ghost use Rattle.wcv_state.specs.Contents.{stack_of, StateStands, spent};
 ghost use Rattle.wcv_state.specs.Promises.{MemoryOrCausedBy, Keeps, Grew, Refuses};
-ghost use Rattle.wcv_decls.specs.CoreItems.{StoredModule, JoinedModule, core_space, with_module};
+ghost use Rattle.wcv_decls.specs.CoreItems.{StoredModule, JoinedModule, JoinsWith, JoinsMade, core_space, with_module};
 
 use wcv_core::{Error, ErrorKind, OutOfMemory};
 use wcv_module::{Module, NoOuter};
@@ -51,6 +53,7 @@ fn push_module(
     state: &mut ComponentState,
 ) -> Result<(), OutOfMemory>
     requires live { state.old.spent ≡ false }
+    requires room { space ≡ ModuleSpace.CoreTypes → length state.old.spaces.core_types + 1 < 2 ^ 32 }
     ensures ok { OnOk result (state.new ≡ with_module space id state.old) }
     ensures err { OnErr result (state.new ≡ spent state.old) }
 {
@@ -60,7 +63,8 @@ fn push_module(
     }
 }
 
-/// The type of a module joins the arena and a space of the state. After an error the state is spent.
+/// The type of a module joins the arena and a space of the state, with the core types that it was given. After an
+/// error the state is spent.
 pub fn join_module(
     made: Module,
     space: ModuleSpace,
@@ -71,7 +75,9 @@ pub fn join_module(
     requires stands { StateStands types.old state.old }
     requires within { All (IsEntityWithin (total types.old.core)) (module_items made) }
     requires size { made.size ≡ suc (entity_sizes types.old.core (module_items made)) }
+    requires room { space ≡ ModuleSpace.CoreTypes → length state.old.spaces.core_types + 1 < 2 ^ 32 }
     ensures ok { OnOk result (JoinedModule (core_space space) types.old types.new state.old state.new made) }
+    ensures types { OnOk result (JoinsWith (core_space space) types.new state.old state.new made.types) }
     ensures spent { OnErr result (state.new.spent ≡ true) }
     ensures err { IfErr result (λ e. error_kind e ≡ ErrorKind.OutOfMemory) }
     ensures keeps { Keeps types.old types.new state.old state.new }
@@ -108,7 +114,7 @@ fn declare_module(
     Module::declare(alloc, features, decls, &NoOuter, types, offset)
 }
 
-/// A core module joins its space. After an error the state is spent.
+/// A core module joins its space, with the core types that its declarations gave. After an error the state is spent.
 pub fn add_core_module_to(
     decls: Vec<ModuleDecl>,
     state: &mut ComponentState,
@@ -118,6 +124,7 @@ pub fn add_core_module_to(
     requires live { state.old.spent ≡ false }
     requires stands { StateStands types.old state.old }
     ensures ok { OnOk result ((outer : List Tree_context) (p : Place) → Grew types.old types.new outer p state.old state.new (core_module_item (map code_decl_view decls.items))) }
+    ensures types { OnOk result ((outer : List Tree_context) → JoinsMade core_modules types.new state.old state.new (core_module_made state.old.features (stack_of types.old state.old outer) (map code_decl_view decls.items))) }
     ensures err { IfErr result (λ e. (outer : List Tree_context) (p : Place) → Refuses types.old types.new outer p state.old state.new (core_module_item (map code_decl_view decls.items)) offset e) }
     ensures keeps { Keeps types.old types.new state.old state.new }
 {

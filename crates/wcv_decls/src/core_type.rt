@@ -14,7 +14,7 @@ ghost use Rattle.wcv_lower.specs.Names.{Names};
 ghost use Rattle.wcv_lower.specs.Trees.{Tree_context, tree_maker};
 ghost use Rattle.wcv_state.specs.Contents.{Contents, stack_of, StateStands};
 ghost use Rattle.wcv_state.specs.Promises.{MemoryOrCausedBy, Keeps, Grew};
-ghost use Rattle.wcv_decls.specs.CoreItems.{MadeIn, FreeIn, CausedIn};
+ghost use Rattle.wcv_decls.specs.CoreItems.{JoinsCoreType, MadeIn, FreeIn, CausedIn};
 ghost use Rattle.wcv_decls.specs.Stack.{IsOpen, GrewOn, RefusedOn, KeepsOn};
 
 use crate::core_module::{ModuleSpace, join_module};
@@ -91,6 +91,7 @@ fn add_group_on(
     requires some { 0 < length components.old }
     requires open { All (IsOpen types.old) components.old }
     ensures ok { OnOk result ((p : Place) → GrewOn types.old types.new p components.old components.new (core_type_item (core_rec (group_form rec)))) }
+    ensures types { OnOk result (JoinsCoreType types.old types.new components.old components.new (core_rec (group_form rec))) }
     ensures err { IfErr result (λ e. (p : Place) → RefusedOn types.old types.new p components.old components.new (core_type_item (core_rec (group_form rec))) offset e) }
     ensures keeps { KeepsOn types.old types.new components.old components.new }
 {
@@ -104,7 +105,8 @@ fn add_group_on(
     }
 }
 
-/// A module type joins the core types of the innermost state. After an error the states are spent.
+/// A module type joins the core types of the innermost state, with those that its declarations gave. After an error
+/// the states are spent.
 fn add_module_type_on(
     decls: Vec<ModuleTypeDeclaration>,
     components: &mut [ComponentState],
@@ -114,6 +116,7 @@ fn add_module_type_on(
     requires some { 0 < length components.old }
     requires open { All (IsOpen types.old) components.old }
     ensures ok { OnOk result ((p : Place) → GrewOn types.old types.new p components.old components.new (core_type_item (core_module_type (map module_decl_view decls.items)))) }
+    ensures types { OnOk result (JoinsCoreType types.old types.new components.old components.new (core_module_type (map module_decl_view decls.items))) }
     ensures err { IfErr result (λ e. (p : Place) → RefusedOn types.old types.new p components.old components.new (core_type_item (core_module_type (map module_decl_view decls.items))) offset e) }
     ensures keeps { KeepsOn types.old types.new components.old components.new }
 {
@@ -143,6 +146,7 @@ pub fn add_core_type_on(
     requires some { 0 < length components.old }
     requires open { All (IsOpen types.old) components.old }
     ensures ok { OnOk result ((p : Place) → GrewOn types.old types.new p components.old components.new (core_type_item (core_type_view ty))) }
+    ensures types { OnOk result (JoinsCoreType types.old types.new components.old components.new (core_type_view ty)) }
     ensures err { IfErr result (λ e. (p : Place) → RefusedOn types.old types.new p components.old components.new (core_type_item (core_type_view ty)) offset e) }
     ensures keeps { KeepsOn types.old types.new components.old components.new }
 {

@@ -11,7 +11,7 @@ ghost use Rattle.wcv_types.specs.Standing.{entity_sizes};
 ghost use Rattle.wcv_lower.specs.Checks.{IsFree};
 ghost use Rattle.wcv_lower.specs.Context.{core_modules};
 ghost use Rattle.wcv_state.specs.Promises.{MemoryOrCausedBy, Keeps};
-ghost use Rattle.wcv_decls.specs.CoreItems.{JoinedModule};
+ghost use Rattle.wcv_decls.specs.CoreItems.{JoinedModule, JoinsWith, JoinsCoreType};
 ghost use Rattle.wcv_decls.specs.Stack.{IsOpen, AreCalm, DeclaresOn, RefusesOn, GrewOn, RefusedOn, KeepsOn};
 
 use crate::core_module::{ModuleSpace, join_module};
@@ -47,7 +47,8 @@ pub trait Declare: Sized {
         ensures err { IfErr result (λ e. (p : Place) → RefusesOn check_limit types.old types.new p (map contents components.old.items) (map contents components.new.items) (type_view ty) offset e) }
         ensures keeps { KeepsOn types.old types.new (map contents components.old.items) (map contents components.new.items) };
 
-    /// A core type item joins the core types of the innermost state. After an error the states are spent.
+    /// A core type item joins the core types of the innermost state, a module type with those that its declarations
+    /// gave. After an error the states are spent.
     fn add_core_type(
         components: &mut [Self],
         ty: CoreType,
@@ -57,11 +58,12 @@ pub trait Declare: Sized {
         requires some { 0 < length components.old }
         requires open { All (IsOpen types.old) (map contents components.old) }
         ensures ok { OnOk result ((p : Place) → GrewOn types.old types.new p (map contents components.old) (map contents components.new) (core_type_item (core_type_view ty))) }
+        ensures types { OnOk result (JoinsCoreType types.old types.new (map contents components.old) (map contents components.new) (core_type_view ty)) }
         ensures err { IfErr result (λ e. (p : Place) → RefusedOn types.old types.new p (map contents components.old) (map contents components.new) (core_type_item (core_type_view ty)) offset e) }
         ensures keeps { KeepsOn types.old types.new (map contents components.old) (map contents components.new) };
 
-    /// One more core module, of the type of that module, in which no pair of names is imported twice. After an
-    /// error the state is spent.
+    /// One more core module, of the type of that module, in which no pair of names is imported twice. It keeps the
+    /// core types that the module was given. After an error the state is spent.
     fn add_core_module(
         &mut self,
         made: Module,
@@ -72,6 +74,7 @@ pub trait Declare: Sized {
         requires within { All (IsEntityWithin (total types.old.core)) (module_items made) }
         requires size { made.size ≡ suc (entity_sizes types.old.core (module_items made)) }
         ensures ok { OnOk result (JoinedModule core_modules types.old types.new (contents self.old) (contents self.new) made) }
+        ensures types { OnOk result (JoinsWith core_modules types.new (contents self.old) (contents self.new) made.types) }
         ensures free { OnOk result (IsFree (whole_checks made)) }
         ensures spent { OnErr result ((contents self.new).spent ≡ true) }
         ensures err { IfErr result (MemoryOrCausedBy (whole_checks made) offset) }

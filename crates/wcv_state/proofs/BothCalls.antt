@@ -16,7 +16,7 @@ use Rattle.wcv_types.specs.Unfold.{Type_tree, trees}
 use Rattle.wcv_types.specs.declared.shapes.ComponentEntityType.{ComponentEntityType}
 use Rattle.wcv_lower.specs.Checks.{Checks, IsFree, if_found, full_side}
 use Rattle.wcv_lower.specs.Context.{exporting, counts}
-use Rattle.wcv_lower.specs.Entries.{extern_name, written, written_checks, exported_values, exported, exported_checks, entity_checks, join_checks}
+use Rattle.wcv_lower.specs.Entries.{extern_name, new_there, written, written_checks, exported_values, exported, exported_checks, entity_checks, join_checks}
 use Rattle.wcv_lower.specs.Entries as entries
 use Rattle.wcv_lower.specs.Given.{GivenNames, names_of, none_given, both_given, Numbers, IsNewResource, IsNewIdentity, GivesAt}
 use Rattle.wcv_lower.specs.Names.{Under}
@@ -24,6 +24,8 @@ use Rattle.wcv_lower.specs.Marks.{uses_each, using, use_all}
 use Rattle.wcv_lower.specs.Readers.{Maker, Brought}
 use Rattle.wcv_lower.specs.Step.{Step, brought_at, apply, enters}
 use Rattle.wcv_lower.specs.Trees.{Tree_context, tree_reader, tree_maker}
+use Rattle.wcv_lower.proofs.EntryLaws.{new_found}
+use Rattle.wcv_lower.proofs.NewNames.{trees_tell}
 use Rattle.wcv_lower.proofs.Causes.{cause_left, cause_right, cause_either, free_both, free_left, free_right}
 use Rattle.wcv_lower.proofs.Given.{given_weaker}
 use Rattle.wcv_lower.proofs.MarkLaws.{uses-applied, apply-append}
@@ -126,10 +128,12 @@ export_by_both a b c outer p s t s' e x h g k w same v =
     let joined : IsFree (room ++ of_entity) = subst IsFree here v.free in
     let all : IsFree (room ++ (of_item ++ of_entity)) = free_both room (of_item ++ of_entity) (free_left room of_entity joined) (free_both of_item of_entity (w.free v.names) (free_right room of_entity joined)) in
     let found : exported (tree_maker (names_of all_names) p) y e ≡ Some brought = w.brings v.names ∙ ap Some (brought_both a b c p x g k w.names w.given w.instance w.stands v.names v.given v.bare) in
+    let new : new_there exporting (extern_name e.name) y (exported (tree_maker (names_of all_names) p) y e) ≡ Some brought =
+    new_found tree_reader trees_tell s.features exporting (extern_name e.name) y (exported (tree_maker (names_of all_names) p) y e) brought found (free_right room of_entity joined) in
     record {
       names = all_names;
       given = both_given_at a b c p x g k w.names w.given w.instance w.stands v.names v.given v.bare;
-      grown = ap (λ o. option_map (λ q. apply q (stack_of a s outer)) (using ks (option_map (enters exporting (extern_name e.name)) o))) found ∙
+      grown = ap (λ o. option_map (λ q. apply q (stack_of a s outer)) (using ks (option_map (enters exporting (extern_name e.name)) o))) new ∙
           ap Some (apply-append (uses_each ks) enter (stack_of a s outer) ∙ ap (apply enter) (sym (stack_same a b outer s t h g w.core ks same)) ∙ sym v.entered);
       free = subst (λ (o : Option (Brought tree_reader)). IsFree (entries.entry_checks s.features exporting (extern_name e.name) y of_item o)) (sym found) all;
       live = v.live;
@@ -151,10 +155,12 @@ written_by_both a b c outer p s s' r n x h g k w v =
     let joined : IsFree (room ++ of_entity) = subst (λ (y : Tree_context). IsFree (join_checks true s.features exporting (extern_name n) y brought.entity)) (same_context a b g s h) v.free in
     let all : IsFree (room ++ (written_checks s.features t r ++ of_entity)) = free_both room (written_checks s.features t r ++ of_entity) (free_left room of_entity joined) (free_both (written_checks s.features t r) of_entity w.free (free_right room of_entity joined)) in
     let found = written_both a b c p s r x g k w v.names v.given v.bare in
+    let mk : Maker tree_reader = tree_maker (names_of (both_given w.names v.names)) p in
+    let new : new_there exporting (extern_name n) t (written mk t r) ≡ Some brought = new_found tree_reader trees_tell s.features exporting (extern_name n) t (written mk t r) brought found (free_right room of_entity joined) in
     record {
       names = both_given w.names v.names;
       given = both_given_at a b c p x g k w.names w.given w.instance w.stands v.names v.given v.bare;
-      read = ap (λ o. option_map (λ q. apply q (stack_of a s outer)) (option_map (enters exporting (extern_name n)) o)) found ∙
+      read = ap (λ o. option_map (λ q. apply q (stack_of a s outer)) (option_map (enters exporting (extern_name n)) o)) new ∙
           (λ j. Some (apply (enters exporting (extern_name n) brought) (sym (stack_stays a b outer s h g w.core) j))) ∙ ap Some (sym v.entered);
       free = subst (λ (o : Option (Brought tree_reader)). IsFree (entries.entry_checks s.features exporting (extern_name n) t (written_checks s.features t r) o)) (sym found) all;
     }

@@ -1,5 +1,5 @@
 // The space of core types.
-ghost use Rattle.std.specs.Prelude.{◌≡◌, [], ◌∷◌, ◌++◌, length, OnOk, OnErr};
+ghost use Rattle.std.specs.Prelude.{◌≡◌, ◌+◌, ◌<◌, ◌^◌, [], ◌∷◌, ◌++◌, length, OnOk, OnErr};
 
 use std::alloc::Global;
 use std::marker::Model;
@@ -38,16 +38,14 @@ impl CoreTypeList {
         }
     }
 
-    /// One more type, behind all others. There is no memory for one that an index cannot count.
+    /// One more type, behind all others, where 32 bits count it.
     pub fn push(&mut self, ty: ComponentCoreTypeId) -> Result<(), OutOfMemory>
+        requires room { length self.old + 1 < 2 ^ 32 }
         ensures ok { OnOk result (self.new ≡ self.old ++ ty ∷ []) }
         ensures err { OnErr result (self.new ≡ self.old) }
     {
-        let Some(count) = self.count.checked_add(1) else {
-            return Err(OutOfMemory);
-        };
         self.ids.push(ty)?;
-        self.count = count;
+        self.count += 1;
         Ok(())
     }
 

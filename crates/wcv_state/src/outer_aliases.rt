@@ -1,5 +1,5 @@
 // Outer aliases: of what stands in a state further out.
-ghost use Rattle.std.specs.Prelude.{◌≡◌, ◌∷◌, ◌+◌, ◌<◌, ◌≤◌, [], true, false, not, ◌&&◌, All, Some, length, option_to_list, OnOk, OnErr, IfOk, IfErr};
+ghost use Rattle.std.specs.Prelude.{◌≡◌, ◌∷◌, ◌+◌, ◌<◌, ◌≤◌, ◌^◌, [], true, false, not, ◌&&◌, All, Some, length, option_to_list, OnOk, OnErr, IfOk, IfErr};
 ghost use Rattle.wcv_core.specs.declared.error.ErrorKind.TheVariants as kinds;
 ghost use Rattle.wcv_types.specs.Entities.{entity_tree, EntityStands};
 ghost use Rattle.wcv_types.specs.Unfold.{trees};
@@ -205,9 +205,10 @@ impl ComponentState {
         }
     }
 
-    /// What was aliased joins its space, whatever the number of those there.
+    /// What was aliased joins its space, whatever the number of those there; a core type where 32 bits count it.
     fn push_aliased(&mut self, item: Aliased) -> Result<(), OutOfMemory>
         requires live { self.old.spent ≡ false }
+        requires room { is_entity item ≡ false → length self.old.spaces.core_types + 1 < 2 ^ 32 }
         ensures ok { OnOk result (self.new ≡ with_aliased item self.old) }
         ensures err { OnErr result (self.new ≡ spent self.old) }
     {

@@ -1,5 +1,5 @@
 // One more entry in a space, or one more resource that is defined.
-ghost use Rattle.std.specs.Prelude.{◌≡◌, false, OnOk, OnErr, IfOk};
+ghost use Rattle.std.specs.Prelude.{◌≡◌, ◌+◌, ◌<◌, ◌^◌, length, false, OnOk, OnErr, IfOk};
 ghost use Rattle.wcv_types.specs.Standing.{Stands, Extends, Fits};
 ghost use Rattle.wcv_types.specs.Unfold.{tree_at, tree_of, trees};
 ghost use Rattle.wcv_types.specs.declared.arena.Node.TheVariants as node;
@@ -20,10 +20,10 @@ use wcv_types::{
 };
 
 impl ComponentState {
-    /// Appends a core type, whatever the number of core types. There is no memory for one that an index
-    /// cannot count.
+    /// Appends a core type, where 32 bits count it, whatever the number of core types.
     pub fn push_core_type(&mut self, ty: ComponentCoreTypeId) -> Result<(), OutOfMemory>
         requires live { self.old.spent ≡ false }
+        requires room { length self.old.spaces.core_types + 1 < 2 ^ 32 }
         ensures ok { OnOk result (self.new ≡ with_core core_types ty self.old) }
         ensures err { OnErr result (self.new ≡ spent self.old) }
     {

@@ -4,7 +4,7 @@ use Rattle.wcv_state.specs.Contents.{Contents}
 use Rattle.wcv_state.specs.Promises.{Keeps}
 use Rattle.wcv_state.proofs.Keeping.{keeps_marked_in, keeps_grown_marked}
 use Rattle.wcv_decls.specs.CoreItems.{JoinedModule, core_space}
-use Rattle.wcv_decls.proofs.CoreModules.{module_joined}
+use Rattle.wcv_decls.proofs.CoreModules.{module_joined, module_joins_with}
 use Rattle.wcv_decls.proofs.core_module.join_module.Goals as goal
 
 pub returns-in_err-push_module-in-Ok-clause-keeps : goal.returns-in_err-push_module-in-Ok-clause-keeps
@@ -17,6 +17,10 @@ returns-in_err-push_module-in-Ok-clause-keeps c =
 pub returns-in_ok-push_module-in-Ok-clause-ok : goal.returns-in_ok-push_module-in-Ok-clause-ok
 returns-in_ok-push_module-in-Ok-clause-ok c =
     module_joined c.args.space c.args.types.now c.store_module.new.types c.args.state.now c.push_module.new.state c.args.made c.in-Ok.id c.requires.stands c.requires.live c.in-Ok.ensures.ok c.in_ok-push_module-in-Ok.ensures.ok
+
+pub returns-in_ok-push_module-in-Ok-clause-types : goal.returns-in_ok-push_module-in-Ok-clause-types
+returns-in_ok-push_module-in-Ok-clause-types c =
+    module_joins_with c.args.space c.args.types.now c.store_module.new.types c.args.state.now c.push_module.new.state c.args.made c.in-Ok.id c.in-Ok.ensures.ok c.in_ok-push_module-in-Ok.ensures.ok
 
 pub returns-in_ok-push_module-in-Ok-clause-keeps : goal.returns-in_ok-push_module-in-Ok-clause-keeps
 returns-in_ok-push_module-in-Ok-clause-keeps c =

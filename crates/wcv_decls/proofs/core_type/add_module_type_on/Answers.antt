@@ -5,10 +5,11 @@ use Rattle.wcv_types.proofs.Grown.{extends_trans}
 use Rattle.wcv_lower.specs.Context.{core_types}
 use Rattle.wcv_state.specs.Contents.{Contents, StateStands}
 use Rattle.wcv_state.specs.Promises.{Keeps}
+use Rattle.wcv_state.specs.Stack.{innermost}
 use Rattle.wcv_state.proofs.Keeping.{state_stands, keeps_grown, keeps_trans}
-use Rattle.wcv_state.proofs.Stacks.{last_stands, grew_on, refused_on, kept_on, kept_marked, around_kept}
+use Rattle.wcv_state.proofs.Stacks.{indexed, last_stands, grew_on, refused_on, kept_on, kept_marked, around_kept}
 use Rattle.wcv_decls.specs.Stack.{RefusedOn, KeepsOn}
-use Rattle.wcv_decls.proofs.CoreModules.{module_type_grew, module_keeps}
+use Rattle.wcv_decls.proofs.CoreModules.{module_type_grew, module_keeps, type_joins_made, module_type_counted}
 use Rattle.wcv_decls.proofs.Stacks.{refused_before}
 use Rattle.wcv_decls.proofs.core_type.add_module_type_on.Goals as goal
 
@@ -19,6 +20,13 @@ join_module-requires-clause-stands c =
     let k : ℕ = length ss - 1 in
     state_stands c.args.types.now c.declare_type.new.types c.in-Ok.ensures.grown (slice_index_or ss k r) (last_stands c.args.types.now ss r c.requires.some c.requires.open)
 
+pub join_module-requires-clause-room : goal.join_module-requires-clause-room
+join_module-requires-clause-room c =
+    let ss = c.args.components.now in
+    let r = c.index-components-last.result in
+    let k : ℕ = length ss - 1 in
+    λ e. module_type_counted c.args.types.now ss (slice_index_or ss k r) (map module_decl_view c.args.decls.items) c.requires.some (indexed ss k r c.requires.some refl) c.in-Ok.ensures.free
+
 pub returns-in-Ok-join_module-clause-ok : goal.returns-in-Ok-join_module-clause-ok
 returns-in-Ok-join_module-clause-ok c =
     let ss = c.args.components.now in
@@ -28,6 +36,17 @@ returns-in-Ok-join_module-clause-ok c =
     λ p. grew_on ss k (slice_index_or ss k r) c.join_module.new.state refl c.requires.some same c.args.types.now c.join_module.new.types p (core_type_item (core_module_type (map module_decl_view c.args.decls.items))) c.requires.open (extends_trans c.args.types.now c.declare_type.new.types c.join_module.new.types c.in-Ok.ensures.grown c.join_module.ensures.keeps.arena)
     (λ outer e. module_type_grew c.args.types.now c.declare_type.new.types c.join_module.new.types (slice_index_or ss k r) c.join_module.new.state c.in-Ok.made (last_stands c.args.types.now ss r c.requires.some c.requires.open)
     c.in-Ok.ensures.rest c.in-Ok.ensures.grown c.in-Ok-join_module.ensures.ok (map module_decl_view c.args.decls.items) ss outer e c.in-Ok.ensures.ok c.in-Ok.ensures.free p)
+
+pub returns-in-Ok-join_module-clause-types : goal.returns-in-Ok-join_module-clause-types
+returns-in-Ok-join_module-clause-types c =
+    let a = c.args.types.now in
+    let ss = c.args.components.now in
+    let r = c.index-components-last.result in
+    let k : ℕ = length ss - 1 in
+    let s : Contents = slice_index_or ss k r in
+    let here : s ≡ innermost ss = indexed ss k r c.requires.some refl in
+    type_joins_made a c.declare_type.new.types c.join_module.new.types ss k s c.join_module.new.state c.in-Ok.made (map module_decl_view c.args.decls.items) c.requires.some refl here
+    c.in-Ok.ensures.ok c.in-Ok.ensures.free c.in-Ok-join_module.ensures.types
 
 pub returns-in-Ok-join_module-clause-keeps : goal.returns-in-Ok-join_module-clause-keeps
 returns-in-Ok-join_module-clause-keeps c =

@@ -7,9 +7,11 @@ use Rattle.wcv_types.specs.declared.ids.ComponentAnyTypeId.TheVariants as any
 use Rattle.wcv_lower.specs.Checks.{IsFree}
 use Rattle.wcv_lower.specs.Types.{rep_checks}
 use Rattle.wcv_lower.specs.Context.{in_types, is_concrete}
+use Rattle.wcv_lower.specs.Trees.{tree_reader}
+use Rattle.wcv_lower.proofs.TypeLaws.{dtor_there}
 use Rattle.wcv_lower.proofs.ValueLaws.{not-false}
 use Rattle.wcv_state.specs.declared.kind.ComponentKind.{ComponentKind}
-use Rattle.wcv_state.specs.Contents.{Contents, kind_of, with_id, with_defined, spent}
+use Rattle.wcv_state.specs.Contents.{Contents, kind_of, stack_of, with_id, with_defined, spent}
 use Rattle.wcv_state.specs.Promises.{MemoryOrCausedBy, Keeps}
 use Rattle.wcv_decls.proofs.Destructors.{resource_free, scope_caused, rep_caused, dtor_caused}
 use Rattle.wcv_decls.proofs.Defining.{rep_is_number, is_new_import, is_new_definition, made_keeps, defined_keeps, spent_keeps, resource_declares}
@@ -35,7 +37,8 @@ returns-in_err-push_type-clause-keeps c =
 pub returns-clause-ok : goal.returns-clause-ok
 returns-clause-ok c =
     let free : not (is_concrete (kind_of c.args.state.now.kind)) ≡ false = subst (λ (k : ComponentKind). not (is_concrete (kind_of k)) ≡ false) c.kind.ensures c.in_ok-check_scope.ensures.ok.0 in
-    resource_declares c.args.types.now c.alloc_resource_id.new.self c.args.state.now c.in_ok-id.id c.requires.stands c.in_ok-id.ensures.made c.in_ok-id.ensures.last c.args.rep c.args.dtor c.push_type.new.self (not-false (is_concrete (kind_of c.args.state.now.kind)) free) c.requires.live (rep_is_number _ c.args.rep c.in_ok-check_rep.ensures.ok)
+    resource_declares c.args.types.now c.alloc_resource_id.new.self c.args.state.now c.in_ok-id.id c.requires.stands c.in_ok-id.ensures.made c.in_ok-id.ensures.last c.args.rep c.args.dtor c.push_type.new.self (not-false (is_concrete (kind_of c.args.state.now.kind)) free)
+    (dtor_there tree_reader (stack_of c.args.types.now c.args.state.now []) c.args.rep c.args.dtor (c.in_ok-check_dtor.ensures.ok [])) c.requires.live (rep_is_number _ c.args.rep c.in_ok-check_rep.ensures.ok)
     (c.in_ok-push_type.ensures.ok ∙ ap (with_id in_types (any.Resource c.in_ok-id.id)) c.in_ok-define_resource.ensures.ok)
 
 pub returns-in_err-check_scope-clause-err : goal.returns-in_err-check_scope-clause-err

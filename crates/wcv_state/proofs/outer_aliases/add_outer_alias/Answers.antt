@@ -1,16 +1,26 @@
-use Rattle.std.proofs.Common.{◌≡◌, ℕ, suc, ◌-◌, length, slice_index_or, slice_set, refl, true, sym, subst, arith}
+use Rattle.std.proofs.Common.{◌≡◌, ℕ, suc, ◌+◌, ◌-◌, ◌<◌, ◌^◌, length, slice_index_or, slice_set, refl, true, sym, subst, arith}
 use Rattle.std.proofs.lemmas.Result.{err_from_is_err_and}
 use Rattle.wcv_types.proofs.Grown.{extends_refl}
 use Rattle.wcv_state.specs.Contents.{Contents}
 use Rattle.wcv_state.specs.Promises.{Keeps}
-use Rattle.wcv_state.specs.Stack.{IsOpen}
+use Rattle.wcv_state.specs.Stack.{IsOpen, innermost}
+use Rattle.wcv_state.proofs.CoreRoom.{outer_counted}
 use Rattle.wcv_state.proofs.Keeping.{keeps_marked}
 use Rattle.wcv_state.proofs.OuterCalls.{push_keeps, push_aliases, charge_fits, charge_keeps, charge_aliases}
-use Rattle.wcv_state.proofs.Stacks.{around_kept, last_becomes, kept_on}
+use Rattle.wcv_state.proofs.Stacks.{indexed, around_kept, last_becomes, kept_on}
 use Rattle.wcv_state.proofs.outer_aliases.add_outer_alias.Goals as goal
 
 pub returns-in_err-item-clause-keeps : goal.returns-in_err-item-clause-keeps
 returns-in_err-item-clause-keeps c = around_kept c.args.types.now c.args.types.now (extends_refl c.args.types.now) c.args.components.now c.requires.open
+
+pub push_aliased-requires-clause-room : goal.push_aliased-requires-clause-room
+push_aliased-requires-clause-room c =
+    let ss = c.args.components.now in
+    let k : ℕ = length ss - 1 in
+    let r = c.index-components-last.result in
+    let last : slice_index_or ss k r ≡ innermost ss = indexed ss k r c.requires.some refl in
+    λ e. subst (λ (s : Contents). length s.spaces.core_types + 1 < 2 ^ 32) (sym last)
+    (outer_counted c.args.types.now ss (innermost ss) c.args.kind c.args.count c.args.index c.in_ok-item.item c.in_ok-item.ensures.ok.found c.in_ok-item.ensures.free e)
 
 pub returns-in_err-push_aliased-clause-last : goal.returns-in_err-push_aliased-clause-last
 returns-in_err-push_aliased-clause-last c =

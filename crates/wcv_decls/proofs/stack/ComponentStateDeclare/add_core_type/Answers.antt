@@ -4,6 +4,7 @@ use Rattle.wcv_core.specs.Names.{Place}
 use Rattle.wcv_syntax.specs.Model.{core_type_item}
 use Rattle.wcv_syntax.specs.View.{core_type_view}
 use Rattle.wcv_types.proofs.Lists.{map-id}
+use Rattle.wcv_decls.specs.CoreItems.{JoinsCoreType}
 use Rattle.wcv_decls.specs.Stack.{IsOpen, GrewOn, RefusedOn, KeepsOn}
 use Rattle.wcv_decls.proofs.Stacks.{both_mapped}
 use Rattle.wcv_decls.proofs.stack.ComponentStateDeclare.add_core_type.Goals as goal
@@ -15,6 +16,11 @@ pub returns-clause-ok : goal.returns-clause-ok
 returns-clause-ok c =
     both_mapped (λ ss ss'. OnOk c.add_core_type_on.result ((p : Place) → GrewOn c.args.types.now c.add_core_type_on.new.types p ss ss' (core_type_item (core_type_view c.args.ty))))
     c.args.components.now c.add_core_type_on.new.components c.add_core_type_on.ensures.ok
+
+pub returns-clause-types : goal.returns-clause-types
+returns-clause-types c =
+    both_mapped (λ ss ss'. OnOk c.add_core_type_on.result (JoinsCoreType c.args.types.now c.add_core_type_on.new.types ss ss' (core_type_view c.args.ty)))
+    c.args.components.now c.add_core_type_on.new.components c.add_core_type_on.ensures.types
 
 pub returns-clause-err : goal.returns-clause-err
 returns-clause-err c =
