@@ -1,5 +1,5 @@
 -- What holds of a stack that valid items lead to, where names are those of places.
-use Rattle.std.proofs.Common.{None, [], ap, refl, subst, zero, suc, true, ℕ, ◌∙◌, ◌≡◌}
+use Rattle.std.proofs.Common.{None, [], ap, refl, subst, zero, suc, true, ℕ, ◌∙◌, ◌≡◌, inl}
 use Rattle.wcv_core.specs.Names.{Place, deeper}
 use Rattle.wcv_core.specs.declared.features.WasmFeatures.{WasmFeatures}
 use Rattle.wcv_types.proofs.Lists.{some-inj}
@@ -8,15 +8,15 @@ use Rattle.wcv_lower.specs.Mapped.{map_stack}
 use Rattle.wcv_lower.specs.Names.{names_by_place}
 use Rattle.wcv_lower.specs.Owned.{AllEntries}
 use Rattle.wcv_lower.specs.Renamed.{Renaming, renaming}
-use Rattle.wcv_lower.specs.Trees.{Tree_stack}
+use Rattle.wcv_lower.specs.Trees.{Tree_stack, tree_maker}
+use Rattle.wcv_lower.specs.SideNames.{SidesDiffer, AllSidesDiffer}
+use Rattle.wcv_lower.proofs.SidesKept.{no_names, item_differ}
 use Rattle.wcv_link.proofs.Charged.{everywhere-both}
 use Rattle.wcv_link.proofs.Items.{side_of}
-use Rattle.wcv_link.proofs.Known.{In, Within}
+use Rattle.wcv_link.proofs.MayMake.{Owns}
 use Rattle.wcv_link.proofs.Settled.{Settles, alone-settles, inside-settles, settles-more, settles-ready, own-within}
-use Rattle.wcv_link.proofs.SideNames.{no-names, SidesDiffer, AllSidesDiffer}
-use Rattle.wcv_link.proofs.SidesKept.{item-differ}
 use Rattle.wcv_link.proofs.Tidy.{Known, NoneKnown, Tidy, TidyEntry, first-tidy, empty-tidy, tidy-ready, tidy-next}
-use Rattle.wcv_link.proofs.TidyBack.{context_tidy-renamed_back, known_back, within-renamed_back}
+use Rattle.wcv_link.proofs.TidyBack.{context_tidy-renamed_back, known_back, owns-renamed_back}
 use Rattle.wcv_link.proofs.TidyInside.{Behind, begins-tidy, item-behind}
 use Rattle.wcv_link.specs.Reached.{Reached, at_start, behind, within}
 use Rattle.wcv_link.specs.Valid.{start}
@@ -30,7 +30,7 @@ pub start-tidy : (w : Place) (g : Known) → Tidy w 0 g start
 start-tidy w g = first-tidy w g start (everywhere-both (TidyEntry g) start (empty-tidy g concrete) (λ j c e. cc)) (λ j c e. differ j c e)
   where
     differ : AllSidesDiffer start
-    differ zero c e = subst SidesDiffer (some-inj e) (λ d. no-names)
+    differ zero c e = subst SidesDiffer (some-inj e) (λ d. no_names)
     differ (suc j) c e = cc
 
 -- ## Further on
@@ -54,7 +54,7 @@ module _ (fs : WasmFeatures) where
         known = h.known;
         unknown = h.unknown;
         settles = settles-more w k s u h.settles (side_of f) x.0;
-        tidy = tidy-next w k h.known s u y x.1 (item-differ fs names_by_place (deeper w k) s u f v e y.differ);
+        tidy = tidy-next w k h.known s u y x.1 (item_differ fs (tree_maker names_by_place) (deeper w k) s u f y.differ e);
         in_component = ap is_concrete x.0.kind ∙ h.in_component;
       }
   reached-reaches _ _ _ (within w k s is r free) =
@@ -68,9 +68,11 @@ module _ (fs : WasmFeatures) where
         in_component = refl;
       }
 
-  -- so before the names were renamed: what is free in an entry of the top is listed there, and entries are tidy
-  pub reached-tidy : (v : Renaming) (w : Place) (k : ℕ) (s : Tree_stack) → Reached fs names_by_place w k (map_stack (renaming v) s) → AllEntries (Within (In s.top)) s.top × ((g : Known) × AllEntries (TidyEntry g) s.top)
+  -- so before the names were renamed, in the innermost context
+  pub reached-tidy : (v : Renaming) (w : Place) (k : ℕ) (s : Tree_stack) → Reached fs names_by_place w k (map_stack (renaming v) s) → Owns s.top × ((g : Known) × AllEntries (TidyEntry g) s.top)
   reached-tidy v w k s r =
       let t : Tree_stack = map_stack (renaming v) s in
-      let h : Reaches w k t = reached-reaches w k t r in
-      (within-renamed_back v s.top (own-within w k t h.settles h.in_component), (known_back v h.tidy.known, context_tidy-renamed_back v s.top h.tidy.known (h.tidy.tidy zero t.top refl)))
+      let h : Reaches w k t = reached-reaches w k t r in (
+        owns-renamed_back v s.top (own-within w k t h.settles h.in_component) (h.settles.apart zero t.top refl) (λ q x. h.settles.spared q (inl x) zero t.top refl),
+        (known_back v h.tidy.known, context_tidy-renamed_back v s.top h.tidy.known (h.tidy.tidy zero t.top refl)),
+      )

@@ -27,25 +27,21 @@ use Rattle.wcv_link.proofs.Known.{mapped-some, then-some, Fine, Any}
 use Rattle.wcv_link.proofs.Looking.{sorted-fine}
 use Rattle.wcv_link.proofs.Near.{Near, After, near-apply}
 
--- what holds of its steps: of one that appends a core function, of one that appends a function of a type that stands there, and of each
+-- what holds of its steps: of one that appends a core function of a type alone in its group, of one that appends a function of a type that stands there, and of each
 -- that says the type of slots before such a one
-module _ (s : Tree_stack) (Q : Step tree_reader → Type 0) (slots : (v : ValType) (y : Step tree_reader) → Q y → Q (types_slots v ∷ y)) (core : (g : Group) → Q (func_joins tree_reader s.groups g)) (typed : (k : ℕ) (t : Type_tree) → type_of_sort is_func s.top k ≡ Some t → Q (func_added t)) where
+module _ (s : Tree_stack) (Q : Step tree_reader → Type 0) (slots : (v : ValType) (y : Step tree_reader) → Q y → Q (types_slots v ∷ y)) (core : (b : Bool) (w : CompositeForm) → Q (func_joins tree_reader s.groups (closed_group (core_entries s.top) (alone b w)))) (typed : (k : ℕ) (t : Type_tree) → type_of_sort is_func s.top k ≡ Some t → Q (func_added t)) where
   slots-hold : (qs : List Ask) (y : Step tree_reader) → Q y → Q (slots_typed qs y)
   slots-hold [] y w = w
   slots-hold (row.slot_of v n ∷ qs) y w = slots v (slots_typed qs y) (slots-hold qs y w)
   slots-hold (q ∷ qs) y w = slots-hold qs y w
 
-  func-holds : (w : Group) (x : Step tree_reader) → func_step s w ≡ Some x → Q x
-  func-holds w x e = go (is_closable s.groups (core_entries s.top) w) e
-    where
-      go : (b : Bool) → cond b (Some (func_joins tree_reader s.groups (closed_group (core_entries s.top) w))) None ≡ Some x → Q x
-      go true k = subst Q (some-inj k) (core (closed_group (core_entries s.top) w))
-      go false k = cc
+  func-holds : (b : Bool) (w : CompositeForm) (x : Step tree_reader) → func_step s (alone b w) ≡ Some x → Q x
+  func-holds b w x e = subst Q (some-inj (if-some (is_closable s.groups (core_entries s.top) (alone b w)) (Some (func_joins tree_reader s.groups (closed_group (core_entries s.top) (alone b w)))) x e)) (core b w)
 
   form-holds : (b : Bool) (o : Option CompositeForm) (x : Step tree_reader) → option_and_then (λ w. func_step s (alone b w)) o ≡ Some x → Q x
   form-holds b o x e =
       let m = then-some (λ (w : CompositeForm). func_step s (alone b w)) o x e in
-      func-holds (alone b m.0) x m.2
+      func-holds b m.0 x m.2
 
   row-holds : (f : Canon_form) (q : Appends) (x : Step tree_reader) → row_step s f q ≡ Some x → Q x
   row-holds f (row.lifted t) x e =
@@ -91,5 +87,5 @@ module _ (p : Place) (s : Tree_stack) (h : Ready p s) where
   canon-does f x e =
       let P : Name → Type 0 = After x s in
       let i : (r : Name) → Near s r → P r = near-apply x s in
-      let w : Quiet P i x = canon-holds s (Quiet P i) (slots-quiet P i) (core-quiet P i) (typed-quiet P i) f x e in
+      let w : Quiet P i x = canon-holds s (Quiet P i) (slots-quiet P i) (λ b w. core-quiet P i (closed_group (core_entries s.top) (alone b w))) (typed-quiet P i) f x e in
       same-does p s h x w.0 (w.1 s)

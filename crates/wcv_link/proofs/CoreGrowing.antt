@@ -22,8 +22,8 @@ use Rattle.wcv_types.specs.Unfold.{capped}
 use Rattle.wcv_types.proofs.Lists.{some-inj}
 use Rattle.wcv_lower.specs.Checks.{is_none}
 use Rattle.wcv_lower.specs.Context.{Core_space, core_types, core_modules, core_instances, exporting}
-use Rattle.wcv_lower.specs.CoreInstances.{space_of, core_module_at, core_instance_at, item_listed, items_listed, listed_size, core_instance_made, instance_joins, core_instance_step, core_export_of, if_of, item_joins, core_alias_step}
-use Rattle.wcv_lower.specs.CoreItems.{core_entries, is_closable, types_join, closed_step, module_joins, core_type_made, core_module_made, core_type_step, core_module_step}
+use Rattle.wcv_lower.specs.CoreInstances.{space_of, core_module_at, core_instance_at, item_listed, items_listed, listed_size, module_instance, core_instance_made, instance_joins, core_instance_step, core_export_of, if_of, item_joins, core_alias_step}
+use Rattle.wcv_lower.specs.CoreItems.{core_entries, may_join, types_join, closed_step, module_joins, core_type_made, core_module_made, core_type_step, core_module_step}
 use Rattle.wcv_lower.specs.Names.{names_by_place}
 use Rattle.wcv_lower.specs.Step.{core_appends, interns, Step, change, apply}
 use Rattle.wcv_lower.specs.Readers.{New_node, core_instance_node, core_exports_node}
@@ -73,8 +73,8 @@ module _ (P : Name → Type 0) where
   listed-fine : (i : Name) (n : ℕ) (es : List (Text × EntityType)) → Fine P (of_items i n es)
   listed-fine i n es = (node-within P (core_instance i (capped n)) (core_exports es none) (λ r x. x) (exports-closed P es), ((tt, tt), exports-sound es))
 
-  of_module-fine : (i : Name) (t : Type_tree) → Fine P t → Fine P (of_module i t)
-  of_module-fine i t w = (node-within P (core_instance i (capped (suc (size t)))) (part here t none) (λ r x. x) one, ((tt, tt), (w.1, tt)))
+  of_module-fine : (i : Name) (n : ℕ) (t : Type_tree) → Fine P t → Fine P (of_module i n t)
+  of_module-fine i n t w = (node-within P (core_instance i (capped n)) (part here t none) (λ r x. x) one, ((tt, tt), (w.1, tt)))
     where
       one : WithinParts P (part here t none)
       one r (inl x) = w.0 r x
@@ -116,7 +116,7 @@ module _ (p : Place) (s : Tree_stack) (h : Ready p s) where
           (record { imported = refl; defined = refl; imports = refl; exports = refl })
 
   pub core_type-does : (fs : WasmFeatures) (t : Core_type_form) (x : Step tree_reader) → core_type_step fs (tree_maker names_by_place p) s t ≡ Some x → Does exporting p s x
-  core_type-does fs (core_rec w) x e = go (is_closable s.groups (core_entries s.top) w) e
+  core_type-does fs (core_rec w) x e = go (may_join s.groups (core_entries s.top) w) e
     where
       go : (b : Bool) → cond b (Some (closed_step tree_reader s.groups (closed_group (core_entries s.top) w))) None ≡ Some x → Does exporting p s x
       go true k = subst (Does exporting p s) (some-inj k) (closed-does (closed_group (core_entries s.top) w))
@@ -137,11 +137,12 @@ module _ (p : Place) (s : Tree_stack) (h : Ready p s) where
   pub core_instance-does : (i : Core_instance_form) (x : Step tree_reader) → core_instance_step (tree_maker names_by_place p) s i ≡ Some x → Does exporting p s x
   core_instance-does (core_instantiate i args) x e =
       let m = mapped-some joins_as (core_instance_made s (core_instantiate i args)) x e in
-      let o = if-some (list_all (λ (a : InstantiationArg). not (is_none (core_instance_at s.top a.index))) args) (option_map core_instance_node (core_module_at s.top i)) m.0 m.1 in
-      let t = mapped-some core_instance_node (core_module_at s.top i) m.0 o in
-      let y : Step tree_reader = joins_as (core_instance_node t.0) in
+      let o = if-some (list_all (λ (a : InstantiationArg). not (is_none (core_instance_at s.top a.index))) args) (option_map (module_instance tree_reader s.groups) (core_module_at s.top i)) m.0 m.1 in
+      let t = mapped-some (module_instance tree_reader s.groups) (core_module_at s.top i) m.0 o in
+      let k : ℕ = listed_size s.groups (tree_reader.core_exports t.0) in
+      let y : Step tree_reader = joins_as (core_instance_node k t.0) in
       let w : Fine (After y s) t.0 = later-fine y s t.0 (all-get (Fine (Near s)) (s.top.core core_modules) i t.0 (h.fine.0.entries.core core_modules) t.1) in
-      subst (Does exporting p s) m.2 (subst (λ (n : New_node tree_reader). Does exporting p s (joins_as n)) t.2 (node-does (core_instance_node t.0) (of_module-fine (After y s) (base p) t.0 w)))
+      subst (Does exporting p s) m.2 (subst (λ (n : New_node tree_reader). Does exporting p s (joins_as n)) t.2 (node-does (core_instance_node k t.0) (of_module-fine (After y s) (base p) k t.0 w)))
   core_instance-does (core_bag es) x e =
       let m = mapped-some joins_as (core_instance_made s (core_bag es)) x e in
       let k : ℕ = listed_size s.groups (items_listed s.top es) in

@@ -22,9 +22,10 @@ use Rattle.wcv_syntax.specs.ModuleTypes.{Core_export}
 use Rattle.wcv_syntax.specs.declared.core_section.Export.{Export}
 use Rattle.wcv_syntax.specs.declared.core_section.InstantiationArg.{InstantiationArg}
 use Rattle.wcv_types.specs.Arena.{Arena}
+use Rattle.wcv_types.specs.CoreParts.{exported_items}
 use Rattle.wcv_types.specs.ByName.{texts_in}
 use Rattle.wcv_types.specs.Measure.{size}
-use Rattle.wcv_types.specs.Standing.{Stands, AllFit, Extends, entity_sizes, with_node}
+use Rattle.wcv_types.specs.Standing.{Stands, AllFit, Extends, entity_sizes, own_size, with_node}
 use Rattle.wcv_types.specs.Tree.{here, label, import, export, core_import, core_export, core_instance, core_exports, Parts, none, part, node, head, parts}
 use Rattle.wcv_types.specs.Unfold.{Type_tree, capped, head_of, kind_slots, slot_parts, slots_of, tree_at, tree_of, trees}
 use Rattle.wcv_types.specs.declared.arena.Node.TheVariants as n
@@ -44,7 +45,7 @@ use Rattle.wcv_matching.specs.Refusals.{MemoryOrMismatch}
 use Rattle.wcv_matching.proofs.CoreInside.{all_within}
 use Rattle.wcv_lower.specs.Checks.{if_found, is_none, missing, has_repeat, no_room, too_many}
 use Rattle.wcv_lower.specs.Context.{core_instances, core_modules, push_core, counts}
-use Rattle.wcv_lower.specs.CoreInstances.{all_served, core_item_at, core_instance_at, core_module_at, exported_by, offered, item_listed, items_listed, listed_size, listed_checks, sort_needs, is_no_item, core_instance_checks, instance_joins, unserved, arg_names, listed_names}
+use Rattle.wcv_lower.specs.CoreInstances.{all_served, core_item_at, core_instance_at, core_module_at, exported_by, offered, item_listed, items_listed, listed_size, module_instance, listed_checks, sort_needs, is_no_item, core_instance_checks, instance_joins, unserved, arg_names, listed_names}
 use Rattle.wcv_lower.specs.Given.{named, names_of, none_given}
 use Rattle.wcv_lower.specs.Names.{introduced}
 use Rattle.wcv_lower.specs.Readers.{Maker, New_node, core_instance_node, core_exports_node}
@@ -168,11 +169,11 @@ module _ (a : Arena) (s : Contents) (h : StateStands a s) (k : ℕ) (args : List
   module_stands m e = core_stands_at a s h core_modules k m e
 
   pub of_module_made : (m : ComponentCoreModuleTypeId) (found : List (Text × ComponentCoreInstanceTypeId)) (shape : InstanceType) → at_index ≡ Some m → AllZip (IsArg s.spaces) args found →
-      shape.kind ≡ shape_kind.Instantiated m → shape.info.size ≡ capped (suc (size (tree_at a (p.Module m)))) → MadeInstance a s (core_instantiate k args) shape
+      shape.kind ≡ shape_kind.Instantiated m → shape.info.size ≡ own_size a.core (exported_items (tree_at a (p.Module m))) → MadeInstance a s (core_instantiate k args) shape
   of_module_made m found shape e w is large = record {
-    made_node = core_instance_node (tree_at a (p.Module m));
+    made_node = module_instance tree_reader a.core (tree_at a (p.Module m));
     made = λ outer.
-        ap (λ (b : Bool). cond b (option_map core_instance_node (core_module_at (context_of a s) k)) None) (all_there a s args found w) ∙ ap (option_map core_instance_node) (module_is m e);
+        ap (λ (b : Bool). cond b (option_map (module_instance tree_reader a.core) (core_module_at (context_of a s) k)) None) (all_there a s args found w) ∙ ap (option_map (module_instance tree_reader a.core)) (module_is m e);
     tree = λ x j. node (core_instance (number x) (sym large j)) (slot_parts (trees a.nodes) (kind_slots (sym is j)));
   }
 

@@ -8,7 +8,8 @@ use Rattle.wcv_types.specs.ByName.{texts_in}
 use Rattle.wcv_types.specs.Tree.{Text}
 use Rattle.wcv_lower.specs.Checks.{is_among, has_repeat}
 use Rattle.wcv_decls.proofs.Positions.{take-at, split-at}
-use Rattle.wcv_decls.proofs.Repeats.{has_repeat-push, has_repeat-again}
+use Rattle.wcv_lower.proofs.Repeats.{has_repeat-push}
+use Rattle.wcv_decls.proofs.Repeats.{has_repeat-again}
 
 pub name_at : {V : Type 0} (es : List (Text × V)) (i : ℕ) (x : Text × V) → i < length es → x ≡ slice_index_or es i x → slice_get (texts_in es) i ≡ Some x.0
 name_at {V} es i x h e = slice_get-map (λ (y : Text × V). y.0) es i ∙ ap (option_map (λ (y : Text × V). y.0)) (slice_get_read es (length es) i x refl h e)

@@ -73,11 +73,11 @@ module _ (w : Renaming) (c : Tree_context) where
 
 -- ## The type
 
-imports-before : (es : Entries) (rest : Parts Name Name) → imports_in (entries import es rest) ≡ es ++ imports_in rest
+pub imports-before : (es : Entries) (rest : Parts Name Name) → imports_in (entries import es rest) ≡ es ++ imports_in rest
 imports-before [] rest = refl
 imports-before (e ∷ es) rest = ap (λ (xs : Entries). e ∷ xs) (imports-before es rest)
 
-no-imports : (es : Entries) → imports_in (entries export es none) ≡ []
+pub no-imports : (es : Entries) → imports_in (entries export es none) ≡ []
 no-imports [] = refl
 no-imports (e ∷ es) = no-imports es
 
@@ -134,7 +134,7 @@ module _ (i : Name) (c : Tree_context) (h : Listing c) (leads : Leads c) where
 -- ## Roots
 
 module _ (fs : WasmFeatures) (is : Items) (s : Tree_stack) (v : ValidFrom fs names_by_place [] 0 start is s) where
-  root_behind : ItemsRead [] (λ i. None) start s
+  pub root_behind : ItemsRead [] (λ i. None) start s
   root_behind = items-behind fs [] 0 (λ i. None) start s is refl v (λ i u. refl) (start-settles []) (start-tidy [] (λ i. None))
 
   -- where the items of a root lead to, what is free in an entry is listed

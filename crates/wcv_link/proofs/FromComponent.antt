@@ -51,7 +51,7 @@ use Rattle.wcv_state.proofs.Found.{get_same, stands_at}
 use Rattle.wcv_state.proofs.ItemsAt.{item_stands, item_there, items_missing}
 use Rattle.wcv_state.proofs.Stacks.{none_made}
 use Rattle.wcv_link.proofs.CoreInstances.{same_names}
-use Rattle.wcv_link.specs.Instances.{arg_checks, size_checks, AllMayInstantiate, CausedInstance, IsArg, MadeInstance}
+use Rattle.wcv_link.specs.Instances.{arg_checks, size_checks, ItemMayInstantiate, CausedInstance, IsArg, MadeInstance}
 
 module _ (a : Arena) (s : Contents) (h : StateStands a s) where
   abbrev ts : List Type_tree
@@ -103,8 +103,8 @@ module _ (a : Arena) (s : Contents) (h : StateStands a s) where
     component_stands i e = stands_at a s h in_components k i e
 
     -- one may be made
-    pub may_be_made : (i : ComponentTypeId) (found : List (Text × ComponentEntityType)) → at_index ≡ Some i → AllZip (IsArg s.spaces) args found → AllMayInstantiate a s → MayInstantiate (named_args a found) (tree_at a (p.Component i))
-    may_be_made i found e w all = subst (λ (xs : List (Text × Type_tree)). MayInstantiate xs (tree_at a (p.Component i))) (args_are args found w) (all k (tree_at a (p.Component i)) args (component_is i e))
+    pub may_be_made : (i : ComponentTypeId) (found : List (Text × ComponentEntityType)) → at_index ≡ Some i → AllZip (IsArg s.spaces) args found → ItemMayInstantiate a s (instantiate k args) → MayInstantiate (named_args a found) (tree_at a (p.Component i))
+    may_be_made i found e w all = subst (λ (xs : List (Text × Type_tree)). MayInstantiate xs (tree_at a (p.Component i))) (args_are args found w) (all (tree_at a (p.Component i)) (component_is i e))
 
     -- ## Its causes
 

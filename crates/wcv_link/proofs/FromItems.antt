@@ -33,11 +33,13 @@ use Rattle.wcv_lower.specs.Context.{counts}
 use Rattle.wcv_lower.specs.Entries.{extern_name, written_checks}
 use Rattle.wcv_lower.specs.Given.{names_of, none_given}
 use Rattle.wcv_lower.specs.Instances as rules
-use Rattle.wcv_lower.specs.Instances.{bag_made, borrow_checks, instance_of_items, listed, listed_at, listed_checks, names_checks, shape_checks}
-use Rattle.wcv_lower.specs.Readers.{Brought, instance_node}
-use Rattle.wcv_lower.specs.Trees.{Entries, Tree_context, tree_maker, tree_reader}
+use Rattle.wcv_lower.specs.Instances.{all_listed, bag_made, borrow_checks, instance_of_items, listed, listed_at, listed_checks, names_checks, shape_checks}
+use Rattle.wcv_lower.specs.Readers.{Brought, New_node, instance_node}
+use Rattle.wcv_lower.specs.Trees.{Entries, tree_maker, tree_reader}
 use Rattle.wcv_lower.specs.Values.{kind_checks}
-use Rattle.wcv_state.specs.Contents.{Contents, context_of, stack_of, StateStands}
+use Rattle.wcv_lower.proofs.ComponentInstanceLaws.{bag_there}
+use Rattle.wcv_lower.proofs.NewNames.{trees_tell}
+use Rattle.wcv_state.specs.Contents.{Contents, context_of, StateStands}
 use Rattle.wcv_state.specs.Instantiations.{brought_of}
 use Rattle.wcv_state.specs.Looking.{item_id, item_id_checks}
 use Rattle.wcv_state.specs.Opening.{InstancePushed, Paths}
@@ -175,28 +177,32 @@ module _ (a : Arena) (s : Contents) (h : StateStands a s) where
       abbrev entries : Entries
       entries = entry_trees ts (as_entries found)
 
-      bag_is : bag_made (context_of a s) es ≡ Some (instance_node [] entries)
-      bag_is = ap (λ (z : Bool). cond z (Some (instance_node [] (listed (context_of a s) es))) None) (all_there es found w) ∙ λ j. Some (instance_node [] (listed_are es found w j))
+      all_are : all_listed (context_of a s) es ≡ Some (instance_node [] entries)
+      all_are = ap (λ (z : Bool). cond z (Some (instance_node [] (listed (context_of a s) es))) None) (all_there es found w) ∙ λ j. Some (instance_node [] (listed_are es found w j))
 
       module _ (b : Arena) (j : ComponentInstanceTypeId) (rs : Paths) (n : InstancePushed a b (as_entries found) j) (none : rs ≡ []) where
         abbrev m : NewInstance
         m = record { ty = j; resources = rs }
 
-        made_at : (outer : List Tree_context) (q : Place) → rules.instance_made (tree_maker (names_of (node_names a q)) q) (stack_of a s outer) (bag es) ≡ Some (brought_of b m)
-        made_at outer q =
-            ap (option_map (instance_of_items (tree_maker (names_of (node_names a q)) q))) bag_is ∙
+        -- what is made of the node of the items
+        made_of : (o : Option (New_node tree_reader)) → o ≡ Some (instance_node [] entries) → (q : Place) → option_map (instance_of_items (tree_maker (names_of (node_names a q)) q)) o ≡ Some (brought_of b m)
+        made_of o e q =
+            ap (option_map (instance_of_items (tree_maker (names_of (node_names a q)) q))) e ∙
             λ z. Some (record { entity = ((λ y. instance_type (node_name a q y) [] entries) ∙ sym n.tree) z; resources = ap (λ (es : Paths). map resource_path es) (sym none) z })
+
+        names_free : IsFree (list_checks s.features entries) → IsFree names
+        names_free l = subst (λ (xs : Entries). IsFree (names_checks tree_reader s.features [] xs)) (sym (listed_are es found w)) (free_left (names_checks tree_reader s.features [] entries) (size_checks (instance_type (number 0) [] entries)) l)
 
         pub listed_instance : IsFree (all_checks (item_checks a fs s.spaces) es) → IsFree room → IsFree (list_checks s.features entries) → MadeInstance a b s (bag es) m
         listed_instance f r l = record {
           given_names = node_names a;
           given = λ q. node_given a b q n.nodes;
-          made = made_at;
+          made = λ outer q. made_of (bag_made (context_of a s) es) (bag_there tree_reader trees_tell fs (context_of a s) es (listed_free es f) (names_free l) ∙ λ j. Some (instance_node [] (listed_are es found w j))) q;
           free = λ outer q.
-              subst (λ (o : Option (Brought tree_reader)). IsFree (all o)) (sym (made_at outer q))
+              subst (λ (o : Option (Brought tree_reader)). IsFree (all o)) (sym (made_of (all_listed (context_of a s) es) all_are q))
               (free_both items (names ++ (sizes (Some (brought_of b m)) ++ room)) (listed_free es f)
               (free_both names (sizes (Some (brought_of b m)) ++ room)
-              (subst (λ (xs : Entries). IsFree (names_checks tree_reader s.features [] xs)) (sym (listed_are es found w)) (free_left (names_checks tree_reader s.features [] entries) (size_checks (instance_type (number 0) [] entries)) l))
+              (names_free l)
               (free_both (sizes (Some (brought_of b m))) room
               (subst (λ (t : Type_tree). IsFree (size_checks t)) (sym n.tree) (free_right (names_checks tree_reader s.features [] entries) (size_checks (instance_type (number 0) [] entries)) l)) r)));
           stands = n.stands;
@@ -210,11 +216,11 @@ module _ (a : Arena) (s : Contents) (h : StateStands a s) where
     -- ## Refused
 
     module _ {M : Type 0} (b : Arena) (offset : ℕ) (x : Error M) where
-      abbrev made_none : Place → List Tree_context → Option (Brought tree_reader)
-      made_none q outer = rules.instance_made (tree_maker (names_of none_given) q) (stack_of a s outer) (bag es)
+      abbrev made_none : Place → Option (Brought tree_reader)
+      made_none q = option_map (instance_of_items (tree_maker (names_of none_given) q)) (all_listed (context_of a s) es)
 
       refused : (cs : Checks) → ((o : Option (Brought tree_reader)) → Cause cs (error_kind x) → Cause (all o) (error_kind x)) → MemoryOrCausedBy cs offset x → CausedInstance a b s (bag es) offset x
-      refused cs f t = record { given_names = λ q. none_given; given = λ q. none_made a b q; caused = λ outer q. caused_more cs (all (made_none q outer)) offset x (f (made_none q outer)) t }
+      refused cs f t = record { given_names = λ q. none_given; given = λ q. none_made a b q; caused = λ outer q. caused_more cs (all (made_none q)) offset x (f (made_none q)) t }
 
       pub item_refused : MemoryOrCausedBy (all_checks (item_checks a fs s.spaces) es) offset x → CausedInstance a b s (bag es) offset x
       item_refused t = refused (all_checks (item_checks a fs s.spaces) es) (λ o c. cause_left items (names ++ (sizes o ++ room)) (error_kind x) (listed_cause es (error_kind x) c)) t
@@ -229,8 +235,8 @@ module _ (a : Arena) (s : Contents) (h : StateStands a s) where
         given_names = λ q. none_given;
         given = λ q. none_made a b q;
         caused = λ outer q.
-            let o : Option (Brought tree_reader) = made_none q outer in
-            let is : o ≡ Some (record { entity = instance_type _ [] (entry_trees ts (as_entries found)); resources = [] }) = ap (option_map (instance_of_items (tree_maker (names_of none_given) q))) (bag_is found w) in
+            let o : Option (Brought tree_reader) = made_none q in
+            let is : o ≡ Some (record { entity = instance_type _ [] (entry_trees ts (as_entries found)); resources = [] }) = ap (option_map (instance_of_items (tree_maker (names_of none_given) q))) (all_are found w) in
             caused_more (list_checks s.features (entry_trees ts (as_entries found))) (all o) offset x
             (λ c. ⊎_elim
             (λ d. cause_right items (names ++ (sizes o ++ room)) (error_kind x)

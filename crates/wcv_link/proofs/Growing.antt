@@ -1,6 +1,6 @@
 -- What an item does to a context: it lists new resources that are given at its place, and brings sound entries in which each free
 -- resource is listed near by.
-use Rattle.std.proofs.Common.{◌≡◌, ℕ, List, [], ◌∷◌, ◌++◌, Bool, true, false, refl, sym, ◌∙◌, subst, append-nil, ◌⊎◌, inl, inr}
+use Rattle.std.proofs.Common.{◌≡◌, ℕ, List, [], ◌∷◌, ◌++◌, Bool, true, false, ◌&&◌, refl, sym, ◌∙◌, subst, append-nil, ◌⊎◌, inl, inr}
 use Rattle.std.specs.Prelude.{All, Option, Some, None, cond}
 use Rattle.std.proofs.lemmas.Bool.{false≢true}
 use Rattle.wcv_core.specs.Names.{Name, Place, base}
@@ -17,7 +17,7 @@ use Rattle.wcv_lower.specs.Owned.{OwnsNot, OwnApart, Everywhere, AreBalanced, Is
 use Rattle.wcv_lower.specs.Readers.{New_node}
 use Rattle.wcv_lower.specs.Step.{appends, defines, Step, apply, joins_types}
 use Rattle.wcv_lower.specs.Trees.{Tree_context, Tree_stack, Entries, tree_reader, type_entry, node_tree, tree_maker}
-use Rattle.wcv_lower.specs.Types.{type_made, added, type_step}
+use Rattle.wcv_lower.specs.Types.{type_made, added, dtor_stands, type_step}
 use Rattle.wcv_lower.proofs.Applied.{applied_has}
 use Rattle.wcv_lower.proofs.Bringing.{AllBring, brings_one, brings_more}
 use Rattle.wcv_link.proofs.Charged.{AllCharged, all_back, apply-charges, among-listed}
@@ -215,8 +215,9 @@ module _ (p : Place) (s : Tree_stack) (h : Ready p s) where
       subst (Does exporting p s) m.2 (node-does m.0 (node-fine (Near s) s.top h.fine.0.entries (base p) (func_type f) m.0 m.1))
   type-does (component_type ds) x e = cc
   type-does (instance_type ds) x e = cc
-  type-does (resource_type rep dtor) x e = go (is_concrete s.top.kind) refl e
+  type-does (resource_type rep dtor) x e = go (is_concrete s.top.kind) (dtor_stands s.top dtor) refl e
     where
-      go : (b : Bool) → is_concrete s.top.kind ≡ b → cond b (Some (resource_step rep)) None ≡ Some x → Does exporting p s x
-      go true k w = subst (Does exporting p s) (some-inj w) (resource-does rep k)
-      go false k w = cc
+      go : (b d : Bool) → is_concrete s.top.kind ≡ b → cond (b && d) (Some (resource_step rep)) None ≡ Some x → Does exporting p s x
+      go true true k w = subst (Does exporting p s) (some-inj w) (resource-does rep k)
+      go true false k w = cc
+      go false d k w = cc

@@ -20,7 +20,7 @@ use Rattle.wcv_matching.specs.OnePass.{made_paths}
 use Rattle.wcv_subtype.specs.Hygiene.{Hygienic}
 use Rattle.wcv_lower.specs.Checks.{is_none}
 use Rattle.wcv_lower.specs.Context.{in_instances, in_components, exporting, is_concrete, unknown}
-use Rattle.wcv_lower.specs.Instances.{component_at, argument_at, arguments, if_opened, opened, listed_at, listed, bag_made, instance_of_component, instance_of_items, instance_made, instance_joins, instance_values, instance_step}
+use Rattle.wcv_lower.specs.Instances.{component_at, argument_at, arguments, if_opened, opened, listed, bag_made, instance_of_component, instance_of_items, instance_made, instance_joins, instance_values, instance_step}
 use Rattle.wcv_lower.specs.Instantiated.{opening}
 use Rattle.wcv_lower.specs.Mapped.{map_entries}
 use Rattle.wcv_lower.specs.Marks.{uses_each}
@@ -29,6 +29,7 @@ use Rattle.wcv_lower.specs.Owned.{OwnsNot, OwnApart, AllEntries}
 use Rattle.wcv_lower.specs.Readers.{New_node, instance_node}
 use Rattle.wcv_lower.specs.Step.{introduces, appends, Step, Brought, bare}
 use Rattle.wcv_lower.specs.Trees.{Type_tree, Entries, Tree_stack, tree_reader, node_tree, tree_maker}
+use Rattle.wcv_lower.proofs.SidesKept.{bag_differs}
 use Rattle.wcv_lower.proofs.Bringing.{brings_one, brings_more}
 use Rattle.wcv_lower.proofs.Instantiating.{arguments_have, listed_have}
 use Rattle.wcv_lower.proofs.Owning.{apart_outside}
@@ -96,10 +97,10 @@ module _ (p : Place) (s : Tree_stack) (h : Ready p s) (c : is_concrete s.top.kin
   bag-does es x e =
       let m = mapped-some instance_joins (instance_made (tree_maker names_by_place p) s (bag es)) x e in
       let o = mapped-some (instance_of_items (tree_maker names_by_place p)) (bag_made s.top es) m.0 m.1 in
-      let n = if-some (list_all (λ (e : ComponentExport). not (is_none (listed_at s.top e))) es) (Some (listing es)) o.0 o.1 in
+      let n = bag_differs s.top es o.0 o.1 in
       subst (Does exporting p s) m.2
       (subst (λ (b : Brought tree_reader). Does exporting p s (instance_joins b)) o.2
-      (subst (λ (k : New_node tree_reader). Does exporting p s (instance_joins (instance_of_items (tree_maker names_by_place p) k))) (some-inj n) (joined-does (instance_listed es) (listed-fine es) (nothing-new p))))
+      (subst (λ (k : New_node tree_reader). Does exporting p s (instance_joins (instance_of_items (tree_maker names_by_place p) k))) (sym n.0) (joined-does (instance_listed es) (listed-fine es) (nothing-new p))))
 
   -- ## One of a component
 

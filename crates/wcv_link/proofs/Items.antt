@@ -11,7 +11,7 @@ use Rattle.wcv_types.specs.Tree.{Parts}
 use Rattle.wcv_lower.specs.Checks.{IsFree}
 use Rattle.wcv_lower.specs.Context.{is_concrete, Side, importing, exporting}
 use Rattle.wcv_lower.specs.Declared.{applied, declared_export_step}
-use Rattle.wcv_lower.specs.Entries.{extern_name, written, exported, exported_values}
+use Rattle.wcv_lower.specs.Entries.{extern_name, written, exported, new_there, exported_values}
 use Rattle.wcv_lower.specs.Even.{IsBalanced}
 use Rattle.wcv_lower.specs.Growth.{step, grow, call_checks}
 use Rattle.wcv_lower.specs.Marks.{uses_each}
@@ -19,6 +19,7 @@ use Rattle.wcv_lower.specs.Names.{names_by_place}
 use Rattle.wcv_lower.specs.Owned.{OwnsNot, OwnApart, AllEntries, Everywhere, AreRegular}
 use Rattle.wcv_lower.specs.Step.{Step, apply, enters, Brought}
 use Rattle.wcv_lower.specs.Trees.{Type_tree, Tree_context, Tree_stack, tree_reader, tree_maker}
+use Rattle.wcv_lower.proofs.EntryLaws.{newly_there}
 use Rattle.wcv_lower.proofs.Bringing.{AllBring, BroughtOf, of_some, enters_bring, written_has}
 use Rattle.wcv_lower.proofs.CalmInstances.{keeps_apart}
 use Rattle.wcv_lower.proofs.EvenInstances.{regular_apart, keeps_balanced}
@@ -59,12 +60,14 @@ module _ (p : Place) (s : Tree_stack) (h : Ready p s) (g : Known) (y : Everywher
   step-does : (fs : WasmFeatures) (f : Form) (x : Step tree_reader) → MayStand f s.top → IsFree (call_checks fs (tree_maker names_by_place p) s f) → step fs (tree_maker names_by_place p) s f ≡ Some x → Does (side_of f) p s x
   step-does fs (type_item t) x may free e = type-does p s h t x e
   step-does fs (import_item i) x may free e =
-      let m = mapped-some (enters importing (extern_name i.name)) (written (tree_maker names_by_place p) s.top i.ty) x e in
-      subst (Does importing p s) m.2 (written-does p s h importing (extern_name i.name) i.ty m.0 m.1)
+      let m = mapped-some (enters importing (extern_name i.name)) (new_there importing (extern_name i.name) s.top (written (tree_maker names_by_place p) s.top i.ty)) x e in
+      let o = newly_there importing (extern_name i.name) s.top (written (tree_maker names_by_place p) s.top i.ty) m.0 m.1 in
+      subst (Does importing p s) m.2 (written-does p s h importing (extern_name i.name) i.ty m.0 o.0)
   step-does fs (export_item i) x may free e =
-      let u = mapped-some (λ (z : Step tree_reader). uses_each (exported_values i) ++ z) (option_map (enters exporting (extern_name i.name)) (exported (tree_maker names_by_place p) s.top i)) x e in
-      let m = mapped-some (enters exporting (extern_name i.name)) (exported (tree_maker names_by_place p) s.top i) u.0 u.1 in
-      subst (Does exporting p s) u.2 (uses-does exporting p s (exported_values i) u.0 (subst (Does exporting p s) m.2 (exported-does p s h (tidy-bare g s.top here) (extern_name i.name) i i.ty m.0 m.1)))
+      let u = mapped-some (λ (z : Step tree_reader). uses_each (exported_values i) ++ z) (option_map (enters exporting (extern_name i.name)) (new_there exporting (extern_name i.name) s.top (exported (tree_maker names_by_place p) s.top i))) x e in
+      let m = mapped-some (enters exporting (extern_name i.name)) (new_there exporting (extern_name i.name) s.top (exported (tree_maker names_by_place p) s.top i)) u.0 u.1 in
+      let o = newly_there exporting (extern_name i.name) s.top (exported (tree_maker names_by_place p) s.top i) m.0 m.1 in
+      subst (Does exporting p s) u.2 (uses-does exporting p s (exported_values i) u.0 (subst (Does exporting p s) m.2 (exported-does p s h (tidy-bare g s.top here) (extern_name i.name) i i.ty m.0 o.0)))
   step-does fs (core_type_item t) x may free e = core_type-does p s h fs t x e
   step-does fs (core_module_item ds) x may free e = core_module-does p s h fs ds x e
   step-does fs (core_instance_item i) x may free e = core_instance-does p s h i x e
@@ -122,7 +125,8 @@ module _ (p : Place) (s : Tree_stack) (h : Ready p s) (n : ComponentExternName) 
   pub declared-grows : (u : Tree_stack) → applied s (declared_export_step (tree_maker names_by_place p) s.top n x) ≡ Some u → Grows exporting p s u
   declared-grows u e =
       let m = mapped-some (λ (y : Step tree_reader). apply y s) (declared_export_step (tree_maker names_by_place p) s.top n x) u e in
-      let v = mapped-some (enters exporting (extern_name n)) (written (tree_maker names_by_place p) s.top x) m.0 m.1 in
+      let v = mapped-some (enters exporting (extern_name n)) (new_there exporting (extern_name n) s.top (written (tree_maker names_by_place p) s.top x)) m.0 m.1 in
+      let o = newly_there exporting (extern_name n) s.top (written (tree_maker names_by_place p) s.top x) v.0 v.1 in
       let w : Grows exporting p s (apply (entering v.0) s) =
-      does-grow p s (entering v.0) h exporting (export-owns v.0 v.1) (still-sorted (entering v.0) s (entry-joins exporting (extern_name n) v.0) h.fine.0.sorted) (written-does p s h exporting (extern_name n) x v.0 v.1) in
+      does-grow p s (entering v.0) h exporting (export-owns v.0 o.0) (still-sorted (entering v.0) s (entry-joins exporting (extern_name n) v.0) h.fine.0.sorted) (written-does p s h exporting (extern_name n) x v.0 o.0) in
       subst (λ (t : Tree_stack). Grows exporting p s t) (ap (λ (y : Step tree_reader). apply y s) v.2 ∙ m.2) w

@@ -79,7 +79,7 @@ module _ (a : Arena) (ss : List Contents) (is : Items) (b : Arena) (ts : List Co
           arena = extends_trans a b c h.going.arena r.goes_on.arena;
         };
         reads = reads_next (features_in ss) (stack_in a ss) is (numbers_of a) k (stack_in b ts) (numbers_of b) nested at f left (stack_in c us) (numbers_of c) r.nested h.reads (grown_numbers b c r.goes_on.arena) one;
-        reached = reached_behind b c ts us f h.reached (record { reads = λ p. (r.reads p).0; goes_on = r.goes_on });
+        reached = reached_behind b c ts us f h.reached r.goes_on.arena r.goes_on.features (r.reads (deeper h.reached.place h.reached.position)).0;
       }
 
   so_far_all : (left : Items) → left ≡ no_items → ItemsSoFar a ss is b ts k left nested → AcceptsItems a b ss ts is nested

@@ -1,6 +1,6 @@
 -- What items append to the instances is an instance, to the core modules a core module, and nothing is free in what they append to the
 -- core types.
-use Rattle.std.proofs.Common.{◌≡◌, ℕ, zero, suc, List, [], ◌∷◌, ◌++◌, Bool, true, false, ◌&&◌, not, cond, refl, Some, None}
+use Rattle.std.proofs.Common.{◌≡◌, ℕ, zero, suc, List, [], ◌∷◌, ◌++◌, Bool, true, false, ◌&&◌, not, cond, refl, ap, Some, None}
 use Rattle.std.specs.Prelude.{All, Option, slice_get}
 use Rattle.std.specs.Option.{option_map}
 use Rattle.std.specs.List.{list_all}
@@ -19,26 +19,26 @@ use Rattle.wcv_syntax.specs.declared.instance.ComponentAlias.{ComponentAlias}
 use Rattle.wcv_syntax.specs.declared.instance.ComponentAlias.TheVariants as alias
 use Rattle.wcv_syntax.specs.declared.instance.ComponentOuterAliasKind.{ComponentOuterAliasKind}
 use Rattle.wcv_syntax.specs.declared.instance.ComponentOuterAliasKind.TheVariants as outer
-use Rattle.wcv_syntax.specs.declared.name.ComponentExport.{ComponentExport}
 use Rattle.wcv_types.specs.Tree.{Extern_name, Sort, is_nothing, is_value, is_resource, is_func, is_instance, is_component, is_type, is_module, is_core_instance, is_core_type, is_core_item, sort}
 use Rattle.wcv_lower.specs.Aliases.{joining, outer_items, outer_at, outer_joins, is_charged, concrete_at, charged, alias_step}
 use Rattle.wcv_lower.specs.Checks.{is_none}
 use Rattle.wcv_lower.specs.Context.{in_types, in_funcs, in_values, in_instances, in_components, core_types, core_funcs, core_modules, core_instances, Core_space, Side, importing, exporting, same_side, is_concrete, at_distance}
 use Rattle.wcv_lower.specs.CoreInstances.{space_of, core_instance_made, core_instance_step, item_joins}
 use Rattle.wcv_lower.specs.CoreInstances as core
-use Rattle.wcv_lower.specs.CoreItems.{core_entries, is_closable, types_join, closed_step, module_joins, core_type_made, core_type_step, core_module_made, core_module_step}
-use Rattle.wcv_lower.specs.Canons.{func_at}
-use Rattle.wcv_lower.specs.Entries.{extern_name, written, exported, exported_values, import_step, export_step}
+use Rattle.wcv_lower.specs.CoreItems.{core_entries, may_join, types_join, closed_step, module_joins, core_type_made, core_type_step, core_module_made, core_module_step}
+use Rattle.wcv_lower.specs.Canons.{alone, func_at}
+use Rattle.wcv_lower.specs.Entries.{extern_name, written, exported, new_there, exported_values, import_step, export_step}
 use Rattle.wcv_lower.specs.Growth.{step}
-use Rattle.wcv_lower.specs.Instances.{listed_at, listed, instance_of_component, instance_of_items, instance_made, instance_joins, instance_values, instance_step, opened}
+use Rattle.wcv_lower.specs.Instances.{listed, bag_made, instance_of_component, instance_of_items, instance_made, instance_joins, instance_values, instance_step, opened}
 use Rattle.wcv_lower.specs.Marks.{uses_each, using, value_at}
 use Rattle.wcv_lower.specs.Names.{names_by_place}
 use Rattle.wcv_lower.specs.NewTypes.{new_reference}
-use Rattle.wcv_lower.specs.Readers.{instance_node}
+use Rattle.wcv_lower.specs.Readers.{New_node, instance_node}
 use Rattle.wcv_lower.specs.Start.{result_joins, start_joins, start_step}
 use Rattle.wcv_lower.specs.Step.{Change, appends, lists, introduces, defines, creates, core_appends, interns, charges, types_slots, marks_value, uses_value, names_start, Step, Brought, joins_types, joins, enters, change, apply}
 use Rattle.wcv_lower.specs.Trees.{Type_tree, Entries, Tree_context, Tree_stack, tree_reader, tree_maker, module_tree, node_tree, type_entry, created}
-use Rattle.wcv_lower.specs.Types.{type_made, added, type_step}
+use Rattle.wcv_lower.specs.Types.{type_made, added, dtor_stands, type_step}
+use Rattle.wcv_lower.proofs.SidesKept.{bag_differs}
 use Rattle.wcv_lower.proofs.Bringing.{OfAny, of_some, any_cond}
 use Rattle.wcv_link.proofs.CanonGrowing.{canon-holds}
 use Rattle.wcv_link.proofs.CoreGrowing.{sub-fine, made-fine}
@@ -159,7 +159,7 @@ module _ (p : Place) (s : Tree_stack) (h : IsFine s) where
   type-joins (component_type ds) = tt
   type-joins (instance_type ds) = tt
   type-joins (resource_type rep dtor) =
-      any_cond AllJoin (is_concrete s.top.kind) (defines (base p) (Some rep) ∷ joins_types (type_entry (new_reference names_by_place p)))
+      any_cond AllJoin (is_concrete s.top.kind && dtor_stands s.top dtor) (defines (base p) (Some rep) ∷ joins_types (type_entry (new_reference names_by_place p)))
       (more (defines (base p) (Some rep)) (joins_types (type_entry (new_reference names_by_place p))) tt (one (appends in_types (type_entry (new_reference names_by_place p))) tt))
 
   closed-joins : (g : Group) → AllJoin (closed_step tree_reader s.groups g)
@@ -170,7 +170,7 @@ module _ (p : Place) (s : Tree_stack) (h : IsFine s) where
       mapped (module_joins (tree_maker names_by_place p) k) (λ m. more (interns m.0) (core_appends k (module_tree (base p) m.1) ∷ []) tt (one (core_appends k (module_tree (base p) m.1)) (module-one k (base p) m.1))) o
 
   core_type-joins : (fs : WasmFeatures) (t : Core_type_form) → OfAny AllJoin (core_type_step fs (tree_maker names_by_place p) s t)
-  core_type-joins fs (core_rec w) = any_cond AllJoin (is_closable s.groups (core_entries s.top) w) (closed_step tree_reader s.groups (closed_group (core_entries s.top) w)) (closed-joins (closed_group (core_entries s.top) w))
+  core_type-joins fs (core_rec w) = any_cond AllJoin (may_join s.groups (core_entries s.top) w) (closed_step tree_reader s.groups (closed_group (core_entries s.top) w)) (closed-joins (closed_group (core_entries s.top) w))
   core_type-joins fs (core_module_type ds) = module-joins core_types (core_type_made fs s (core_module_type ds))
 
   -- ## Instances
@@ -178,13 +178,13 @@ module _ (p : Place) (s : Tree_stack) (h : IsFine s) where
   joined : (b : Brought tree_reader) → sort b.entity ≡ is_instance → AllJoin (instance_joins b)
   joined b e = more (introduces exporting b.resources) (appends in_instances b.entity ∷ []) tt (one (appends in_instances b.entity) e)
 
-  bag-joins : (b : Bool) (es : Entries) → OfAny AllJoin (option_map instance_joins (option_map (instance_of_items (tree_maker names_by_place p)) (cond b (Some (instance_node [] es)) None)))
-  bag-joins true es = joined (instance_of_items (tree_maker names_by_place p) (instance_node [] es)) refl
-  bag-joins false es = tt
-
   made-join : (i : Instance_form) → OfAny AllJoin (option_map instance_joins (instance_made (tree_maker names_by_place p) s i))
   made-join (instantiate i args) = mapped-twice instance_joins (instance_of_component (tree_maker names_by_place p)) (λ o. joined (instance_of_component (tree_maker names_by_place p) o) refl) (opened s i args)
-  made-join (bag es) = bag-joins (list_all (λ (e : ComponentExport). not (is_none (listed_at s.top e))) es) (listed s.top es)
+  made-join (bag es) = go (bag_made s.top es) (λ n e. (bag_differs s.top es n e).0)
+    where
+      go : (o : Option (New_node tree_reader)) → ((n : New_node tree_reader) → o ≡ Some n → n ≡ instance_node [] (listed s.top es)) → OfAny AllJoin (option_map instance_joins (option_map (instance_of_items (tree_maker names_by_place p)) o))
+      go None h = tt
+      go (Some n) h = joined (instance_of_items (tree_maker names_by_place p) n) (ap (λ (m : New_node tree_reader). sort (node_tree (base p) m)) (h n refl))
 
   instances-join : (i : Instance_form) → OfAny AllJoin (instance_step (tree_maker names_by_place p) s i)
   instances-join i = using-all (instance_values i) (option_map instance_joins (instance_made (tree_maker names_by_place p) s i)) (made-join i)
@@ -238,11 +238,11 @@ module _ (p : Place) (s : Tree_stack) (h : IsFine s) where
 
   pub items-join : (fs : WasmFeatures) (f : Form) (x : Step tree_reader) → step fs (tree_maker names_by_place p) s f ≡ Some x → AllJoin x
   items-join fs (type_item t) x e = of_some AllJoin (type_step (tree_maker names_by_place p) s.top t) x (type-joins t) e
-  items-join fs (import_item i) x e = of_some AllJoin (import_step (tree_maker names_by_place p) s.top i) x (mapped (enters importing (extern_name i.name)) (λ b. entry-joins importing (extern_name i.name) b) (written (tree_maker names_by_place p) s.top i.ty)) e
+  items-join fs (import_item i) x e = of_some AllJoin (import_step (tree_maker names_by_place p) s.top i) x (mapped (enters importing (extern_name i.name)) (λ b. entry-joins importing (extern_name i.name) b) (new_there importing (extern_name i.name) s.top (written (tree_maker names_by_place p) s.top i.ty))) e
   items-join fs (export_item i) x e =
       of_some AllJoin (export_step (tree_maker names_by_place p) s.top i) x
-      (using-all (exported_values i) (option_map (enters exporting (extern_name i.name)) (exported (tree_maker names_by_place p) s.top i))
-      (mapped (enters exporting (extern_name i.name)) (λ b. entry-joins exporting (extern_name i.name) b) (exported (tree_maker names_by_place p) s.top i))) e
+      (using-all (exported_values i) (option_map (enters exporting (extern_name i.name)) (new_there exporting (extern_name i.name) s.top (exported (tree_maker names_by_place p) s.top i)))
+      (mapped (enters exporting (extern_name i.name)) (λ b. entry-joins exporting (extern_name i.name) b) (new_there exporting (extern_name i.name) s.top (exported (tree_maker names_by_place p) s.top i)))) e
   items-join fs (core_type_item t) x e = of_some AllJoin (core_type_step fs (tree_maker names_by_place p) s t) x (core_type-joins fs t) e
   items-join fs (core_module_item ds) x e = of_some AllJoin (core_module_step fs (tree_maker names_by_place p) s ds) x (module-joins core_modules (core_module_made fs s ds)) e
   items-join fs (core_instance_item i) x e = of_some AllJoin (core_instance_step (tree_maker names_by_place p) s i) x (mapped (core.instance_joins (tree_maker names_by_place p)) (λ m. one (core_appends core_instances (node_tree (base p) m)) tt) (core_instance_made s i)) e
@@ -250,4 +250,4 @@ module _ (p : Place) (s : Tree_stack) (h : IsFine s) where
   items-join fs (instance_item i) x e = of_some AllJoin (instance_step (tree_maker names_by_place p) s i) x (instances-join i) e
   items-join fs (alias_item a) x e = of_some AllJoin (alias_step s a) x (aliases-join a) e
   items-join fs (start_item f args n) x e = of_some AllJoin (start_step s.top f args) x (starts-join f args) e
-  items-join fs (canon_item c) x e = canon-holds s AllJoin (λ v y w. more (types_slots v) y tt w) (λ g. more (interns (grown s.groups g)) (core_appends core_funcs (func_item s.groups g) ∷ []) tt (one (core_appends core_funcs (func_item s.groups g)) tt)) (λ k t q. one (appends in_funcs t) tt) c x e
+  items-join fs (canon_item c) x e = canon-holds s AllJoin (λ v y w. more (types_slots v) y tt w) (λ b w. let g : Group = closed_group (core_entries s.top) (alone b w) in more (interns (grown s.groups g)) (core_appends core_funcs (func_item s.groups g) ∷ []) tt (one (core_appends core_funcs (func_item s.groups g)) tt)) (λ k t q. one (appends in_funcs t) tt) c x e

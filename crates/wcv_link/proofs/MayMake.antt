@@ -21,11 +21,10 @@ use Rattle.wcv_matching.specs.Orderly.{EachNode, EachNodeIn}
 use Rattle.wcv_matching.specs.SameTypes.{made_at}
 use Rattle.wcv_subtype.specs.Hygiene.{Apart, ApartIn, Hygienic, HygienicIn}
 use Rattle.wcv_subtype.specs.Openings.{EntitiesAlike}
-use Rattle.wcv_lower.specs.Given.{Numbers}
 use Rattle.wcv_lower.specs.Instances.{component_at, arguments}
 use Rattle.wcv_lower.specs.Instantiated.{opening}
 use Rattle.wcv_lower.specs.Names.{names_by_place}
-use Rattle.wcv_lower.specs.Owned.{OwnsNot, OwnsNotIn, OwnsApart, OwnApart, AllEntries, IsOwn, IsCalm}
+use Rattle.wcv_lower.specs.Owned.{OwnsNot, OwnsNotIn, OwnsApart, OwnApart, AllEntries, IsOwn}
 use Rattle.wcv_lower.specs.Trees.{Tree_context, Tree_stack}
 use Rattle.wcv_lower.proofs.Bringing.{of_some}
 use Rattle.wcv_lower.proofs.EvenTypes.{each_weaker}
@@ -263,17 +262,23 @@ pub is_own : (c : Tree_context) (r : Name) → In c r → IsOwn c r
 is_own c r (inl h) = member_left r (names_in c.imported) (names_in c.defined) (has-member c.imported r h)
 is_own c r (inr h) = member_right r (names_in c.imported) (names_in c.defined) (has-member c.defined r h)
 
-module _ (a : Numbers) (s : Tree_stack) (g : Known) (calm : IsCalm a s) (listed : AllEntries (Within (In s.top)) s.top) (tidy : AllEntries (TidyEntry g) s.top) (k : ℕ) (t : Type_tree) (e : component_at s.top k ≡ Some t) where
+-- what is free in the entries of the context is listed there, and they own apart, and own nothing that is listed
+pub record Owns (c : Tree_context) : Type 0 where
+  pub listed : AllEntries (Within (In c)) c
+  pub apart : AllEntries OwnApart c
+  pub spared : (r : Name) → In c r → AllEntries (OwnsNot r) c
+
+module _ (s : Tree_stack) (g : Known) (owns : Owns s.top) (tidy : AllEntries (TidyEntry g) s.top) (k : ℕ) (t : Type_tree) (e : component_at s.top k ≡ Some t) where
   has : (P : Type_tree → Type 0) → AllEntries P s.top → P t
   has P all = of_some P (component_at s.top k) t (component_has P s.top all k) e
 
   owns_not : (r : Name) → Free r t → OwnsNot r t
-  owns_not r x = has (OwnsNot r) (calm.spared 0 s.top r refl (is_own s.top r (has (Within (In s.top)) listed r x)) 0 s.top refl)
+  owns_not r x = has (OwnsNot r) (owns.spared r (has (Within (In s.top)) owns.listed r x))
 
   pub may_make : (args : List ComponentInstantiationArg) → MayMake (arguments s.top args) t
   may_make args =
       let w : TidyEntry g t = has (TidyEntry g) tidy in
-      let o : OwnsApart t = own_apart t (has OwnApart (calm.apart 0 s.top refl)) in
+      let o : OwnsApart t = own_apart t (has OwnApart owns.apart) in
       record {
         owned = o;
         given = given-hygienic g t (arguments s.top args) w o owns_not;

@@ -8,6 +8,7 @@ use Rattle.wcv_syntax.specs.Model.{Form, component_item, Items}
 use Rattle.wcv_types.specs.Arena.{Arena}
 use Rattle.wcv_types.specs.Entities.{entry_trees}
 use Rattle.wcv_types.specs.Sets.{identities}
+use Rattle.wcv_types.specs.Standing.{Extends}
 use Rattle.wcv_types.specs.Unfold.{trees}
 use Rattle.wcv_lower.specs.Checks.{IsFree}
 use Rattle.wcv_lower.specs.Context.{concrete}
@@ -29,7 +30,6 @@ use Rattle.wcv_decls.specs.Declaring.{features_in, stack_in, Opened}
 use Rattle.wcv_decls.proofs.Opening.{opened_stack}
 use Rattle.wcv_decls.proofs.ReadingOn.{grown_numbers}
 use Rattle.wcv_link.specs.ItemCalls.{ItemRead}
-use Rattle.wcv_link.specs.Progress.{AcceptsItem}
 use Rattle.wcv_link.specs.Reached.{Reached, at_start, behind, within, Earlier, IsReached}
 use Rattle.wcv_link.specs.Valid.{start}
 use Rattle.wcv_link.proofs.ValidRead.{weaker, valid_item-agrees, valid_item-renamed}
@@ -105,22 +105,20 @@ no_fewer : (b : Numbers) → AtMost no_numbers b
 no_fewer b = record { resources = omega arith; nodes = omega arith; stamps = omega arith }
 
 -- behind an item, by the names so far and those that were given for it
-module _ (a b : Arena) (ss ss' : List Contents) (f : Form) (h : IsReached a ss) (x : AcceptsItem a b ss ss' f) where
+module _ (a b : Arena) (ss ss' : List Contents) (f : Form) (h : IsReached a ss) (grown : Extends a b) (same : features_in ss' ≡ features_in ss)
+    (read : ItemRead (features_in ss) (deeper h.place h.position) (stack_in a ss) f (stack_in b ss') (numbers_of a) (numbers_of b)) where
   abbrev w : Place
   w = h.place
 
   abbrev k : ℕ
   k = h.position
 
-  abbrev read : ItemRead (features_in ss) (deeper w k) (stack_in a ss) f (stack_in b ss') (numbers_of a) (numbers_of b)
-  read = x.reads (deeper w k)
-
   abbrev all : GivenNames
   all = both_given h.names read.0
 
   all_given : GivesAt (Earlier w (suc k)) no_numbers (numbers_of b) all
   all_given =
-      gives_both (Earlier w k) (Under (deeper w k)) (Earlier w (suc k)) no_numbers (numbers_of a) (numbers_of b) (no_fewer (numbers_of a)) (grown_numbers a b x.goes_on.arena) (not_earlier w k) (earlier_still w k) (earlier_then w k)
+      gives_both (Earlier w k) (Under (deeper w k)) (Earlier w (suc k)) no_numbers (numbers_of a) (numbers_of b) (no_fewer (numbers_of a)) (grown_numbers a b grown) (not_earlier w k) (earlier_still w k) (earlier_then w k)
       h.names read.0 h.given read.1
 
   before_same : SameNames (Earlier w k) (names_of h.names) (names_of all)
@@ -135,7 +133,7 @@ module _ (a b : Arena) (ss ss' : List Contents) (f : Form) (h : IsReached a ss) 
     position = suc k;
     names = all;
     given = all_given;
-    reached = subst (λ (fs : WasmFeatures). Reached fs (names_of all) w (suc k) (stack_in b ss')) (sym x.goes_on.features)
+    reached = subst (λ (fs : WasmFeatures). Reached fs (names_of all) w (suc k) (stack_in b ss')) (sym same)
         (behind w k (stack_in a ss) (stack_in b ss') f (reached-agrees (features_in ss) (names_of h.names) (names_of all) w k (stack_in a ss) before_same h.reached)
         (valid_item-agrees (features_in ss) (names_of read.0) (names_of all) (deeper w k) (stack_in a ss) f here_same read.2)
         (read_item-agrees (names_of read.0) (names_of all) (deeper w k) here_same (features_in ss) (stack_in a ss) f ∙ read.3));

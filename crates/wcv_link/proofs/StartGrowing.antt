@@ -35,7 +35,7 @@ given-some t x e = go (same_sort is_nothing (sort t)) e
 
 -- it has what each of the parts has
 module _ (A : Parts Name Name → Type 0) (Q : Type_tree → Type 0) (each : (k : Role) (t : Type_tree) (ps : Parts Name Name) → A (part k t ps) → Q t × A ps) where
-  unlabelled-has : (ps : Parts Name Name) (x : Type_tree) → A ps → unlabelled ps ≡ Some x → Q x
+  pub unlabelled-has : (ps : Parts Name Name) (x : Type_tree) → A ps → unlabelled ps ≡ Some x → Q x
   unlabelled-has none x a e = cc
   unlabelled-has (part here t ps) x a e = subst Q (given-some t x e) (each here t ps a).0
   unlabelled-has (part (label l) t ps) x a e = unlabelled-has ps x (each (label l) t ps a).1 e

@@ -12,6 +12,7 @@ use Rattle.wcv_matching.specs.Orderly.{EachNode, EachNodeIn, AreNamedApart}
 use Rattle.wcv_lower.specs.Context.{Kind, empty}
 use Rattle.wcv_lower.specs.Even.{IsLevel}
 use Rattle.wcv_lower.specs.Owned.{AllEntries, Everywhere}
+use Rattle.wcv_lower.specs.SideNames.{AllSidesDiffer}
 use Rattle.wcv_lower.specs.Step.{Step, apply}
 use Rattle.wcv_lower.specs.Trees.{Tree_context, Tree_stack, tree_reader}
 use Rattle.wcv_lower.proofs.Applied.{applied_has}
@@ -21,7 +22,6 @@ use Rattle.wcv_link.proofs.Alike.{IsAlike}
 use Rattle.wcv_link.proofs.Bare.{OwnsNothing, EntriesOwnNothing, ValuesOwnNothing, IsBare, AreBare}
 use Rattle.wcv_link.proofs.Known.{Any, entries-weaker}
 use Rattle.wcv_link.proofs.Placed.{PlacedAt, PlacedUnder, PlacedBefore, placed_here, later, by_this_item, in_list, not_yet, not_in_list}
-use Rattle.wcv_link.proofs.SideNames.{AllSidesDiffer}
 
 -- ## Types
 

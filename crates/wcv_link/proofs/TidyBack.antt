@@ -1,15 +1,16 @@
 -- What is tidy under other names is tidy under those before, and what is free in its entries is listed there.
-use Rattle.std.proofs.Common.{◌≡◌, ℕ, List, [], ◌∷◌, ◌||◌, map, bytes_eq, refl, sym, ◌∙◌, ap, subst, Some}
+use Rattle.std.proofs.Common.{◌≡◌, ℕ, List, [], ◌∷◌, ◌||◌, map, bytes_eq, refl, sym, ◌∙◌, ap, subst, Some, inl, inr}
 use Rattle.std.specs.List.{IsDistinct}
 use Rattle.std.specs.Map.{keys_of}
 use Rattle.std.specs.Option.{option_map}
 use Rattle.wcv_core.specs.Names.{Name, member}
 use Rattle.wcv_types.specs.Identity.{rename_identity}
 use Rattle.wcv_types.specs.Rename.{rename_head, rename, rename_parts, rename_paths}
-use Rattle.wcv_types.specs.Resources.{Free}
+use Rattle.wcv_types.specs.Resources.{Free, owns}
 use Rattle.wcv_types.specs.Tree.{Text, Extern_name, Head, here, label, import, export, core_import, core_export, nothing, resource, func, instance, component, type_entity, core_module, core_item, node, Parts, none, part, owned_at, owned, firsts}
 use Rattle.wcv_types.specs.Unfold.{Type_tree}
 use Rattle.wcv_types.proofs.All.{all-mapped_back}
+use Rattle.wcv_types.proofs.Commute.{owns-renamed}
 use Rattle.wcv_types.proofs.FreeRenamed.{free-renamed}
 use Rattle.wcv_types.proofs.Identity.{same_under, identity-same}
 use Rattle.wcv_types.proofs.Renaming.{each-always}
@@ -19,14 +20,16 @@ use Rattle.wcv_matching.specs.Matching.{named_exports_in, named_imports_in}
 use Rattle.wcv_matching.specs.Orderly.{EachNodeIn, AreNamedApart}
 use Rattle.wcv_lower.specs.Even.{IsLevel}
 use Rattle.wcv_lower.specs.Mapped.{map_context}
-use Rattle.wcv_lower.specs.Owned.{AllEntries}
+use Rattle.wcv_lower.specs.Owned.{AllEntries, OwnApart, OwnApartIn, OwnsNot, OwnsNotIn}
 use Rattle.wcv_lower.specs.Renamed.{Renaming, renaming}
 use Rattle.wcv_lower.specs.Trees.{Tree_context}
 use Rattle.wcv_lower.proofs.Renamed.{member-renamed}
 use Rattle.wcv_lower.proofs.TreeLaws.{sort-renamed}
 use Rattle.wcv_link.proofs.Alike.{SameKind, IsAlike}
 use Rattle.wcv_link.proofs.Bare.{OwnsNothing, EntriesOwnNothing, PartsOwnNothing, ValuesOwnNothing}
+use Rattle.wcv_link.proofs.Having.{has-renamed}
 use Rattle.wcv_link.proofs.Known.{Within, In, in-renamed_back}
+use Rattle.wcv_link.proofs.MayMake.{Owns}
 use Rattle.wcv_link.proofs.Tidy.{Known, HeadApart, IsPlain, IsTidy, TidyType, TidyEntry}
 
 module _ (w : Renaming) where
@@ -221,5 +224,36 @@ module _ (w : Renaming) where
     free-renamed_in r t = free-renamed f w.resources.back g (λ i. Unit {0}) r t (each-always (λ (q : Name). w.resources.back (f q) ≡ q) (λ (i : Name). Unit {0}) w.resources.is_back (λ i. tt) t)
 
     -- what is free in an entry is listed
-    pub within-renamed_back : AllEntries (Within (In d)) d → AllEntries (Within (In c)) c
+    within-renamed_back : AllEntries (Within (In d)) d → AllEntries (Within (In c)) c
     within-renamed_back = entries-renamed_back (Within (In d)) (Within (In c)) (λ t h r x. in-renamed_back w c r (h (f r) (free-renamed_in r t x)))
+
+    -- types own apart as before, and none owns what is listed
+    owns-same : (h : Head Name Name) (r : Name) → owns (rename_head f g h) (f r) ≡ owns h r
+    owns-same h r = owns-renamed f w.resources.back g (λ i. Unit {0}) h r (each-always (λ (q : Name). w.resources.back (f q) ≡ q) (λ (i : Name). Unit {0}) w.resources.is_back (λ i. tt) (node h none)).0 (w.resources.is_back r)
+
+    mutual
+      owns_not-renamed_back : (r : Name) (t : Type_tree) → OwnsNot (f r) (to t) → OwnsNot r t
+      owns_not-renamed_back r (node h ps) o = (sym (owns-same h r) ∙ o.0, owns_not_in-renamed_back r ps o.1)
+
+      owns_not_in-renamed_back : (r : Name) (ps : Parts Name Name) → OwnsNotIn (f r) (rename_parts f g ps) → OwnsNotIn r ps
+      owns_not_in-renamed_back r none o = tt
+      owns_not_in-renamed_back r (part k t ps) o = (owns_not-renamed_back r t o.0, owns_not_in-renamed_back r ps o.1)
+
+    mutual
+      own_apart-renamed_back : (t : Type_tree) → OwnApart (to t) → OwnApart t
+      own_apart-renamed_back (node h ps) o = ((λ r e. owns_not_in-renamed_back r ps (o.0 (f r) (owns-same h r ∙ e))), own_apart_in-renamed_back ps o.1)
+
+      own_apart_in-renamed_back : (ps : Parts Name Name) → OwnApartIn (rename_parts f g ps) → OwnApartIn ps
+      own_apart_in-renamed_back none o = tt
+      own_apart_in-renamed_back (part k t ps) o = (own_apart-renamed_back t o.0, own_apart_in-renamed_back ps o.1)
+
+    in-renamed : (r : Name) → In c r → In d (f r)
+    in-renamed r (inl x) = inl (has-renamed f c.imported r x)
+    in-renamed r (inr x) = inr (has-renamed f c.defined r x)
+
+    pub owns-renamed_back : AllEntries (Within (In d)) d → AllEntries OwnApart d → ((r : Name) → In d r → AllEntries (OwnsNot r) d) → Owns c
+    owns-renamed_back listed apart spared = record {
+      listed = within-renamed_back listed;
+      apart = entries-renamed_back OwnApart OwnApart own_apart-renamed_back apart;
+      spared = λ r i. entries-renamed_back (OwnsNot (f r)) (OwnsNot r) (owns_not-renamed_back r) (spared (f r) (in-renamed r i));
+    }

@@ -1,5 +1,5 @@
 -- What core items and canonical functions bring to a context is tidy.
-use Rattle.std.proofs.Common.{◌≡◌, ℕ, suc, List, [], ◌∷◌, Bool, true, false, not, cond, refl, subst, Some, None}
+use Rattle.std.proofs.Common.{◌≡◌, ℕ, List, [], ◌∷◌, Bool, true, false, not, cond, refl, subst, Some, None}
 use Rattle.std.specs.Prelude.{Option}
 use Rattle.std.specs.Option.{option_map, option_and_then}
 use Rattle.std.specs.List.{list_all}
@@ -21,22 +21,22 @@ use Rattle.wcv_types.specs.Tree.{Text, is_func, here, core_import, core_export, 
 use Rattle.wcv_types.specs.Unfold.{capped}
 use Rattle.wcv_types.proofs.Lists.{some-inj}
 use Rattle.wcv_matching.specs.Formed.{ItemsAlone}
-use Rattle.wcv_lower.specs.Canons.{func_joins, canon_step}
+use Rattle.wcv_lower.specs.Canons.{alone, func_joins, canon_step}
 use Rattle.wcv_lower.specs.Checks.{is_none}
 use Rattle.wcv_lower.specs.Context.{in_funcs, Core_space, core_types, core_funcs, core_modules, core_instances}
-use Rattle.wcv_lower.specs.CoreInstances.{space_of, core_module_at, core_instance_at, item_listed, items_listed, listed_size, core_instance_made, instance_joins, core_instance_step, core_export_of, if_of, item_joins, core_alias_step}
-use Rattle.wcv_lower.specs.CoreItems.{core_entries, is_closable, types_join, closed_step, module_joins, core_type_made, core_module_made, core_type_step, core_module_step}
+use Rattle.wcv_lower.specs.CoreInstances.{space_of, core_module_at, core_instance_at, item_listed, items_listed, listed_size, module_instance, core_instance_made, instance_joins, core_instance_step, core_export_of, if_of, item_joins, core_alias_step}
+use Rattle.wcv_lower.specs.CoreItems.{core_entries, may_join, types_join, closed_step, module_joins, core_type_made, core_module_made, core_type_step, core_module_step}
 use Rattle.wcv_lower.specs.Names.{names_by_place}
 use Rattle.wcv_lower.specs.Owned.{AllEntries}
 use Rattle.wcv_lower.specs.Readers.{New_node, core_instance_node, core_exports_node}
 use Rattle.wcv_lower.specs.Step.{appends, core_appends, interns, types_slots, Step}
 use Rattle.wcv_lower.specs.Trees.{Type_tree, Tree_stack, tree_reader, tree_maker, module_tree, node_tree}
 use Rattle.wcv_lower.proofs.Bringing.{Brings, AllBring, brings_one, brings_more}
+use Rattle.wcv_lower.proofs.SidesKept.{no_names}
 use Rattle.wcv_link.proofs.Bare.{OwnsNothing}
 use Rattle.wcv_link.proofs.CanonGrowing.{canon-holds}
 use Rattle.wcv_link.proofs.CoreGrowing.{if-some}
 use Rattle.wcv_link.proofs.Known.{mapped-some, all-get, Any}
-use Rattle.wcv_link.proofs.SideNames.{no-names}
 use Rattle.wcv_link.proofs.Tidy.{Known, TidyType, TidyEntry, NoneAt, BringsTidy, brings-known}
 use Rattle.wcv_link.proofs.TidyTypes.{AreInner, inner-named, AreTidy, leaf-tidy, one-more, with_node, knows-node, node-tidy, NodeTidy, plain-tidy}
 
@@ -97,7 +97,7 @@ module _ (p : Place) (s : Tree_stack) (g : Known) (y : AllEntries (TidyEntry g) 
           }
 
   pub core_type-tidy : (fs : WasmFeatures) (t : Core_type_form) (x : Step tree_reader) → core_type_step fs (tree_maker names_by_place p) s t ≡ Some x → BringsTidy p g x
-  core_type-tidy fs (core_rec w) x e = go (is_closable s.groups (core_entries s.top) w) e
+  core_type-tidy fs (core_rec w) x e = go (may_join s.groups (core_entries s.top) w) e
     where
       go : (b : Bool) → cond b (Some (closed_step tree_reader s.groups (closed_group (core_entries s.top) w))) None ≡ Some x → BringsTidy p g x
       go true k = subst (BringsTidy p g) (some-inj k) (closed-tidy (closed_group (core_entries s.top) w))
@@ -123,11 +123,12 @@ module _ (p : Place) (s : Tree_stack) (g : Known) (y : AllEntries (TidyEntry g) 
   pub core_instance-tidy : (i : Core_instance_form) (x : Step tree_reader) → core_instance_step (tree_maker names_by_place p) s i ≡ Some x → BringsTidy p g x
   core_instance-tidy (core_instantiate i args) x e =
       let m = mapped-some joins_as (core_instance_made s (core_instantiate i args)) x e in
-      let o = if-some (list_all (λ (a : InstantiationArg). not (is_none (core_instance_at s.top a.index))) args) (option_map core_instance_node (core_module_at s.top i)) m.0 m.1 in
-      let t = mapped-some core_instance_node (core_module_at s.top i) m.0 o in
+      let o = if-some (list_all (λ (a : InstantiationArg). not (is_none (core_instance_at s.top a.index))) args) (option_map (module_instance tree_reader s.groups) (core_module_at s.top i)) m.0 m.1 in
+      let t = mapped-some (module_instance tree_reader s.groups) (core_module_at s.top i) m.0 o in
+      let k : ℕ = listed_size s.groups (tree_reader.core_exports t.0) in
       let w : TidyEntry g t.0 = all-get (TidyEntry g) (s.top.core core_modules) i t.0 (y.core core_modules) t.1 in
       subst (BringsTidy p g) m.2
-      (subst Joins t.2 (instance-joins (core_instance_node t.0) refl (node-tidy p g unknown (core_instance (base p) (capped (suc (size t.0)))) (part here t.0 none) refl tt tt tt (no-names, no-names) (one-more g here t.0 none w (tt, tt)))))
+      (subst Joins t.2 (instance-joins (core_instance_node k t.0) refl (node-tidy p g unknown (core_instance (base p) (capped k)) (part here t.0 none) refl tt tt tt (no_names, no_names) (one-more g here t.0 none w (tt, tt)))))
   core_instance-tidy (core_bag es) x e =
       let m = mapped-some joins_as (core_instance_made s (core_bag es)) x e in
       let k : ℕ = listed_size s.groups (items_listed s.top es) in
@@ -153,5 +154,5 @@ module _ (p : Place) (s : Tree_stack) (g : Known) (y : AllEntries (TidyEntry g) 
   pub canon-tidy : (f : Canon_form) (x : Step tree_reader) → canon_step s f ≡ Some x → BringsTidy p g x
   canon-tidy f x e =
       brings-known p g x
-      (canon-holds s (AllBring (TidyEntry g) Any) (λ v z w. brings_more (TidyEntry g) Any (types_slots v) z tt w) core-brings
+      (canon-holds s (AllBring (TidyEntry g) Any) (λ v z w. brings_more (TidyEntry g) Any (types_slots v) z tt w) (λ b w. core-brings (closed_group (core_entries s.top) (alone b w)))
       (λ k t q. brings_one (TidyEntry g) Any (appends in_funcs t) (plain-tidy g s.top y is_func k t refl q)) f x e)

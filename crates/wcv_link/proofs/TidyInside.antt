@@ -19,11 +19,13 @@ use Rattle.wcv_lower.specs.Items.{read_item, read_items}
 use Rattle.wcv_lower.specs.Names.{names_by_place}
 use Rattle.wcv_lower.specs.Owned.{AllEntries, Everywhere}
 use Rattle.wcv_lower.specs.Readers.{New_node}
+use Rattle.wcv_lower.specs.SideNames.{SidesDiffer, AllSidesDiffer}
 use Rattle.wcv_lower.specs.Step.{appends, apply}
 use Rattle.wcv_lower.specs.Trees.{Entries, Tree_context, Tree_stack, tree_reader, tree_maker, node_tree}
 use Rattle.wcv_lower.proofs.Bringing.{brings_one}
 use Rattle.wcv_lower.proofs.Calm.{inside_has, around_has}
 use Rattle.wcv_lower.proofs.Given.{not_so}
+use Rattle.wcv_lower.proofs.SidesKept.{inside_differ, decl_differ, item_differ}
 use Rattle.wcv_link.proofs.Bare.{OwnsNothing}
 use Rattle.wcv_link.proofs.Charged.{AllCharged, all_themselves, all_twice}
 use Rattle.wcv_link.proofs.Closed.{IsClosed, firsts-has, instance-closed, component-closed}
@@ -36,12 +38,11 @@ use Rattle.wcv_link.proofs.Looking.{sorted-fine}
 use Rattle.wcv_link.proofs.Near.{Near}
 use Rattle.wcv_link.proofs.Outer.{ends}
 use Rattle.wcv_link.proofs.Settled.{Settles, inside-settles, settles-ready, settles-more}
-use Rattle.wcv_link.proofs.SideNames.{ItemNamed, SidesDiffer, AllSidesDiffer, inside-differ}
-use Rattle.wcv_link.proofs.SidesKept.{item-differ, item-named, type-free, decls-free, decls-end, decl-differ, type_item-free, plain-free}
 use Rattle.wcv_link.proofs.Sound.{IsSound}
 use Rattle.wcv_link.proofs.Tidy.{Known, TidyEntry, NoneKnown, NoneAt, knows-both, BringsTidy, TidyBehind, apply-tidy, Tidy, first-tidy, tidy-ready, tidy-here, tidy-knows, tidy-next}
 use Rattle.wcv_link.proofs.TidyEntering.{LeadsIn}
 use Rattle.wcv_link.proofs.TidyItems.{added-tidy, grow-tidy, declared-tidy}
+use Rattle.wcv_link.proofs.Uncaused.{type-free, decls-free, decls-end, type_item-free, plain-free}
 use Rattle.wcv_link.proofs.ValidRead.{valid_reads}
 use Rattle.wcv_link.specs.Valid.{ValidFrom, ValidItem}
 use Rattle.wcv_link.proofs.TidyTypes.{with_node, knows-node, exports-alone, sides-alone, exports-named, sides-named, entries-tidy, NodeTidy, node-tidy}
@@ -50,7 +51,7 @@ use Rattle.wcv_link.proofs.TidyTypes.{with_node, knows-node, exports-alone, side
 sound-led : (t : Type_tree) → IsSound t → Led t
 sound-led (node h ps) w = w.0.1
 
-ready-leads : (p : Place) (s : Tree_stack) → Ready p s → LeadsIn s.top
+pub ready-leads : (p : Place) (s : Tree_stack) → Ready p s → LeadsIn s.top
 ready-leads p s h k t e = sound-led t (sorted-fine (Near s) s.top h.fine.0.entries is_instance k t e).1
 
 -- ## The end
@@ -145,7 +146,7 @@ pub record ItemsRead (w : Place) (g : Known) (s u : Tree_stack) : Type 0 where
 
 -- before the first
 pub begins-tidy : (p : Place) (k : Kind) (g : Known) (s : Tree_stack) → Everywhere (TidyEntry g) s → AllSidesDiffer s → Tidy p 0 g (inside k s)
-begins-tidy p k g s y d = first-tidy p g (inside k s) (inside_has k s (TidyEntry g) y) (inside-differ k s d)
+begins-tidy p k g s y d = first-tidy p g (inside k s) (inside_has k s (TidyEntry g) y) (inside_differ k s d)
 
 module _ (fs : WasmFeatures) where
   -- the ends of declared types
@@ -163,8 +164,8 @@ module _ (fs : WasmFeatures) where
   )
 
   -- what is read in one step
-  form-behind : (p : Place) (g : Known) (s u : Tree_stack) (f : Form) → MayStand f s.top → IsFree (call_checks fs (tree_maker names_by_place p) s f) → ItemNamed s.top f → grow fs (tree_maker names_by_place p) s f ≡ Some u → NoneKnown p g → Ready p s → Everywhere (TidyEntry g) s → Behind (side_of f) p g s u
-  form-behind p g s u f may free d e n h y = (grow-grows p s h g y fs f u may free e, grow-tidy p s (ready-leads p s h) g y n fs f u d e)
+  form-behind : (p : Place) (g : Known) (s u : Tree_stack) (f : Form) → MayStand f s.top → IsFree (call_checks fs (tree_maker names_by_place p) s f) → grow fs (tree_maker names_by_place p) s f ≡ Some u → NoneKnown p g → Ready p s → Everywhere (TidyEntry g) s → Behind (side_of f) p g s u
+  form-behind p g s u f may free e n h y = (grow-grows p s h g y fs f u may free e, grow-tidy p s (ready-leads p s h) g y n fs f u e)
 
   mutual
     type-behind : (p : Place) (g : Known) (s v : Tree_stack) (t : Type_form) → IsFree (declared_checks true fs (tree_maker names_by_place) p s t) → read_type fs (tree_maker names_by_place) p s t ≡ Some v → NoneKnown p g → Ready p s →
@@ -177,17 +178,17 @@ module _ (fs : WasmFeatures) where
         let m = then-some (ended declares_instance (tree_maker names_by_place p)) (read_decls fs (tree_maker names_by_place) p 0 (inside declares_instance s) ds) v e in
         instance-behind p g s m.0 v ds (decls-end fs names_by_place declares_instance p 0 (inside declares_instance s) m.0 ds (type-free fs names_by_place declares_instance p s ds free) m.1) n h
         (decls-behind declares_instance p 0 g (inside declares_instance s) m.0 ds (type-free fs names_by_place declares_instance p s ds free) m.1 n (inside-settles p declares_instance s (λ k. absurd (false≢true k)) h) (begins-tidy p declares_instance g s y d)) m.2
-    type-behind p g s v (defined_type t) free e n h y d = form-behind p g s v (type_item (defined_type t)) tt free tt e n h y
-    type-behind p g s v (func_type t) free e n h y d = form-behind p g s v (type_item (func_type t)) tt free tt e n h y
-    type-behind p g s v (resource_type rep dtor) free e n h y d = form-behind p g s v (type_item (resource_type rep dtor)) tt free tt e n h y
+    type-behind p g s v (defined_type t) free e n h y d = form-behind p g s v (type_item (defined_type t)) tt free e n h y
+    type-behind p g s v (func_type t) free e n h y d = form-behind p g s v (type_item (func_type t)) tt free e n h y
+    type-behind p g s v (resource_type rep dtor) free e n h y d = form-behind p g s v (type_item (resource_type rep dtor)) tt free e n h y
 
     decl-behind : (p : Place) (g : Known) (s u : Tree_stack) (d : Decl) → IsFree (decl_checks fs (tree_maker names_by_place) p s d) → read_decl fs (tree_maker names_by_place) p s d ≡ Some u → NoneKnown p g → Ready p s →
         Everywhere (TidyEntry g) s → AllSidesDiffer s → Behind (decl_side d) p g s u
-    decl-behind p g s u (core_type_decl t) free e n h y d = form-behind p g s u (core_type_item t) tt free tt e n h y
+    decl-behind p g s u (core_type_decl t) free e n h y d = form-behind p g s u (core_type_item t) tt free e n h y
     decl-behind p g s u (type_decl t) free e n h y d = type-behind p g s u t free e n h y d
-    decl-behind p g s u (alias_decl a) free e n h y d = form-behind p g s u (alias_item a) tt free tt e n h y
+    decl-behind p g s u (alias_decl a) free e n h y d = form-behind p g s u (alias_item a) tt free e n h y
     decl-behind p g s u (export_decl x r) free e n h y d = (declared-grows p s h x r u e, declared-tidy p s (ready-leads p s h) g y n x r u e)
-    decl-behind p g s u (import_decl i) free e n h y d = form-behind p g s u (import_item i) tt free tt e n h y
+    decl-behind p g s u (import_decl i) free e n h y d = form-behind p g s u (import_item i) tt free e n h y
 
     decls-behind : (k : Kind) (p : Place) (n : ℕ) (g : Known) (s u : Tree_stack) (ds : Decls) → IsFree (decls_checks fs (tree_maker names_by_place) p n k s ds) → read_decls fs (tree_maker names_by_place) p n s ds ≡ Some u → NoneKnown p g →
         Settles p n s → Tidy p n g s → Read p g ds s u
@@ -197,7 +198,7 @@ module _ (fs : WasmFeatures) where
         let m = then-some (λ (t : Tree_stack). read_decls fs (tree_maker names_by_place) p (suc n) t ds) (read_decl fs (tree_maker names_by_place) (deeper p n) s d) u e in
         let f = decls-free fs names_by_place k p n s m.0 d ds m.1 free in
         let x : Behind (decl_side d) (deeper p n) y.known s m.0 = decl-behind (deeper p n) y.known s m.0 d f.0 m.1 (tidy-ready p n g s unknown y) (settles-ready p n s h) y.tidy y.differ in
-        let z : AllSidesDiffer m.0 = decl-differ fs names_by_place (deeper p n) s m.0 d f.0 m.1 y.differ in
+        let z : AllSidesDiffer m.0 = decl_differ fs (tree_maker names_by_place) (deeper p n) s m.0 d y.differ m.1 in
         let w : Read p g ds m.0 u = decls-behind k p (suc n) g m.0 u ds f.1 m.2 unknown (settles-more p n s m.0 h (decl_side d) x.0) (tidy-next p n g s m.0 y x.1 z) in
         record { count = w.count; settles = w.settles; tidy = w.tidy; outer = all_twice s.outer m.0.outer u.outer x.0.outer w.outer; kind = w.kind ∙ x.0.kind }
 
@@ -220,14 +221,13 @@ module _ (fs : WasmFeatures) where
         items-behind p 0 g (inside concrete s) v.1.0 is refl v.1.1 n (inside-settles p concrete s (λ k. c) h) (begins-tidy p concrete g s y d) in
         component-ends p g s m.0 u n h (subst (ItemsRead p g (inside concrete s)) same r) m.2
     item-behind p g s u f c v e n h y d =
-        let free : IsFree (call_checks fs (tree_maker names_by_place p) s f) = plain-free fs names_by_place p s f v.0 in
-        form-behind p g s u f (stands-in-component f s.top c) free (item-named s fs names_by_place p f free) e n h y
+        form-behind p g s u f (stands-in-component f s.top c) (plain-free fs names_by_place p s f v.0) e n h y
 
     pub items-behind : (w : Place) (k : ℕ) (g : Known) (s u : Tree_stack) (is : Items) → is_concrete s.top.kind ≡ true → ValidFrom fs names_by_place w k s is u → NoneKnown w g → Settles w k s → Tidy w k g s → ItemsRead w g s u
     items-behind w k g s u no_items c v n h y = subst (ItemsRead w g s) v (record { count = k; settles = h; tidy = y; outer = all_themselves s.outer; kind = refl })
     items-behind w k g s u (next_item at f is) c v n h y =
         let t : Tree_stack = v.1.0 in
         let x : Behind (side_of f) (deeper w k) y.known s t = item-behind (deeper w k) y.known s t f c v.0 v.1.1 (tidy-ready w k g s n y) (settles-ready w k s h) y.tidy y.differ in
-        let z : AllSidesDiffer t = item-differ fs names_by_place (deeper w k) s t f v.0 v.1.1 y.differ in
+        let z : AllSidesDiffer t = item_differ fs (tree_maker names_by_place) (deeper w k) s t f y.differ v.1.1 in
         let r : ItemsRead w g t u = items-behind w (suc k) g t u is (ap is_concrete x.0.kind ∙ c) v.1.2 n (settles-more w k s t h (side_of f) x.0) (tidy-next w k g s t y x.1 z) in
         record { count = r.count; settles = r.settles; tidy = r.tidy; outer = all_twice s.outer t.outer u.outer x.0.outer r.outer; kind = r.kind ∙ x.0.kind }

@@ -8,7 +8,7 @@ use Rattle.std.proofs.lemmas.Bool.{false≢true}
 use Rattle.std.proofs.lemmas.List.Elements.{All-nil, All-cons, All-head, All-tail, All-weaker}
 use Rattle.wcv_core.specs.Names.{Name, Place, number, stamp, base, at, stamped, aside, same_place, same, member}
 use Rattle.wcv_core.proofs.Names.{same-refl, same-true}
-use Rattle.wcv_syntax.specs.Model.{instance_item, Instance_form, instantiate, bag}
+use Rattle.wcv_syntax.specs.Model.{Instance_form, instantiate, bag}
 use Rattle.wcv_syntax.specs.declared.instance.ComponentInstantiationArg.{ComponentInstantiationArg}
 use Rattle.wcv_syntax.specs.declared.name.ComponentExport.{ComponentExport}
 use Rattle.wcv_types.specs.ByName.{NamesDiffer}
@@ -28,7 +28,7 @@ use Rattle.wcv_matching.specs.OnePass.{opens_pass}
 use Rattle.wcv_matching.specs.Orderly.{EachNode, height, heights}
 use Rattle.wcv_lower.specs.Checks.{is_none, same_sort}
 use Rattle.wcv_lower.specs.Context.{in_instances, in_components, exporting}
-use Rattle.wcv_lower.specs.Instances.{component_at, argument_at, arguments, if_opened, opened, listed_at, listed, bag_made, instance_of_component, instance_of_items, instance_made, instance_joins, instance_values, instance_step}
+use Rattle.wcv_lower.specs.Instances.{component_at, argument_at, arguments, if_opened, opened, listed, bag_made, instance_of_component, instance_of_items, instance_made, instance_joins, instance_values, instance_step}
 use Rattle.wcv_lower.specs.Instantiated.{opening, instantiated}
 use Rattle.wcv_lower.specs.Mapped.{map_entries}
 use Rattle.wcv_lower.specs.Names.{names_by_place}
@@ -41,6 +41,7 @@ use Rattle.wcv_lower.specs.Trees.{Entries, Tree_stack, tree_reader, tree_maker}
 use Rattle.wcv_lower.proofs.Bringing.{brings_one, brings_more}
 use Rattle.wcv_lower.proofs.Given.{or_left, or_right}
 use Rattle.wcv_lower.proofs.Instantiating.{arguments_have, listed_have}
+use Rattle.wcv_lower.proofs.SidesKept.{no_names, bag_differs}
 use Rattle.wcv_link.proofs.Alike.{IsOf, SameKind, stands}
 use Rattle.wcv_link.proofs.Bare.{EntriesOwnNothing}
 use Rattle.wcv_link.proofs.BareGiven.{entries-own, given_for-each, looked-up, opening-kinds}
@@ -48,7 +49,6 @@ use Rattle.wcv_link.proofs.CoreGrowing.{if-some}
 use Rattle.wcv_link.proofs.InstanceGrowing.{opened-pair}
 use Rattle.wcv_link.proofs.Known.{mapped-some, then-some, all-get, Any}
 use Rattle.wcv_link.proofs.Marked.{uses-tidy}
-use Rattle.wcv_link.proofs.SideNames.{no-names, ItemNamed}
 use Rattle.wcv_link.proofs.Tidy.{Known, IsTidy, TidyType, TidyIn, TidyEntry, KnownMore, KnowsMore, NoneKnown, tidy-known, entry-more, known_at, known-base, known-again, knows-here, BringsTidy}
 use Rattle.wcv_link.proofs.TidyReplaced.{exports-again, named-again, stands_for, tidy-of, replaced-entry, replaced_in-tidy}
 use Rattle.wcv_link.proofs.TidyTypes.{exports-alone, exports-named, entries-tidy, tidy-before}
@@ -124,15 +124,15 @@ module _ (p : Place) (s : Tree_stack) (g : Known) (h : AllEntries (TidyEntry g) 
       joined-tidy made remade (instance_of_items (tree_maker names_by_place p) (instance_node [] es))
       (listing-tidy (known_at p (Some made) remade g) i es (known-base p (Some made) remade g) d (all-more g (known_at p (Some made) remade g) (knows-here p (Some made) remade g fresh).more es a))
 
-  bag-tidy : (es : List ComponentExport) (x : Step tree_reader) → NamesDiffer (named (listed s.top es)) → option_map instance_joins (instance_made (tree_maker names_by_place p) s (bag es)) ≡ Some x → BringsTidy p g x
-  bag-tidy es x d e =
+  bag-tidy : (es : List ComponentExport) (x : Step tree_reader) → option_map instance_joins (instance_made (tree_maker names_by_place p) s (bag es)) ≡ Some x → BringsTidy p g x
+  bag-tidy es x e =
       let m = mapped-some instance_joins (instance_made (tree_maker names_by_place p) s (bag es)) x e in
       let o = mapped-some (instance_of_items (tree_maker names_by_place p)) (bag_made s.top es) m.0 m.1 in
-      let n = if-some (list_all (λ (e : ComponentExport). not (is_none (listed_at s.top e))) es) (Some (instance_node [] (listed s.top es))) o.0 o.1 in
+      let n = bag_differs s.top es o.0 o.1 in
       subst (BringsTidy p g) m.2
       (subst (λ (b : Brought tree_reader). BringsTidy p g (instance_joins b)) o.2
-      (subst (λ (k : New_node tree_reader). BringsTidy p g (instance_joins (instance_of_items (tree_maker names_by_place p) k))) (some-inj n)
-      (listing-brings (listed s.top es) d (listed_have (TidyEntry g) s.top h es))))
+      (subst (λ (k : New_node tree_reader). BringsTidy p g (instance_joins (instance_of_items (tree_maker names_by_place p) k))) (sym n.0)
+      (listing-brings (listed s.top es) n.1 (listed_have (TidyEntry g) s.top h es))))
 
   -- ### A component that is opened
 
@@ -166,7 +166,7 @@ module _ (p : Place) (s : Tree_stack) (g : Known) (h : AllEntries (TidyEntry g) 
       gives : (i : Identity) (u : Type_tree) → m.nodes i ≡ Some u → TidyType g u
       gives i u e =
           looked-up (λ (x : Identity × Type_tree). TidyType g x.1) i (given_for args (named_imports t)) u
-          (given_for-each (IsTidy g) (record { alike = tt; bare = tt; values = tt; apart = tt; plain = tt; formed = λ l. tt; named = (no-names, no-names); one = left-out }) args (named_imports t)
+          (given_for-each (IsTidy g) (record { alike = tt; bare = tt; values = tt; apart = tt; plain = tt; formed = λ l. tt; named = (no_names, no_names); one = left-out }) args (named_imports t)
           (All-weaker (λ (e : Text × Type_tree). TidyEntry g e.1) (λ (e : Text × Type_tree). TidyType g e.1) (λ e v. v.1) args a)) e
 
       again : (i : Name) (u : Type_tree) → g i ≡ Some u → f (at p i) ≡ Some (replaced m u)
@@ -186,15 +186,15 @@ module _ (p : Place) (s : Tree_stack) (g : Known) (h : AllEntries (TidyEntry g) 
       (subst (λ (y : List (Text × Type_tree) × Type_tree). BringsTidy p g (instance_joins (instance_of_component (tree_maker names_by_place p) y))) q.1
       (opened-brings args t.0 (arguments_have (TidyEntry g) s.top h given) w.1 q.0)))
 
-joins-tidy : (p : Place) (s : Tree_stack) (g : Known) → AllEntries (TidyEntry g) s.top → NoneKnown p g → (i : Instance_form) (x : Step tree_reader) → ItemNamed s.top (instance_item i) →
+joins-tidy : (p : Place) (s : Tree_stack) (g : Known) → AllEntries (TidyEntry g) s.top → NoneKnown p g → (i : Instance_form) (x : Step tree_reader) →
     option_map instance_joins (instance_made (tree_maker names_by_place p) s i) ≡ Some x → BringsTidy p g x
-joins-tidy p s g h n (bag es) x d e = bag-tidy p s g h n es x d e
-joins-tidy p s g h n (instantiate i args) x d e = instantiate-tidy p s g h n i args x e
+joins-tidy p s g h n (bag es) x e = bag-tidy p s g h n es x e
+joins-tidy p s g h n (instantiate i args) x e = instantiate-tidy p s g h n i args x e
 
-pub instance-tidy : (p : Place) (s : Tree_stack) (g : Known) → AllEntries (TidyEntry g) s.top → NoneKnown p g → (i : Instance_form) (x : Step tree_reader) → ItemNamed s.top (instance_item i) → instance_step (tree_maker names_by_place p) s i ≡ Some x → BringsTidy p g x
-instance-tidy p s g h n i x d e =
+pub instance-tidy : (p : Place) (s : Tree_stack) (g : Known) → AllEntries (TidyEntry g) s.top → NoneKnown p g → (i : Instance_form) (x : Step tree_reader) → instance_step (tree_maker names_by_place p) s i ≡ Some x → BringsTidy p g x
+instance-tidy p s g h n i x e =
     let m = mapped-some (λ (y : Step tree_reader). uses_each (instance_values i) ++ y) (option_map instance_joins (instance_made (tree_maker names_by_place p) s i)) x e in
-    subst (BringsTidy p g) m.2 (uses-tidy p g (instance_values i) m.0 (joins-tidy p s g h n i m.0 d m.1))
+    subst (BringsTidy p g) m.2 (uses-tidy p g (instance_values i) m.0 (joins-tidy p s g h n i m.0 m.1))
 
 -- ## One of an instance type
 

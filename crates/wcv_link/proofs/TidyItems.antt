@@ -1,5 +1,5 @@
 -- What an item, but for a declared type, a declared export and an alias bring to the context that they stand in is tidy.
-use Rattle.std.proofs.Common.{◌≡◌, zero, ◌∷◌, ◌++◌, Bool, true, false, cond, refl, ◌∙◌, ap, subst, Some, None}
+use Rattle.std.proofs.Common.{◌≡◌, zero, ◌∷◌, ◌++◌, Bool, true, false, cond, ◌&&◌, refl, ◌∙◌, ap, subst, Some, None}
 use Rattle.std.specs.Option.{option_map}
 use Rattle.wcv_core.specs.Names.{Place, base}
 use Rattle.wcv_core.specs.declared.features.WasmFeatures.{WasmFeatures}
@@ -13,7 +13,7 @@ use Rattle.wcv_types.proofs.Lists.{some-inj}
 use Rattle.wcv_lower.specs.Aliases.{joining, alias_step}
 use Rattle.wcv_lower.specs.Context.{in_types, in_instances, is_concrete, importing, exporting}
 use Rattle.wcv_lower.specs.Declared.{applied, declared_export_step}
-use Rattle.wcv_lower.specs.Entries.{extern_name, written, exported, exported_values}
+use Rattle.wcv_lower.specs.Entries.{extern_name, written, exported, new_there, exported_values}
 use Rattle.wcv_lower.specs.Growth.{step, grow}
 use Rattle.wcv_lower.specs.Marks.{uses_each}
 use Rattle.wcv_lower.specs.Names.{names_by_place}
@@ -22,12 +22,12 @@ use Rattle.wcv_lower.specs.Owned.{AllEntries, Everywhere}
 use Rattle.wcv_lower.specs.Readers.{New_node}
 use Rattle.wcv_lower.specs.Step.{appends, defines, Step, apply, enters, joins_types}
 use Rattle.wcv_lower.specs.Trees.{Type_tree, Tree_stack, tree_reader, tree_maker, type_entry, node_tree}
-use Rattle.wcv_lower.specs.Types.{type_made, added, type_step}
+use Rattle.wcv_lower.specs.Types.{type_made, added, dtor_stands, type_step}
+use Rattle.wcv_lower.proofs.EntryLaws.{newly_there}
 use Rattle.wcv_lower.proofs.Bringing.{brings_one, brings_more}
 use Rattle.wcv_link.proofs.AliasGrowing.{first-has, export-found, outer-has, outer_step, outer-found, outer-brings}
 use Rattle.wcv_link.proofs.Known.{mapped-some, all-get, Any, joins-bring}
 use Rattle.wcv_link.proofs.Marked.{uses-tidy}
-use Rattle.wcv_link.proofs.SideNames.{ItemNamed}
 use Rattle.wcv_link.proofs.StartGrowing.{start-tidy}
 use Rattle.wcv_link.proofs.Tidy.{Known, TidyEntry, NoneKnown, NoneAt, none-at, BringsTidy, brings-known, TidyBehind, apply-tidy}
 use Rattle.wcv_link.proofs.TidyCore.{core_type-tidy, core_module-tidy, core_instance-tidy, core_alias-tidy, canon-tidy}
@@ -56,7 +56,7 @@ module _ (p : Place) (s : Tree_stack) (leads : LeadsIn s.top) (g : Known) (all :
       subst (BringsTidy p g) m.2 (added-tidy p g (none-at p g unknown) m.0 (made-tidy p g (none-at p g unknown) s.top y (func_type f) m.0 m.1))
   type-brings (component_type ds) x e = cc
   type-brings (instance_type ds) x e = cc
-  type-brings (resource_type rep dtor) x e = go (is_concrete s.top.kind) e
+  type-brings (resource_type rep dtor) x e = go (is_concrete s.top.kind && dtor_stands s.top dtor) e
     where
       reference : Type_tree
       reference = type_entry (new_reference names_by_place p)
@@ -83,35 +83,38 @@ module _ (p : Place) (s : Tree_stack) (leads : LeadsIn s.top) (g : Known) (all :
 
   -- ## Items
 
-  pub step-tidy : (fs : WasmFeatures) (f : Form) (x : Step tree_reader) → ItemNamed s.top f → step fs (tree_maker names_by_place p) s f ≡ Some x → BringsTidy p g x
-  step-tidy fs (type_item t) x d e = type-brings t x e
-  step-tidy fs (import_item i) x d e =
-      let m = mapped-some (enters importing (extern_name i.name)) (written (tree_maker names_by_place p) s.top i.ty) x e in
-      subst (BringsTidy p g) m.2 (enters-tidy p s.top leads g y unknown importing (extern_name i.name) m.0 (written-tidy p s.top leads g y unknown i.ty m.0 m.1))
-  step-tidy fs (export_item i) x d e =
-      let u = mapped-some (λ (z : Step tree_reader). uses_each (exported_values i) ++ z) (option_map (enters exporting (extern_name i.name)) (exported (tree_maker names_by_place p) s.top i)) x e in
-      let m = mapped-some (enters exporting (extern_name i.name)) (exported (tree_maker names_by_place p) s.top i) u.0 u.1 in
+  pub step-tidy : (fs : WasmFeatures) (f : Form) (x : Step tree_reader) → step fs (tree_maker names_by_place p) s f ≡ Some x → BringsTidy p g x
+  step-tidy fs (type_item t) x e = type-brings t x e
+  step-tidy fs (import_item i) x e =
+      let m = mapped-some (enters importing (extern_name i.name)) (new_there importing (extern_name i.name) s.top (written (tree_maker names_by_place p) s.top i.ty)) x e in
+      let o = newly_there importing (extern_name i.name) s.top (written (tree_maker names_by_place p) s.top i.ty) m.0 m.1 in
+      subst (BringsTidy p g) m.2 (enters-tidy p s.top leads g y unknown importing (extern_name i.name) m.0 (written-tidy p s.top leads g y unknown i.ty m.0 o.0))
+  step-tidy fs (export_item i) x e =
+      let u = mapped-some (λ (z : Step tree_reader). uses_each (exported_values i) ++ z) (option_map (enters exporting (extern_name i.name)) (new_there exporting (extern_name i.name) s.top (exported (tree_maker names_by_place p) s.top i))) x e in
+      let m = mapped-some (enters exporting (extern_name i.name)) (new_there exporting (extern_name i.name) s.top (exported (tree_maker names_by_place p) s.top i)) u.0 u.1 in
+      let o = newly_there exporting (extern_name i.name) s.top (exported (tree_maker names_by_place p) s.top i) m.0 m.1 in
       subst (BringsTidy p g) u.2
-      (uses-tidy p g (exported_values i) u.0 (subst (BringsTidy p g) m.2 (enters-tidy p s.top leads g y unknown exporting (extern_name i.name) m.0 (exported-tidy p s.top leads g y unknown i i.ty m.0 m.1))))
-  step-tidy fs (core_type_item t) x d e = core_type-tidy p s g y (none-at p g unknown) fs t x e
-  step-tidy fs (core_module_item ds) x d e = core_module-tidy p s g y (none-at p g unknown) fs ds x e
-  step-tidy fs (core_instance_item i) x d e = core_instance-tidy p s g y (none-at p g unknown) i x e
-  step-tidy fs (component_item is end) x d e = cc
-  step-tidy fs (instance_item i) x d e = instance-tidy p s g y unknown i x d e
-  step-tidy fs (alias_item a) x d e = alias-tidy a x e
-  step-tidy fs (start_item f args n) x d e = start-tidy s f args x e p g y
-  step-tidy fs (canon_item f) x d e = canon-tidy p s g y (none-at p g unknown) f x e
+      (uses-tidy p g (exported_values i) u.0 (subst (BringsTidy p g) m.2 (enters-tidy p s.top leads g y unknown exporting (extern_name i.name) m.0 (exported-tidy p s.top leads g y unknown i i.ty m.0 o.0))))
+  step-tidy fs (core_type_item t) x e = core_type-tidy p s g y (none-at p g unknown) fs t x e
+  step-tidy fs (core_module_item ds) x e = core_module-tidy p s g y (none-at p g unknown) fs ds x e
+  step-tidy fs (core_instance_item i) x e = core_instance-tidy p s g y (none-at p g unknown) i x e
+  step-tidy fs (component_item is end) x e = cc
+  step-tidy fs (instance_item i) x e = instance-tidy p s g y unknown i x e
+  step-tidy fs (alias_item a) x e = alias-tidy a x e
+  step-tidy fs (start_item f args n) x e = start-tidy s f args x e p g y
+  step-tidy fs (canon_item f) x e = canon-tidy p s g y (none-at p g unknown) f x e
 
-  pub grow-tidy : (fs : WasmFeatures) (f : Form) (u : Tree_stack) → ItemNamed s.top f → grow fs (tree_maker names_by_place p) s f ≡ Some u → TidyBehind p g u
-  grow-tidy fs f u d e =
+  pub grow-tidy : (fs : WasmFeatures) (f : Form) (u : Tree_stack) → grow fs (tree_maker names_by_place p) s f ≡ Some u → TidyBehind p g u
+  grow-tidy fs f u e =
       let m = mapped-some (λ (x : Step tree_reader). apply x s) (step fs (tree_maker names_by_place p) s f) u e in
-      subst (TidyBehind p g) m.2 (apply-tidy p g m.0 s all (step-tidy fs f m.0 d m.1))
+      subst (TidyBehind p g) m.2 (apply-tidy p g m.0 s all (step-tidy fs f m.0 m.1))
 
   -- ## Declarations
 
   pub declared-tidy : (n : ComponentExternName) (r : ComponentTypeRef) (u : Tree_stack) → applied s (declared_export_step (tree_maker names_by_place p) s.top n r) ≡ Some u → TidyBehind p g u
   declared-tidy n r u e =
       let m = mapped-some (λ (x : Step tree_reader). apply x s) (declared_export_step (tree_maker names_by_place p) s.top n r) u e in
-      let v = mapped-some (enters exporting (extern_name n)) (written (tree_maker names_by_place p) s.top r) m.0 m.1 in
+      let v = mapped-some (enters exporting (extern_name n)) (new_there exporting (extern_name n) s.top (written (tree_maker names_by_place p) s.top r)) m.0 m.1 in
+      let o = newly_there exporting (extern_name n) s.top (written (tree_maker names_by_place p) s.top r) v.0 v.1 in
       subst (TidyBehind p g) (ap (λ (x : Step tree_reader). apply x s) v.2 ∙ m.2)
-      (apply-tidy p g (enters exporting (extern_name n) v.0) s all (enters-tidy p s.top leads g y unknown exporting (extern_name n) v.0 (written-tidy p s.top leads g y unknown r v.0 v.1)))
+      (apply-tidy p g (enters exporting (extern_name n) v.0) s all (enters-tidy p s.top leads g y unknown exporting (extern_name n) v.0 (written-tidy p s.top leads g y unknown r v.0 o.0)))

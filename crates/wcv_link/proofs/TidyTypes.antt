@@ -30,11 +30,11 @@ use Rattle.wcv_lower.specs.Readers.{Made_parts, New_node, func_node, defined_nod
 use Rattle.wcv_lower.specs.Trees.{Type_tree, Entries, type_entry, created, referenced, Tree_context, tree_reader, tree_parts, node_tree}
 use Rattle.wcv_lower.specs.Types.{func_parts, type_made}
 use Rattle.wcv_lower.specs.Values.{type_at, type_of_sort, resource_at, value_entry, Written_parts, option_entry, behind, parts_entries}
+use Rattle.wcv_lower.proofs.SidesKept.{no_names}
 use Rattle.wcv_link.proofs.Alike.{SameKind, IsAlike}
 use Rattle.wcv_link.proofs.Bare.{OwnsNothing, EntriesOwnNothing, PartsOwnNothing, ValuesOwnNothing}
 use Rattle.wcv_link.proofs.Known.{mapped-some, then-some, all-get}
 use Rattle.wcv_link.proofs.Looking.{sorted-here}
-use Rattle.wcv_link.proofs.SideNames.{no-names}
 use Rattle.wcv_link.proofs.Tidy.{Known, HeadApart, IsPlain, TidyType, TidyIn, TidyEntry, KnowsMore, NoneAt, knows-same, tidy-more, known_at, known-base, knows-at}
 
 -- parts that are tidy, where instances that are entries own nothing
@@ -68,7 +68,7 @@ AreInner none = Unit {0}
 AreInner (part k t ps) = IsInner k × AreInner ps
 
 pub inner-named : (ps : Parts Name Name) → AreInner ps → AreNamedApart ps
-inner-named none i = (no-names, no-names)
+inner-named none i = (no_names, no_names)
 inner-named (part (import n) t ps) i = absurd i.0
 inner-named (part (export n) t ps) i = absurd i.0
 inner-named (part here t ps) i = inner-named ps i.1
@@ -92,7 +92,7 @@ sides-alone (i ∷ is) es = sides-alone is es
 -- have the names of the entries
 pub exports-named : (es : Entries) → NamesDiffer (named es) → AreNamedApart (entries export es none)
 exports-named es d = (
-  subst (λ (xs : Entries). NamesDiffer (named xs)) (sym (imports_in-exports es)) no-names,
+  subst (λ (xs : Entries). NamesDiffer (named xs)) (sym (imports_in-exports es)) no_names,
   subst (λ (xs : Entries). NamesDiffer (named xs)) (sym (exports_in-exports es)) d,
 )
 
@@ -153,7 +153,7 @@ module _ (g : Known) where
   -- ## Parts
 
   pub leaf-tidy : (h : Head Name Name) → IsAlike h none → HeadApart h → IsFormed h none → ((i : Name) → identity_at h ≡ Some (of_node i) → ⊥) → TidyType g (node h none)
-  leaf-tidy h a b f n = (record { alike = a; bare = tt; values = leaf-values h; apart = b; plain = leaf-plain h; formed = λ l. f; named = (no-names, no-names); one = λ i e. absurd (n i e) }, tt)
+  leaf-tidy h a b f n = (record { alike = a; bare = tt; values = leaf-values h; apart = b; plain = leaf-plain h; formed = λ l. f; named = (no_names, no_names); one = λ i e. absurd (n i e) }, tt)
 
   nothing-tidy : TidyEntry g (node nothing none)
   nothing-tidy = (refl, leaf-tidy nothing tt tt tt (λ i e. cc))
@@ -172,7 +172,7 @@ module _ (g : Known) where
   -- ## Type entities
 
   both-tidy : (t u : Type_tree) → SameKind t u → TidyType g t → TidyType g u → TidyEntry g (type_of t u)
-  both-tidy t u k v w = (refl, (record { alike = k; bare = tt; values = tt; apart = tt; plain = tt; formed = λ l. l; named = (no-names, no-names); one = λ i e. cc }, (v, (w, tt))))
+  both-tidy t u k v w = (refl, (record { alike = k; bare = tt; values = tt; apart = tt; plain = tt; formed = λ l. l; named = (no_names, no_names); one = λ i e. cc }, (v, (w, tt))))
 
   pub entry-tidy : (t : Type_tree) → TidyType g t → TidyEntry g (type_entry t)
   entry-tidy t w = both-tidy t t (refl, λ r. refl) w w

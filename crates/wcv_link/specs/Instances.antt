@@ -6,7 +6,7 @@ use Rattle.wcv_core.specs.Names.{Place, number}
 use Rattle.wcv_core.specs.declared.error.Error.{Error}
 use Rattle.wcv_core.specs.declared.error.ErrorKind.TheVariants as kind
 use Rattle.wcv_core.specs.declared.features.WasmFeatures.{WasmFeatures}
-use Rattle.wcv_syntax.specs.Model.{Instance_form}
+use Rattle.wcv_syntax.specs.Model.{Instance_form, instantiate, bag}
 use Rattle.wcv_syntax.specs.declared.instance.ComponentInstantiationArg.{ComponentInstantiationArg}
 use Rattle.wcv_syntax.specs.declared.name.ComponentExport.{ComponentExport}
 use Rattle.wcv_syntax.specs.declared.name.ComponentExternName.{ComponentExternName}
@@ -64,10 +64,15 @@ size_checks t = too_many max_size (size t) ++ too_many max_depth (depth t)
 
 -- ## What is made
 
--- an instance may be made of each component that stands in the state, by whatever arguments of the state
+-- an instance may be made of the component that the item names, by the arguments that it names, if one is there. Of an instance that lists
+-- items nothing is asked
+abbrev pub ItemMayInstantiate : Arena → Contents → Instance_form → Type 0
+ItemMayInstantiate a s (instantiate k args) = (c : Type_tree) → component_at (context_of a s) k ≡ Some c → MayInstantiate (arguments (context_of a s) args) c
+ItemMayInstantiate a s (bag es) = Unit {0}
+
+-- so of each item
 abbrev pub AllMayInstantiate : Arena → Contents → Type 0
-AllMayInstantiate a s =
-    (k : ℕ) (c : Type_tree) (args : List ComponentInstantiationArg) → component_at (context_of a s) k ≡ Some c → MayInstantiate (arguments (context_of a s) args) c
+AllMayInstantiate a s = (i : Instance_form) → ItemMayInstantiate a s i
 
 -- the instance is what the item makes at each place, by names that the arena gave, in whatever contexts further out, and the item has no cause,
 -- use of values aside

@@ -1,6 +1,6 @@
 -- How a component type lists the resources that are free in its entries.
 use Rattle.std.specs.List.{IsDistinct}
-use Rattle.std.specs.Prelude.{ℕ, List, [], ◌++◌, true, Contains, ◌≡◌, ◌⊎◌}
+use Rattle.std.specs.Prelude.{ℕ, List, [], ◌++◌, true, All, Contains, ◌≡◌, ◌⊎◌}
 use Rattle.wcv_core.specs.Names.{Name, same}
 use Rattle.wcv_types.specs.Paths.{PathLeadsTo}
 use Rattle.wcv_types.specs.Tree.{Head, component, firsts, head, imports, exports}
@@ -37,3 +37,8 @@ pub record ListsResources (t : Type_tree) : Type 0 where
   pub apart : (r : Name) → IsImported r t → IsDefined r t → ⊥
   -- no resource is listed twice
   pub once : IsDistinct same (firsts (imported_paths (head t) ++ defined_paths (head t)))
+
+-- each resource that it lists has a path that leads to it: of an imported one in the imports, of a defined one in the exports
+pub record EachPathLeads (t : Type_tree) : Type 0 where
+  pub imported : All (λ (x : Name × List ℕ). PathLeadsTo x.1 x.0 (imports t)) (imported_paths (head t))
+  pub defined : All (λ (x : Name × List ℕ). PathLeadsTo x.1 x.0 (exports t)) (defined_paths (head t))

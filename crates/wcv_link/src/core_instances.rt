@@ -1,6 +1,6 @@
 // Core instances: of core modules, and those that list core items.
 ghost use Rattle.wcv_core.specs.Limits.{max_size};
-ghost use Rattle.std.specs.Prelude.{◌≡◌, ◌≤◌, ◌∷◌, [], suc, true, false, List, All, min, OnOk, OnErr, IfOk, IfErr};
+ghost use Rattle.std.specs.Prelude.{◌≡◌, ◌≤◌, ◌∷◌, [], suc, true, false, List, All, OnOk, OnErr, IfOk, IfErr};
 ghost use Rattle.std.specs.List.{AllZip};
 ghost use Rattle.wcv_core.specs.Checks.{all_checks};
 ghost use Rattle.wcv_core.specs.CoreGroups.{total};
@@ -29,12 +29,11 @@ use std::alloc::Global;
 use wcv_core::limits::{MAX_INSTANCES, MAX_SIZE};
 use wcv_core::{CoreTypes, EntityType, Error, ErrorKind, OutOfMemory, Refusal, Text, TextSet, Why};
 use wcv_matching::core_arguments;
-use wcv_module::core_item_size;
 use wcv_state::{ComponentState, check_core_sort};
 use wcv_syntax::{Export, Instance, InstantiationArg};
 use wcv_types::{
     ComponentCoreInstanceTypeId, ComponentCoreModuleTypeId, CoreInstanceTypeKind, ExportMap,
-    InstanceType, TypeAlloc, TypeInfo, core_instance_of,
+    InstanceType, TypeAlloc, TypeInfo, core_instance_of, core_items_size,
 };
 
 /// Whether the names of a list differ. What has them is for the message.
@@ -133,19 +132,7 @@ fn find_items(
     Ok(found)
 }
 
-/// What a core instance counts that lists these items, up to the greatest `u64`.
-fn size_of(core: &CoreTypes, items: &[(Text, EntityType)]) -> u64
-    requires { All (λ e. IsEntityWithin (total core.now) e.1) items.now }
-    ensures { result ≡ min (suc (entity_sizes core.now (items_of items.now))) u64.MAX }
-{
-    let mut size = 1u64;
-    for item in items {
-        size = size.saturating_add(core_item_size(core, item.1));
-    }
-    size
-}
-
-/// So where that is within the limit.
+/// What a core instance counts that lists these items, where that is within the limit.
 fn check_size(
     core: &CoreTypes,
     items: &[(Text, EntityType)],
@@ -157,7 +144,7 @@ fn check_size(
     ensures free { OnOk result (IsFree (too_many max_size (suc (entity_sizes core.now (items_of items.now))))) }
     ensures err { IfErr result (MemoryOrCausedBy (too_many max_size (suc (entity_sizes core.now (items_of items.now)))) offset) }
 {
-    let size = size_of(core, items);
+    let size = core_items_size(core, items).saturating_add(1);
     if size > MAX_SIZE {
         let why = Why::new("the core instance would have a size above %1");
         let why = why.numbers([MAX_SIZE, 0, 0]);

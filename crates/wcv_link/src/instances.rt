@@ -23,7 +23,7 @@ ghost use Rattle.wcv_state.specs.Looking.{item_id};
 ghost use Rattle.wcv_state.specs.Promises.{CausedBy, MemoryOrCausedBy, Grew, Keeps, Refuses};
 ghost use Rattle.wcv_state.specs.Stack.{IsOpen};
 ghost use Rattle.wcv_state.specs.Values.{uses_id_checks};
-ghost use Rattle.wcv_link.specs.Instances.{arg_checks, as_entries, item_checks, lending_checks, list_checks, size_checks, AllMayInstantiate, CausedInstance, IsArg, IsListed, MadeInstance};
+ghost use Rattle.wcv_link.specs.Instances.{arg_checks, as_entries, item_checks, lending_checks, list_checks, size_checks, CausedInstance, IsArg, IsListed, ItemMayInstantiate, MadeInstance};
 
 use crate::core_instances::{check_differ, check_room};
 use std::alloc::Global;
@@ -152,7 +152,7 @@ fn of_component(
     offset: u64,
 ) -> Result<NewInstance, Error>
     requires stands { StateStands types.old state.now }
-    requires opens { AllMayInstantiate types.old state.now }
+    requires opens { ItemMayInstantiate types.old state.now (instantiate component_index args.items) }
     ensures ok { IfOk result (MadeInstance types.old types.new state.now (instantiate component_index args.items)) }
     ensures err { IfErr result (CausedInstance types.old types.new state.now (instantiate component_index args.items) offset) }
     ensures grown { Extends types.old types.new }
@@ -299,7 +299,7 @@ fn instance_made(
     offset: u64,
 ) -> Result<NewInstance, Error>
     requires stands { StateStands types.old state.now }
-    requires opens { AllMayInstantiate types.old state.now }
+    requires opens { ItemMayInstantiate types.old state.now (instance_view instance) }
     ensures ok { IfOk result (MadeInstance types.old types.new state.now (instance_view instance)) }
     ensures err { IfErr result (CausedInstance types.old types.new state.now (instance_view instance) offset) }
     ensures grown { Extends types.old types.new }
@@ -415,7 +415,7 @@ fn instance_with_values(
     offset: u64,
 ) -> Result<(NewInstance, Vec<u32>), Error>
     requires stands { StateStands types.old state.now }
-    requires opens { AllMayInstantiate types.old state.now }
+    requires opens { ItemMayInstantiate types.old state.now (instance_view instance) }
     ensures ok { IfOk result (λ r. MadeInstance types.old types.new state.now (instance_view instance) r.0) }
     ensures values { IfOk result (λ r. r.1.items ≡ rules.instance_values (instance_view instance)) }
     ensures err { IfErr result (CausedInstance types.old types.new state.now (instance_view instance) offset) }
@@ -435,7 +435,7 @@ pub fn add_instance(
     offset: u64,
 ) -> Result<(), Error>
     requires open { IsOpen types.old state.old }
-    requires opens { AllMayInstantiate types.old state.old }
+    requires opens { ItemMayInstantiate types.old state.old (instance_view instance) }
     ensures ok { OnOk result ((outer : List Tree_context) (p : Place) → Grew types.old types.new outer p state.old state.new (instance_item (instance_view instance))) }
     ensures err { IfErr result (λ e. (outer : List Tree_context) (p : Place) → Refuses types.old types.new outer p state.old state.new (instance_item (instance_view instance)) offset e) }
     ensures keeps { Keeps types.old types.new state.old state.new }

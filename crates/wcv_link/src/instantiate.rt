@@ -6,7 +6,7 @@ ghost use Rattle.wcv_syntax.specs.View.{core_instance_view, instance_view};
 ghost use Rattle.wcv_lower.specs.Trees.{Tree_context};
 ghost use Rattle.wcv_state.specs.Promises.{Keeps, Grew, Refuses};
 ghost use Rattle.wcv_state.specs.Stack.{IsOpen};
-ghost use Rattle.wcv_link.specs.Instances.{AllMayInstantiate};
+ghost use Rattle.wcv_link.specs.Instances.{ItemMayInstantiate};
 
 use crate::core_instances::add_core_instance;
 use crate::instances::add_instance;
@@ -55,7 +55,7 @@ pub trait Instantiate: Sized {
         offset: u64,
     ) -> Result<(), Error>
         requires open { IsOpen types.old (contents self.old) }
-        requires opens { AllMayInstantiate types.old (contents self.old) }
+        requires opens { ItemMayInstantiate types.old (contents self.old) (instance_view instance) }
         ensures ok { OnOk result ((outer : List Tree_context) (p : Place) → Grew types.old types.new outer p (contents self.old) (contents self.new) (instance_item (instance_view instance))) }
         ensures err { IfErr result (λ e. (outer : List Tree_context) (p : Place) → Refuses types.old types.new outer p (contents self.old) (contents self.new) (instance_item (instance_view instance)) offset e) }
         ensures keeps { Keeps types.old types.new (contents self.old) (contents self.new) };

@@ -34,3 +34,6 @@ returns-clause-err c =
     IfErr-weaker c.add_instance.result _ _
     (λ e g. item_refused c.args.types.now c.add_instance.new.types c.args.state.now f (one_step f refl) c.args.offset e c.add_instance.ensures.keeps.arena (λ outer p. (g outer p).1))
     c.add_instance.ensures.err
+
+pub add_instance-requires-clause-opens : goal.add_instance-requires-clause-opens
+add_instance-requires-clause-opens c = c.requires.opens (instance_view c.args.instance)

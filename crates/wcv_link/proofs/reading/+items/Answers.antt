@@ -29,7 +29,7 @@ use Rattle.wcv_link.proofs.reading.+items.Goals as goal
 -- ## An item by its form
 
 pub read_item-read_in_last-requires : goal.read_item-read_in_last-requires
-read_item-read_in_last-requires t c = record { ready = c.requires.ready; makes = last_may c.args.types.now c.args.components.now.items c.requires.ready c.requires.reached; kind = search (rules, the_lemmas) }
+read_item-read_in_last-requires t c = record { ready = c.requires.ready; makes = last_may c.args.types.now c.args.components.now.items c.requires.reached; kind = search (rules, the_lemmas) }
 
 pub read_item-returns-in-CoreType-clause-ok : goal.read_item-returns-in-CoreType-clause-ok
 read_item-returns-in-CoreType-clause-ok t c =
