@@ -11,8 +11,6 @@ mod core_types;
 #[cfg(test)]
 mod depth;
 #[cfg(test)]
-mod driving;
-#[cfg(test)]
 mod ends;
 #[cfg(test)]
 mod fakes;
