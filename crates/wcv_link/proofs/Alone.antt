@@ -25,12 +25,12 @@ use Rattle.wcv_state.proofs.Keeping.{empty_stands}
 use Rattle.wcv_decls.specs.Declaring.{innermost, around, features_in, stack_in}
 use Rattle.wcv_decls.specs.Stack.{IsOpen, all_uncharged, stack_on}
 use Rattle.wcv_decls.proofs.InnermostStates.{parted, calm_all}
+use Rattle.wcv_growth.specs.Nested.{Nested_types}
+use Rattle.wcv_growth.specs.Valid.{start}
 use Rattle.wcv_link.specs.Accepts.{AcceptsWith}
 use Rattle.wcv_link.specs.ItemCalls.{ItemsRead, ItemsRefused}
-use Rattle.wcv_link.specs.Nested.{Nested_types}
 use Rattle.wcv_link.specs.Progress.{IsReady, AcceptsItems, RefusesItems, MemoryOrRefused}
 use Rattle.wcv_link.specs.Told.{Told, Ended}
-use Rattle.wcv_link.specs.Valid.{start}
 use Rattle.wcv_link.specs.declared.nesting.Nested.{Nested}
 use Rattle.wcv_link.specs.declared.nesting.Nesting.{Nesting}
 use Rattle.wcv_link.proofs.Leading.{root_read, refused_root, refused_end, read_all}

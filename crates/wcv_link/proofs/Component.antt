@@ -26,8 +26,8 @@ use Rattle.wcv_decls.specs.Stack.{all_uncharged, KeepsOn}
 use Rattle.wcv_decls.proofs.Opening.{opened_stack}
 use Rattle.wcv_decls.proofs.ReadingOn.{grown_numbers, extends_on, innermost_kept}
 use Rattle.wcv_decls.proofs.Whole.{same_around, same_innermost, some_too}
+use Rattle.wcv_growth.specs.Nested.{Nested_types, one_type, end_type}
 use Rattle.wcv_link.specs.ItemCalls.{ItemTells, ItemsRead, ItemRefused, ItemsRefused}
-use Rattle.wcv_link.specs.Nested.{Nested_types, one_type, end_type}
 use Rattle.wcv_link.specs.Progress.{RefusesItem, TellsItem, AcceptsItems, RefusesItems}
 use Rattle.wcv_link.specs.Told.{Ended}
 use Rattle.wcv_link.specs.declared.nesting.Nesting.{Nesting}

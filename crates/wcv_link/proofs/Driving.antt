@@ -1,5 +1,5 @@
 -- States that calls on one state reach, where nothing stands around it.
-use Rattle.std.proofs.Common.{◌≡◌, List, [], ◌∷◌, true, false, refl, sym, ◌∙◌}
+use Rattle.std.proofs.Common.{◌≡◌, List, [], ◌∷◌, true, false, refl}
 use Rattle.std.proofs.lemmas.Bool.{false≢true}
 use Rattle.wcv_core.specs.Names.{Place, deeper}
 use Rattle.wcv_syntax.specs.Model.{Form, core_type_item, core_module_item, core_instance_item, type_item, import_item, export_item, component_item, instance_item, alias_item, start_item, canon_item, defined_type, func_type, component_type, instance_type, resource_type}
@@ -9,10 +9,10 @@ use Rattle.wcv_lower.specs.Growth.{is_plain, left_checks}
 use Rattle.wcv_lower.specs.Trees.{Tree_context}
 use Rattle.wcv_state.specs.Contents.{Contents, context_of}
 use Rattle.wcv_state.specs.Promises.{Grew, Keeps}
+use Rattle.wcv_link.specs.Reached.{IsReached}
 use Rattle.wcv_link.proofs.Reaching.{reached_behind}
 use Rattle.wcv_link.proofs.Steps.{OneStep, one_step, item_taken}
 use Rattle.wcv_link.specs.Progress.{TakesItem}
-use Rattle.wcv_link.specs.Reached.{IsReached}
 
 plain_step : (f : Form) → is_plain f ≡ true → OneStep f
 plain_step (type_item (defined_type d)) e = record { read = λ fs k p s. refl; causes = λ fs k p s. refl; whole = λ fs names p s. tt }

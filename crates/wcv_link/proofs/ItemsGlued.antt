@@ -17,11 +17,11 @@ use Rattle.wcv_lower.specs.Trees.{Tree_stack, tree_maker, node_tree}
 use Rattle.wcv_lower.proofs.DeclaredGlued.{first_same, second_same, later_item, none_gives, both_given_at, own_place, inside_it, all_given_at, own_made}
 use Rattle.wcv_lower.proofs.Given.{gives_wider}
 use Rattle.wcv_decls.proofs.ReadingOn.{most_both}
+use Rattle.wcv_growth.specs.Nested.{Nested_types, where_read, one_type, end_type, nested_from, nested_in}
+use Rattle.wcv_growth.specs.Valid.{ValidFrom, RefusedFrom}
+use Rattle.wcv_growth.proofs.NestedNames.{nested_in-agrees, nested_from-agrees}
+use Rattle.wcv_growth.proofs.ValidRead.{valid_reads, read_too, valid_from-agrees, valid_item-agrees, refused_from-agrees}
 use Rattle.wcv_link.specs.ItemCalls.{ItemTells, ItemsRead, ItemRefused, ItemsRefused}
-use Rattle.wcv_link.specs.Nested.{Nested_types, where_read, one_type, end_type, nested_from, nested_in}
-use Rattle.wcv_link.specs.Valid.{ValidFrom, RefusedFrom}
-use Rattle.wcv_link.proofs.NestedNames.{nested_in-agrees, nested_from-agrees}
-use Rattle.wcv_link.proofs.ValidRead.{valid_reads, read_too, valid_from-agrees, valid_item-agrees, refused_from-agrees}
 
 -- ## Items
 

@@ -17,10 +17,10 @@ use Rattle.wcv_state.specs.Contents.{Contents}
 use Rattle.wcv_state.specs.Promises.{numbers_of}
 use Rattle.wcv_decls.specs.Declaring.{features_in, stack_in}
 use Rattle.wcv_decls.proofs.ReadingOn.{most_same, most_both, grown_numbers}
-use Rattle.wcv_link.specs.ItemCalls.{ItemTells, ItemsRead, ItemRefused, ItemsRefused}
-use Rattle.wcv_link.specs.Nested.{Nested_types, nested_in}
-use Rattle.wcv_link.specs.Progress.{looks_around, IsReady, GoesOn, AcceptsItem, RefusesItem, TellsItem, AcceptsItems, TellsItems, RefusesItems}
+use Rattle.wcv_growth.specs.Nested.{Nested_types, nested_in}
 use Rattle.wcv_link.specs.Reached.{IsReached}
+use Rattle.wcv_link.specs.ItemCalls.{ItemTells, ItemsRead, ItemRefused, ItemsRefused}
+use Rattle.wcv_link.specs.Progress.{looks_around, IsReady, GoesOn, AcceptsItem, RefusesItem, TellsItem, AcceptsItems, TellsItems, RefusesItems}
 use Rattle.wcv_link.specs.Told.{Ended}
 use Rattle.wcv_link.specs.declared.nesting.Nesting.{Nesting}
 use Rattle.wcv_link.proofs.Reaching.{reached_behind}

@@ -1,15 +1,15 @@
 -- An instance may be made by each item in the innermost state, where valid items led to the states.
 use Rattle.std.proofs.Common.{ℕ, List}
-use Rattle.wcv_syntax.specs.Model.{Instance_form, instantiate, bag}
+use Rattle.wcv_syntax.specs.Model.{instantiate, bag}
 use Rattle.wcv_syntax.specs.declared.instance.ComponentInstantiationArg.{ComponentInstantiationArg}
 use Rattle.wcv_types.specs.Arena.{Arena}
 use Rattle.wcv_state.specs.Contents.{Contents}
 use Rattle.wcv_decls.specs.Declaring.{features_in, innermost, stack_in}
-use Rattle.wcv_link.specs.Instances.{ItemMayInstantiate}
-use Rattle.wcv_link.specs.Progress.{LastMayInstantiate}
 use Rattle.wcv_link.specs.Reached.{IsReached}
-use Rattle.wcv_link.proofs.AsFar.{reached-tidy}
-use Rattle.wcv_link.proofs.MayMake.{may_make}
+use Rattle.wcv_growth.proofs.AsFar.{reached-tidy}
+use Rattle.wcv_growth.proofs.MayMake.{may_make}
+use Rattle.wcv_instances.specs.ComponentInstances.{ItemMayInstantiate}
+use Rattle.wcv_link.specs.Progress.{LastMayInstantiate}
 use Rattle.wcv_link.proofs.Reaching.{places, reached_places}
 
 module _ (a : Arena) (ss : List Contents) (h : IsReached a ss) where

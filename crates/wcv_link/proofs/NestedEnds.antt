@@ -15,11 +15,11 @@ use Rattle.wcv_state.specs.Contents.{Contents}
 use Rattle.wcv_decls.specs.Declaring.{innermost, features_in, stack_in, top_in, TypeKept}
 use Rattle.wcv_decls.proofs.Closing.{component_tree_same}
 use Rattle.wcv_decls.proofs.InnermostStates.{open_here}
-use Rattle.wcv_link.specs.Progress.{IsReady}
 use Rattle.wcv_link.specs.Reached.{IsReached}
+use Rattle.wcv_growth.proofs.AsFar.{Reaches, reached-reaches}
+use Rattle.wcv_growth.proofs.Ended.{Listing, listing-own, listing-renamed_back, lists}
+use Rattle.wcv_link.specs.Progress.{IsReady}
 use Rattle.wcv_link.specs.Told.{Told}
-use Rattle.wcv_link.proofs.AsFar.{Reaches, reached-reaches}
-use Rattle.wcv_link.proofs.Ended.{Listing, listing-own, listing-renamed_back, lists}
 use Rattle.wcv_link.proofs.Leading.{imports_lead}
 use Rattle.wcv_link.proofs.Reaching.{places, reached_places}
 use Rattle.wcv_link.proofs.Telling.{component_more, paths_more}

@@ -31,7 +31,7 @@ use Rattle.wcv_decls.proofs.InnermostStates.{innermost_at, around_at, indexed, s
 use Rattle.wcv_decls.proofs.Plain.{own_given}
 use Rattle.wcv_decls.proofs.ReadingOn.{grown_numbers, extends_on}
 use Rattle.wcv_decls.proofs.SimpleDecls as simple
-use Rattle.wcv_link.specs.Instances.{AllMayInstantiate}
+use Rattle.wcv_instances.specs.ComponentInstances.{AllMayInstantiate}
 use Rattle.wcv_link.specs.ItemCalls.{ItemRead, ItemRefused}
 use Rattle.wcv_link.specs.Progress.{IsReady, GrewAt, RefusedAt, MemoryOrRefusedItem, TakesItem, AcceptsItem, RefusesItem, LeavesItem, AllMayOpen, LastMayInstantiate}
 use Rattle.wcv_link.proofs.Regular.{item_regular}

@@ -10,8 +10,8 @@ use Rattle.wcv_lower.specs.Given.{GivenNames, names_of, Numbers, AtMost, GivesAt
 use Rattle.wcv_lower.specs.Items.{read_item}
 use Rattle.wcv_lower.specs.Names.{Under}
 use Rattle.wcv_lower.specs.Trees.{Tree_stack, tree_maker}
-use Rattle.wcv_link.specs.Nested.{Nested_types, nested_in}
-use Rattle.wcv_link.specs.Valid.{ValidItem, RefusedItem}
+use Rattle.wcv_growth.specs.Nested.{Nested_types, nested_in}
+use Rattle.wcv_growth.specs.Valid.{ValidItem, RefusedItem}
 
 -- the item at place p is valid, and leads from one stack to another
 abbrev pub ItemRead : WasmFeatures → Place → Tree_stack → Form → Tree_stack → Numbers → Numbers → Type 0

@@ -19,12 +19,12 @@ use Rattle.wcv_state.specs.Instances.{MayOpen, ItemMayOpen}
 use Rattle.wcv_state.specs.Promises.{numbers_of, Keeps}
 use Rattle.wcv_decls.specs.Declaring.{innermost, around, features_in, stack_in}
 use Rattle.wcv_decls.specs.Stack.{IsOpen, AreCalm, all_uncharged}
-use Rattle.wcv_link.specs.Instances.{AllMayInstantiate}
-use Rattle.wcv_link.specs.ItemCalls.{ItemRead, ItemTells, ItemsRead, ItemRefused, ItemsRefused}
-use Rattle.wcv_link.specs.Nested.{Nested_types}
+use Rattle.wcv_growth.specs.Nested.{Nested_types}
 use Rattle.wcv_link.specs.Reached.{IsReached}
+use Rattle.wcv_growth.specs.Valid.{ValidItem, RefusedItem, Refused}
+use Rattle.wcv_instances.specs.ComponentInstances.{AllMayInstantiate}
+use Rattle.wcv_link.specs.ItemCalls.{ItemRead, ItemTells, ItemsRead, ItemRefused, ItemsRefused}
 use Rattle.wcv_link.specs.Told.{Ended}
-use Rattle.wcv_link.specs.Valid.{ValidItem, RefusedItem, Refused}
 use Rattle.wcv_link.specs.declared.nesting.Nesting.{Nesting}
 
 -- the states that are open may be used, the innermost last, their ids stand in the arena, and what stands in them owns apart

@@ -1,35 +1,14 @@
--- The stacks that valid items of a root lead to, also those inside components whose items are not all read yet.
-use Rattle.std.specs.Prelude.{ℕ, suc, ◌≤◌, List, [], Some, ◌≡◌}
-use Rattle.wcv_core.specs.Names.{Place, deeper}
-use Rattle.wcv_core.specs.declared.features.WasmFeatures.{WasmFeatures}
-use Rattle.wcv_syntax.specs.Model.{Form, Items}
+-- States of which the stack was reached by valid items.
+use Rattle.std.specs.Prelude.{ℕ, List}
+use Rattle.wcv_core.specs.Names.{Place}
 use Rattle.wcv_types.specs.Arena.{Arena}
-use Rattle.wcv_lower.specs.Checks.{IsFree}
-use Rattle.wcv_lower.specs.Context.{concrete}
-use Rattle.wcv_lower.specs.Declared.{inside}
 use Rattle.wcv_lower.specs.Given.{GivenNames, names_of, no_numbers, GivesAt}
-use Rattle.wcv_lower.specs.Items.{read_item, component_checks}
-use Rattle.wcv_lower.specs.Names.{Names, Under}
-use Rattle.wcv_lower.specs.Trees.{Tree_stack, tree_maker}
 use Rattle.wcv_state.specs.Contents.{Contents}
 use Rattle.wcv_state.specs.Promises.{numbers_of}
 use Rattle.wcv_decls.specs.Declaring.{features_in, stack_in}
-use Rattle.wcv_link.specs.Valid.{ValidItem, start}
+use Rattle.wcv_growth.specs.Reached.{Reached, Earlier}
 
--- the stack stands before the item at position k of the list at place w, where the items before it are valid, and so around it
-pub data Reached (fs : WasmFeatures) (names : Names) : Place → ℕ → Tree_stack → Type 0 where
-  -- before the root's first item
-  at_start : Reached fs names [] 0 start
-  -- behind an item
-  behind : (w : Place) (k : ℕ) (s u : Tree_stack) (f : Form) → Reached fs names w k s → ValidItem fs names (deeper w k) s f → read_item fs (tree_maker names) (deeper w k) s f ≡ Some u → Reached fs names w (suc k) u
-  -- before the first item of a component that has no cause of its own
-  within : (w : Place) (k : ℕ) (s : Tree_stack) (is : Items) → Reached fs names w k s → IsFree (component_checks s is) → Reached fs names (deeper w k) 0 (inside concrete s)
-
--- in no item of the list at place w from position k on
-abbrev pub Earlier : Place → ℕ → Place → Type 0
-Earlier w k p = (j : ℕ) → k ≤ j → Under (deeper w j) p → ⊥
-
--- the stack that the states stand for was reached so, by names that the arena gave before
+-- the stack that the states stand for was reached by valid items, by names that the arena gave before
 pub record IsReached (a : Arena) (ss : List Contents) : Type 0 where
   pub place : Place
   pub position : ℕ

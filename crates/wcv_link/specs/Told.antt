@@ -10,8 +10,8 @@ use Rattle.wcv_types.specs.declared.arena.Node.TheVariants as n
 use Rattle.wcv_types.specs.declared.component_type.ComponentType.{ComponentType}
 use Rattle.wcv_types.specs.declared.ids.ComponentTypeId.{ComponentTypeId}
 use Rattle.wcv_types.specs.declared.ids.Part.TheVariants as p
-use Rattle.wcv_link.specs.Listed.{ListsResources}
-use Rattle.wcv_link.specs.Nested.{Nested_types}
+use Rattle.wcv_growth.specs.Listed.{ListsResources}
+use Rattle.wcv_growth.specs.Nested.{Nested_types}
 use Rattle.wcv_link.specs.declared.nesting.Nested.{Nested}
 use Rattle.wcv_link.specs.declared.nesting.Nesting.{Nesting}
 

@@ -6,10 +6,9 @@ ghost use Rattle.wcv_syntax.specs.View.{core_type_view, code_decl_view, core_ins
 ghost use Rattle.wcv_lower.specs.Checks.{IsFree, too_many};
 ghost use Rattle.wcv_state.specs.Promises.{Keeps, MemoryOrCausedBy};
 ghost use Rattle.wcv_decls.specs.Stack.{IsOpen};
-ghost use Rattle.wcv_link.specs.Instances.{AllMayInstantiate};
+ghost use Rattle.wcv_instances.specs.ComponentInstances.{AllMayInstantiate};
 ghost use Rattle.wcv_link.specs.Progress.{IsReady, TakesItem, LeavesItem, AcceptsItem, RefusesItem};
 
-use crate::instantiate::Instantiate;
 use wcv_canon::Canon;
 use wcv_core::limits::MAX_LIST;
 use wcv_core::{Error, ErrorKind, Refusal, Why};
@@ -18,6 +17,7 @@ use wcv_decls::{
     check_component_instance_limits, check_core_limits, check_core_module_limits,
     check_instance_limits,
 };
+use wcv_instances::Instances;
 use wcv_state::ComponentState;
 use wcv_syntax::{
     CanonicalFunction, ComponentAlias, ComponentInstance, CoreType, Instance, ModuleDecl,

@@ -13,9 +13,9 @@ ghost use Rattle.wcv_state.specs.Promises.{Grew, Keeps, numbers_of};
 ghost use Rattle.wcv_state.specs.Stack.{IsOpen};
 ghost use Rattle.wcv_state.specs.declared.kind.ComponentKind.TheVariants.{Component};
 ghost use Rattle.wcv_decls.specs.Declaring.{features_in, innermost, stack_in};
-ghost use Rattle.wcv_link.specs.Instances.{ItemMayInstantiate};
-ghost use Rattle.wcv_link.specs.ItemCalls.{ItemRead};
 ghost use Rattle.wcv_link.specs.Reached.{IsReached};
+ghost use Rattle.wcv_instances.specs.ComponentInstances.{ItemMayInstantiate};
+ghost use Rattle.wcv_link.specs.ItemCalls.{ItemRead};
 
 /// A new state of a component, over an arena without core types, is reached, and may be used (`first`, `usable`). It stays so behind a call that added an item which is
 /// read in one step, where the limits that the call leaves to its caller hold (`grown`), and behind whatever was read into the states as an

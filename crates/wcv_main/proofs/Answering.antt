@@ -19,10 +19,10 @@ use Rattle.wcv_main.specs.Due.{Due, wrong_words, too_long, no_json, no_shape, se
 use Rattle.wcv_core.specs.Names.{base}
 use Rattle.wcv_lower.proofs.Causes.{free_right}
 use Rattle.wcv_lower.proofs.EndingLaws.{has_type}
-use Rattle.wcv_link.specs.Valid.{ValidTo, Refused}
-use Rattle.wcv_link.proofs.Decided.{valid_or_refused}
-use Rattle.wcv_link.proofs.Ended.{valid_lists}
-use Rattle.wcv_link.proofs.NestedListed.{nested_list}
+use Rattle.wcv_growth.specs.Valid.{ValidTo, Refused}
+use Rattle.wcv_growth.proofs.Decided.{valid_or_refused}
+use Rattle.wcv_growth.proofs.Ended.{valid_lists}
+use Rattle.wcv_growth.proofs.NestedListed.{nested_list}
 use Rattle.wcv_main.specs.Pump.{AppendsPrefix}
 use Rattle.wcv_main.specs.Answers.{IsAnswer, MayStandIn, Answers, Cuts, Finishes}
 use Rattle.wcv_main.proofs.Known.{appends_nothing}

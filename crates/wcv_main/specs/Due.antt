@@ -18,9 +18,9 @@ use Rattle.wcv_main.specs.declared.status.Status.TheVariants as status
 use Rattle.wcv_lower.specs.Context.{lengths}
 use Rattle.wcv_lower.specs.Ending.{type_at_end}
 use Rattle.wcv_lower.specs.Trees.{Type_tree, Tree_stack, node_tree}
-use Rattle.wcv_link.specs.Listed.{ListsResources}
-use Rattle.wcv_link.specs.Nested.{nested_types}
-use Rattle.wcv_link.specs.Valid.{ValidTo, Refused}
+use Rattle.wcv_growth.specs.Listed.{ListsResources}
+use Rattle.wcv_growth.specs.Nested.{nested_types}
+use Rattle.wcv_growth.specs.Valid.{ValidTo, Refused}
 use Rattle.wcv_main.specs.Commands.{is_validate, made_number}
 use Rattle.wcv_main.specs.Report.{line, report}
 

@@ -9,8 +9,8 @@ use Rattle.wcv_syntax.specs.View.{items_view}
 use Rattle.wcv_listing.specs.Generated.{generated}
 use Rattle.wcv_lower.specs.Context.{lengths}
 use Rattle.wcv_lower.specs.Trees.{Tree_stack}
+use Rattle.wcv_growth.specs.Valid.{ValidTo, Refused}
 use Rattle.wcv_link.specs.Accepts.{Accepts}
-use Rattle.wcv_link.specs.Valid.{ValidTo, Refused}
 use Rattle.wcv_link.specs.declared.driver.Accepted.{Accepted}
 use Rattle.wcv_main.specs.Answers.{Finishes}
 use Rattle.wcv_main.specs.Due.{made, made_text}

@@ -8,8 +8,8 @@ use Rattle.wcv_types.specs.Text.{type_text}
 use Rattle.wcv_types.proofs.SameText.{same_text}
 use Rattle.wcv_lower.specs.Context.{lengths}
 use Rattle.wcv_lower.specs.Trees.{Tree_stack}
+use Rattle.wcv_growth.specs.Valid.{Refused}
 use Rattle.wcv_link.specs.Accepts.{Accepts}
-use Rattle.wcv_link.specs.Valid.{Refused}
 use Rattle.wcv_link.specs.declared.driver.Accepted.{Accepted}
 use Rattle.wcv_main.specs.Answers.{Finishes}
 use Rattle.wcv_main.specs.Due.{accepted_text, sections}

@@ -1,0 +1,11 @@
+pub mod Looked
+pub mod Sizing
+pub mod Differing
+pub mod CoreInstances
+pub mod ItemsLooked
+pub mod UsedEach
+pub mod FromComponent
+pub mod FromItems
+pub mod Listing
+pub mod InstanceGrown
+pub mod InstanceSizes

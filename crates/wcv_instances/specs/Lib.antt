@@ -1,0 +1,2 @@
+pub mod CoreInstances
+pub mod ComponentInstances

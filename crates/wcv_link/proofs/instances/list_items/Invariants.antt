@@ -1,9 +1,0 @@
-use Rattle.std.proofs.Common.{◌≡◌}
-use Rattle.wcv_link.proofs.Listing.{Listing}
-use Rattle.wcv_link.proofs.instances.list_items.Given as goal
-
-abbrev pub invariant-loop-k : goal.invariant-loop-k
-invariant-loop-k l = record {
-  listing : Listing l.initial.types l.features l.found l.k l.items l.keys l.info;
-  types : l.types ≡ l.initial.types;
-}

@@ -1,5 +1,0 @@
-use Rattle.wcv_link.proofs.UsedEach.{UsedTo}
-use Rattle.wcv_link.proofs.instances.use_values.Given as goal
-
-abbrev pub invariant-loop-value : goal.invariant-loop-value
-invariant-loop-value l = UsedTo l.initial.state l.state l.values l.value-index

@@ -1,6 +1,0 @@
-use Rattle.wcv_link.proofs.NestedListed.{nested_lead}
-use Rattle.wcv_link.proofs.PathsLead.{root_lead}
-use Rattle.wcv_link.proofs.kept_laws.each_recorded_path_leads.Goals as goal
-
-pub returns : goal.returns
-returns c = record { root = root_lead; nested = nested_lead }
