@@ -11,6 +11,8 @@ mod core_types;
 #[cfg(test)]
 mod depth;
 #[cfg(test)]
+mod driving;
+#[cfg(test)]
 mod ends;
 #[cfg(test)]
 mod fakes;
