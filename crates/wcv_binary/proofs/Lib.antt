@@ -1,0 +1,6 @@
+pub mod Declared
+pub mod Deeper
+pub mod Loop
+pub mod Made
+pub mod Nested
+pub mod Told

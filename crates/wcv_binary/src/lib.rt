@@ -1,0 +1,55 @@
+//! Component binaries: what their bytes stand for.
+#![tactic(auto)]
+
+mod alias;
+mod binary;
+mod canon;
+mod canon_options;
+mod class;
+mod component;
+mod constant;
+mod core_instance;
+mod core_type;
+mod core_value;
+mod defined;
+mod entity;
+mod entry;
+mod fault;
+mod func;
+mod header;
+mod instance;
+mod item;
+mod limits;
+mod list;
+mod module;
+mod module_export;
+mod module_item;
+mod module_section;
+mod module_type;
+mod name;
+mod number;
+mod section;
+mod sort;
+mod text;
+mod types;
+mod value;
+
+pub use alias::read_alias;
+pub use binary::{Binary, read_binary, read_binary_within};
+pub use canon::read_canon;
+pub use class::Class;
+pub use component::MAX_NESTING;
+pub use defined::read_defined;
+pub use entry::read_listed;
+pub use fault::{BinaryError, BinaryFault, Fault, ReadError, Why};
+pub use func::read_func;
+pub use instance::read_instance;
+pub use list::{FromBytes, read_vec};
+pub use module::read_core_module;
+pub use name::{read_export, read_import};
+pub use number::{read_flag, read_index, read_u32, read_u64, read_zero};
+pub use section::{MAX_KEPT_BYTES, read_contents};
+pub use sort::{read_core_sort, read_sort};
+pub use text::read_text;
+pub use types::read_type_over;
+pub use value::{read_component_val_type, read_optional_val_type, read_result};
