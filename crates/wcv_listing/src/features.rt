@@ -10,50 +10,50 @@ use crate::value::{list_of, text_of};
 use bitflags::Flags;
 use wcv_core::WasmFeatures;
 
-// The feature of this name.
+/// The features by their names in a listing, in the order of their bits.
+pub const FEATURE_NAMES: [(&str, WasmFeatures); 21] = [
+    ("simd", WasmFeatures::SIMD),
+    ("threads", WasmFeatures::THREADS),
+    ("function-references", WasmFeatures::FUNCTION_REFERENCES),
+    ("gc", WasmFeatures::GC),
+    ("exceptions", WasmFeatures::EXCEPTIONS),
+    ("memory64", WasmFeatures::MEMORY64),
+    ("custom-page-sizes", WasmFeatures::CUSTOM_PAGE_SIZES),
+    (
+        "shared-everything-threads",
+        WasmFeatures::SHARED_EVERYTHING_THREADS,
+    ),
+    ("cm-async", WasmFeatures::CM_ASYNC),
+    ("cm-async-stackful", WasmFeatures::CM_ASYNC_STACKFUL),
+    (
+        "cm-more-async-builtins",
+        WasmFeatures::CM_MORE_ASYNC_BUILTINS,
+    ),
+    ("cm-forward", WasmFeatures::CM_FORWARD),
+    ("cm-threading", WasmFeatures::CM_THREADING),
+    ("cm64", WasmFeatures::CM64),
+    ("cm-values", WasmFeatures::CM_VALUES),
+    ("cm-map", WasmFeatures::CM_MAP),
+    ("cm-fixed-length-lists", WasmFeatures::CM_FIXED_LENGTH_LISTS),
+    ("cm-error-context", WasmFeatures::CM_ERROR_CONTEXT),
+    ("cm-canon-names", WasmFeatures::CM_CANON_NAMES),
+    ("cm-implements", WasmFeatures::CM_IMPLEMENTS),
+    ("cm-accessors", WasmFeatures::CM_ACCESSORS),
+];
+
+/// The feature that has this name in a listing.
 #[tactic(auto, using(crate::proofs::Names::named_mapped))]
-fn feature_of(name: &str) -> Option<WasmFeatures>
+pub fn feature_named(name: &str) -> Option<WasmFeatures>
     ensures { option_map (λ feature. feature.0) result ≡ named feature_names name.now }
 {
-    named_in(
-        &[
-            ("simd", WasmFeatures::SIMD),
-            ("threads", WasmFeatures::THREADS),
-            ("function-references", WasmFeatures::FUNCTION_REFERENCES),
-            ("gc", WasmFeatures::GC),
-            ("exceptions", WasmFeatures::EXCEPTIONS),
-            ("memory64", WasmFeatures::MEMORY64),
-            ("custom-page-sizes", WasmFeatures::CUSTOM_PAGE_SIZES),
-            (
-                "shared-everything-threads",
-                WasmFeatures::SHARED_EVERYTHING_THREADS,
-            ),
-            ("cm-async", WasmFeatures::CM_ASYNC),
-            ("cm-async-stackful", WasmFeatures::CM_ASYNC_STACKFUL),
-            (
-                "cm-more-async-builtins",
-                WasmFeatures::CM_MORE_ASYNC_BUILTINS,
-            ),
-            ("cm-forward", WasmFeatures::CM_FORWARD),
-            ("cm-threading", WasmFeatures::CM_THREADING),
-            ("cm64", WasmFeatures::CM64),
-            ("cm-values", WasmFeatures::CM_VALUES),
-            ("cm-map", WasmFeatures::CM_MAP),
-            ("cm-fixed-length-lists", WasmFeatures::CM_FIXED_LENGTH_LISTS),
-            ("cm-error-context", WasmFeatures::CM_ERROR_CONTEXT),
-            ("cm-canon-names", WasmFeatures::CM_CANON_NAMES),
-            ("cm-implements", WasmFeatures::CM_IMPLEMENTS),
-            ("cm-accessors", WasmFeatures::CM_ACCESSORS),
-        ],
-        name,
-    )
+    named_in(&FEATURE_NAMES, name)
 }
 
 // The feature that the value names.
 fn read_feature(value: Node<'_, '_>) -> Option<WasmFeatures>
     ensures { option_map (λ feature. feature.0) result ≡ feature_bit (view value.entry) }
 {
-    feature_of(text_of(value)?)
+    feature_named(text_of(value)?)
 }
 
 /// The set of the features that are named.
