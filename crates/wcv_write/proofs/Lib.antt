@@ -1,0 +1,4 @@
+pub mod FormsAgain
+pub mod Lists
+pub mod ReadAgain
+pub mod Views

@@ -1,0 +1,14 @@
+pub mod Json
+pub mod Indices
+pub mod Values
+pub mod Core
+pub mod CoreItems
+pub mod Sorts
+pub mod CoreForms
+pub mod Defined
+pub mod Externs
+pub mod Types
+pub mod Canons
+pub mod Items
+pub mod Listing
+pub mod Sayable
