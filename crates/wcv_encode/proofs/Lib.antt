@@ -1,0 +1,10 @@
+pub mod Joins
+pub mod Numbers
+pub mod Lists
+pub mod Texts
+pub mod Groups
+pub mod Sections
+pub mod Parts
+pub mod Exports
+pub mod Declared
+pub mod Forms

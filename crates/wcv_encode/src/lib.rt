@@ -1,0 +1,22 @@
+//! Items of a component as the bytes of a component binary, in one fixed way.
+#![tactic(auto)]
+
+mod canon;
+mod component;
+mod core_type;
+mod counts;
+mod entity;
+mod entry;
+mod fault;
+mod instance;
+mod list;
+mod module;
+mod module_type;
+mod number;
+mod part;
+mod sort;
+mod text;
+mod types;
+mod value;
+
+pub use component::write_binary;
