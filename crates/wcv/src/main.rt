@@ -1,4 +1,4 @@
-//! Validates the component that standard input lists, and writes the report to standard output.
+//! Validates the component that standard input lists or holds, or lists it, and writes to standard output.
 #![tactic(auto)]
 
 use std::alloc::Global;
@@ -9,7 +9,7 @@ use wcv_core::OutOfMemory;
 use wcv_main::{ReadAdapter, Status, Words, WriteAdapter, run};
 
 /// A word that is longer is no command.
-const LONGEST_WORD: usize = 64;
+const LONGEST_WORD: usize = 512;
 
 /// The words after the program's name. One that is no text, or is too long, is handed on as the empty
 /// word, which is no command.

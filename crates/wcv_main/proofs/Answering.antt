@@ -5,6 +5,7 @@ use Rattle.std.proofs.lemmas.List.{append-nil}
 use Rattle.std.proofs.lemmas.Bool.{cases_lt}
 use Rattle.std.proofs.lemmas.Bool.Decides.{nat_tests}
 use Rattle.std.specs.Io.KnownBytes.{Appends, Consumes, IsAtEnd}
+use Rattle.wcv_main.specs.declared.reading.Reading.{Reading}
 use Rattle.wcv_main.specs.declared.status.Status.{Status}
 use Rattle.wcv_main.specs.declared.status.Status.TheVariants as status
 use Rattle.wcv_core.specs.declared.error.ErrorKind.{ErrorKind}
@@ -15,7 +16,7 @@ use Rattle.wcv_listing.specs.Generated.{generated}
 use Rattle.wcv_lower.specs.Ending.{type_at_end, end_checks}
 use Rattle.wcv_lower.specs.Marks.{unused_checks}
 use Rattle.wcv_lower.specs.Trees.{Type_tree, Tree_stack, node_tree}
-use Rattle.wcv_main.specs.Due.{Due, wrong_words, too_long, no_json, no_shape, sections, made, due_of_bytes, due_over, usage, IsReport, IsSummary, IsExpected, accepted_text, made_text, refusal_text}
+use Rattle.wcv_main.specs.Due.{Due, wrong_words, too_long, no_json, no_shape, binary_too_long, too_much_to_keep, no_binary, no_form, sections, listing, made, due_of_bytes, due_of_long, due_over, usage, IsReport, IsSummary, IsExpected, accepted_text, made_text, refusal_text}
 use Rattle.wcv_core.specs.Names.{base}
 use Rattle.wcv_lower.proofs.Causes.{free_right}
 use Rattle.wcv_lower.proofs.EndingLaws.{has_type}
@@ -41,6 +42,11 @@ some_due wrong_words = (status.Words, usage, (refl, refl))
 some_due too_long = (status.TooLong, _, (refl, refl))
 some_due no_json = (status.Listing, _, (refl, refl))
 some_due (no_shape at) = (status.Listing, _, (refl, refl))
+some_due binary_too_long = (status.TooLong, _, (refl, refl))
+some_due too_much_to_keep = (status.TooLong, _, (refl, refl))
+some_due (no_binary at) = (status.Listing, _, (refl, ([], refl)))
+some_due (no_form at) = (status.Listing, _, (refl, ([], refl)))
+some_due (listing features es end) = (status.Done, _, (refl, refl))
 some_due (sections features is end) = by_answer (valid_or_refused features is end)
   where
     by_answer : ((d : Tree_stack) × ValidTo features is d) ⊎ ((kind : ErrorKind) × (offset : ℕ) × Refused features is end kind offset) → (s : Status) × (text : List ℕ) × IsExpected (sections features is end) s text
@@ -90,15 +96,15 @@ module _ (words : List (List ℕ)) (left old new : Option (List ℕ)) (result s 
       cuts_told (Some d) due (inr (inl w)) may = (s, text, due, w.1)
       cuts_told (Some d) due (inr (inr w)) may = (s, text, due, w.1)
 
-pub long_due : (bytes : List ℕ) → max_listing < length bytes → due_of_bytes bytes ≡ too_long
-long_due bytes long = grind (arith, nat_tests)
+pub long_due : (r : Reading) (bytes : List ℕ) → max_listing < length bytes → due_of_bytes r bytes ≡ due_of_long r
+long_due r bytes long = grind (arith, nat_tests)
 
 -- What is due is the same for the bytes that were read as for all that were left.
-pub same_due : (left after : Option (List ℕ)) (v : List ℕ) → Consumes left after v → length v ≤ max_listing + 1 → (length v ≤ max_listing → IsAtEnd after)
-    → IfSome left (λ bytes. due_of_bytes v ≡ due_of_bytes bytes)
-same_due None after v read short end = tt
-same_due (Some bytes) None v read short end = absurd read
-same_due (Some bytes) (Some rest) v read short end = ⊎_elim
-    (λ h. long_due v h ∙ sym (long_due bytes (omega (arith, ap length read, length-append v rest))))
-    (λ h. ap due_of_bytes (sym (append-nil v) ∙ ap (λ r. v ++ r) (sym (end h)) ∙ sym read))
+pub same_due : (r : Reading) (left after : Option (List ℕ)) (v : List ℕ) → Consumes left after v → length v ≤ max_listing + 1 → (length v ≤ max_listing → IsAtEnd after)
+    → IfSome left (λ bytes. due_of_bytes r v ≡ due_of_bytes r bytes)
+same_due r None after v read short end = tt
+same_due r (Some bytes) None v read short end = absurd read
+same_due r (Some bytes) (Some rest) v read short end = ⊎_elim
+    (λ h. long_due r v h ∙ sym (long_due r bytes (omega (arith, ap length read, length-append v rest))))
+    (λ h. ap (due_of_bytes r) (sym (append-nil v) ∙ ap (λ r. v ++ r) (sym (end h)) ∙ sym read))
     (cases_lt max_listing (length v))

@@ -1,24 +1,11 @@
 // Which command the words are.
 ghost use Rattle.std.specs.Prelude.{◌≡◌, ◌↔◌, ◌≤◌, IfSome, IsTrue};
-ghost use Rattle.wcv_main.specs.Commands.{is_validate, made_number as number_made, number_up_to as up_to, IsMarked};
+ghost use Rattle.wcv_main.specs.Commands.{made_number as number_made, number_up_to as up_to, IsMarked};
 
 use crate::words::Words;
 
 // The greatest number for which a listing is made.
 const MAX_MADE: u32 = 1_000;
-
-/// Whether the words are the command `validate`.
-pub fn is_validate_command(words: &Words) -> bool
-    ensures { result ≡ is_validate words.now }
-{
-    if words.len() != 1 {
-        return false;
-    }
-    match words.get(0) {
-        Some(word) => word == "validate",
-        None => false,
-    }
-}
 
 // Whether a sign stands in front of the text, or a zero in front of more.
 fn is_marked(text: &[u8]) -> bool

@@ -2,11 +2,14 @@
 #![tactic(auto)]
 
 mod adapter;
+mod binary;
 mod command;
 mod ends;
+mod items;
 mod make;
 mod memory;
 mod pump;
+mod reading;
 mod refusal;
 mod report;
 mod report_lines;

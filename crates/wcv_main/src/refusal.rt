@@ -10,14 +10,21 @@ use crate::status::Status;
 use std::alloc::{AllocError, Global};
 use wcv_core::Error;
 
+/// Writes the bytes, and answers the status, or that a write failed.
+pub fn finish_bytes<K: Sink>(sink: &mut K, status: Status, text: &[u8]) -> Status
+    ensures { Finishes result status (K.taken sink.old) (K.taken sink.new) text.now (K.faults sink.old) (K.faults sink.new) }
+{
+    match write_all(sink, text) {
+        Ok(()) => status,
+        Err(_) => Status::WriteFault,
+    }
+}
+
 /// Writes the text, and answers the status, or that a write failed.
 pub fn finish<K: Sink>(sink: &mut K, status: Status, text: &str) -> Status
     ensures { Finishes result status (K.taken sink.old) (K.taken sink.new) text.now (K.faults sink.old) (K.faults sink.new) }
 {
-    match write_all(sink, text.as_bytes()) {
-        Ok(()) => status,
-        Err(_) => Status::WriteFault,
-    }
+    finish_bytes(sink, status, text.as_bytes())
 }
 
 /// The two lines of a refusal.

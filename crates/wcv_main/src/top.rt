@@ -1,102 +1,53 @@
 // The top call.
-ghost use Rattle.std.specs.Prelude.{◌≡◌, ◌≢◌, ◌+◌, ◌≤◌, ◌<◌, ◌⊎◌, ◌++◌, ℕ, List, [], true, false, length, string_bytes, IfOk};
+ghost use Rattle.std.specs.Prelude.{◌≡◌, ◌+◌, ◌≤◌, ◌<◌, ◌⊎◌, [], true, false, Some};
 ghost use Rattle.std.specs.Io.KnownBytes.{Appends, IsAtEnd};
-ghost use Rattle.wcv_core.specs.Refusal.{error_kind, error_offset};
-ghost use Rattle.wcv_core.specs.declared.features.WasmFeatures.{WasmFeatures};
-ghost use Rattle.wcv_syntax.specs.Model.{Items};
-ghost use Rattle.wcv_syntax.specs.View.{items_view};
-ghost use Rattle.wcv_types.specs.Text.{type_text};
-ghost use Rattle.wcv_types.specs.ComponentTrees.{root_tree};
-ghost use Rattle.wcv_link.specs.Accepts.{Accepts};
 ghost use Rattle.wcv_main.specs.Faults.{Rose};
 ghost use Rattle.wcv_main.specs.Pump.{ConsumesAtMost, ConsumesExactly};
-ghost use Rattle.wcv_main.specs.Commands.{is_validate, is_command};
-ghost use Rattle.wcv_main.specs.Due.{due_of_bytes, due_unread, usage, sections, no_shape as no_shape_at};
-ghost use Rattle.wcv_main.specs.Report.{report, space_lengths as lengths_of_spaces};
-ghost use Rattle.wcv_main.specs.Answers.{MayStandIn, Answers, Cuts, Ends, Finishes};
+ghost use Rattle.wcv_main.specs.Commands.{is_reading, is_command, reading_of as reading_by_words};
+ghost use Rattle.wcv_main.specs.declared.reading.Reading.TheVariants as reads;
+ghost use Rattle.wcv_main.specs.Due.{due_of_bytes, due_of_long, due_unread, usage};
+ghost use Rattle.wcv_main.specs.Answers.{MayStandIn, Answers, Cuts, Ends};
 
-use crate::command::{is_validate_command, made_number};
+use crate::binary::{answer_binary, answer_to_listing};
+use crate::command::made_number;
 use crate::ends::{Sink, Source};
+use crate::items::answer_text;
 use crate::make::make;
-use crate::pump::{ReadError, WriteError, read_all};
-use crate::refusal::{finish, refuse};
-use crate::report_lines::write_report;
+use crate::pump::{ReadError, read_all};
+use crate::reading::{Reading, reading_of};
+use crate::refusal::finish;
 use crate::status::Status;
 use crate::words::Words;
 use std::alloc::Global;
-use wcv_core::ErrorKind;
+use wcv_core::OutOfMemory;
 use wcv_core::limits::MAX_LISTING;
-use wcv_link::{Accepted, validate_sections};
-use wcv_listing::{Listing, ListingError, read_listing};
 
-/// Writes the report of a valid root, and answers that all is done, or what failed.
-fn accept<K: Sink>(alloc: Global, sink: &mut K, accepted: &Accepted) -> Status
-    requires { (features : WasmFeatures) × ((is : Items) × Accepts features is accepted.now) }
-    ensures { Finishes result Status.Done (K.taken sink.old) (K.taken sink.new) (report (lengths_of_spaces accepted.now.state.spaces) ++ type_text accepted.now.types.core (root_tree accepted.now.types accepted.now.ty)) (K.faults sink.old) (K.faults sink.new) }
+// Writes that the source gave too many bytes.
+fn answer_long<K: Sink>(sink: &mut K, reading: Reading) -> Status
+    ensures { Ends (due_of_long reading) result (K.taken sink.old) (K.taken sink.new) (K.faults sink.old) (K.faults sink.new) }
 {
-    match write_report(alloc, sink, accepted) {
-        Ok(()) => Status::Done,
-        Err(WriteError::Failed) => Status::WriteFault,
-        Err(WriteError::Memory) => Status::Memory,
-    }
+    let text = match reading {
+        Reading::Listing => "listing is longer than 67108864 bytes\n",
+        Reading::Binary(_) | Reading::ToListing(_) => "binary is longer than 67108864 bytes\n",
+    };
+    finish(sink, Status::TooLong, text)
 }
 
-/// So for a root that is read no more.
-fn accept_last<K: Sink>(alloc: Global, sink: &mut K, accepted: Accepted) -> Status
-    requires { (features : WasmFeatures) × ((is : Items) × Accepts features is accepted) }
-    ensures { Finishes result Status.Done (K.taken sink.old) (K.taken sink.new) (report (lengths_of_spaces accepted.state.spaces) ++ type_text accepted.types.core (root_tree accepted.types accepted.ty)) (K.faults sink.old) (K.faults sink.new) }
-{
-    let status = accept(alloc, sink, &accepted);
-    drop(accepted);
-    status
-}
-
-/// Writes what is due with a listing.
-fn answer_listing<K: Sink>(alloc: Global, sink: &mut K, listing: Listing) -> Status
-    ensures { Ends (sections listing.features (items_view listing.items.items) listing.end) result (K.taken sink.old) (K.taken sink.new) (K.faults sink.old) (K.faults sink.new) }
-{
-    match validate_sections(alloc, listing.features, listing.items, listing.end) {
-        Ok(accepted) => accept_last(alloc, sink, accepted),
-        Err(error) => {
-            if error.kind() == ErrorKind::OutOfMemory {
-                Status::Memory
-            } else {
-                refuse(alloc, sink, &error)
-            }
-        }
-    }
-}
-
-/// Writes that JSON is no listing, and where.
-fn no_shape<K: Sink>(alloc: Global, sink: &mut K, at: u64) -> Status
-    ensures { Ends (no_shape_at at) result (K.taken sink.old) (K.taken sink.new) (K.faults sink.old) (K.faults sink.new) }
-{
-    match format!(in alloc; "bad listing at {at}\n") {
-        Ok(text) => finish(sink, Status::Listing, text.as_str()),
-        Err(_) => Status::Memory,
-    }
-}
-
-/// Writes what is due with the bytes of a listing.
-fn answer<K: Sink>(alloc: Global, sink: &mut K, bytes: &[u8]) -> Status
-    ensures { Ends (due_of_bytes bytes.now) result (K.taken sink.old) (K.taken sink.new) (K.faults sink.old) (K.faults sink.new) }
+// Writes what is due with the bytes that were read.
+fn answer<K: Sink>(alloc: Global, sink: &mut K, reading: Reading, bytes: &[u8]) -> Status
+    ensures { Ends (due_of_bytes reading bytes.now) result (K.taken sink.old) (K.taken sink.new) (K.faults sink.old) (K.faults sink.new) }
 {
     if bytes.len() > MAX_LISTING {
-        return finish(
-            sink,
-            Status::TooLong,
-            "listing is longer than 67108864 bytes\n",
-        );
+        return answer_long(sink, reading);
     }
-    match read_listing(alloc, bytes) {
-        Ok(listing) => answer_listing(alloc, sink, listing),
-        Err(ListingError::NotJson) => finish(sink, Status::Listing, "bad listing: not JSON\n"),
-        Err(ListingError::BadShape { at }) => no_shape(alloc, sink, at),
-        Err(ListingError::OutOfMemory) => Status::Memory,
+    match reading {
+        Reading::Listing => answer_text(alloc, sink, bytes),
+        Reading::Binary(features) => answer_binary(alloc, sink, features, bytes),
+        Reading::ToListing(features) => answer_to_listing(alloc, sink, features, bytes),
     }
 }
 
-/// Writes what is due for words with which nothing is read.
+// Writes what is due for words with which nothing is read.
 fn answer_unread<K: Sink>(alloc: Global, words: &Words, sink: &mut K) -> Status
     ensures { Ends (due_unread words.now) result (K.taken sink.old) (K.taken sink.new) (K.faults sink.old) (K.faults sink.new) }
 {
@@ -110,10 +61,11 @@ fn answer_unread<K: Sink>(alloc: Global, words: &Words, sink: &mut K) -> Status
     }
 }
 
-/// Runs the program: with the one word `validate` it reads a listing from the source to its end, decides
-/// whether the component that it lists is valid, and writes the report or the refusal to the sink. With `make`
-/// and a number it does so with the listing that is made for the number, and writes the report without the type.
-/// With other words it writes how it is used. It reads nothing but for `validate`.
+/// Runs the program. With the word `validate` it reads a listing from the source to its end, decides whether the
+/// component that it lists is valid, and writes the report or the refusal to the sink. With `validate-binary`, and
+/// maybe features behind it, it does so with a component binary, and with `list` it writes the listing of one. With
+/// `make` and a number it validates the listing that is made for the number, and writes the report without the
+/// type. With other words it writes how it is used. It reads nothing but for the first three.
 ///
 /// Every answer but a fault and out of memory is the one that is due for the words and the bytes, and
 /// each has its cause in a clause below. What a source or a sink does not tell, no clause speaks of.
@@ -124,24 +76,27 @@ pub fn run<S: Source, K: Sink>(alloc: Global, words: &Words, source: &mut S, sin
     ensures cuts { Cuts words.now (S.left source.old) result (K.taken sink.old) (K.taken sink.new) }
     ensures words { is_command words.now ≡ false → (result ≡ Status.Words) ⊎ MayStandIn result }
     ensures usage { result ≡ Status.Words → (is_command words.now ≡ false) × Appends (K.taken sink.old) (K.taken sink.new) usage }
-    ensures unread { is_validate words.now ≡ false → source.new ≡ source.old }
-    ensures read_fault { result ≡ Status.ReadFault → (is_validate words.now ≡ true) × Rose (S.faults source.old) (S.faults source.new) × Appends (K.taken sink.old) (K.taken sink.new) [] }
+    ensures unread { is_reading words.now ≡ false → source.new ≡ source.old }
+    ensures read_fault { result ≡ Status.ReadFault → (is_reading words.now ≡ true) × Rose (S.faults source.old) (S.faults source.new) × Appends (K.taken sink.old) (K.taken sink.new) [] }
     ensures read_always { S.faults source.old < S.faults source.new → result ≡ Status.ReadFault }
     ensures write_fault { result ≡ Status.WriteFault → Rose (K.faults sink.old) (K.faults sink.new) }
     ensures write_always { K.faults sink.old < K.faults sink.new → result ≡ Status.WriteFault }
     ensures source_later { S.faults source.old ≤ S.faults source.new }
     ensures sink_later { K.faults sink.old ≤ K.faults sink.new }
     ensures bounded { ConsumesAtMost (S.left source.old) (S.left source.new) (MAX_LISTING + 1) }
-    ensures too_long { result ≡ Status.TooLong → ConsumesExactly (S.left source.old) (S.left source.new) (MAX_LISTING + 1) }
-    ensures to_the_end { is_validate words.now ≡ true → result ≡ Status.Done → IsAtEnd (S.left source.new) }
+    // Of a binary there may also be too many bytes to keep.
+    ensures too_long { result ≡ Status.TooLong → reading_by_words words.now ≡ Some reads.Listing → ConsumesExactly (S.left source.old) (S.left source.new) (MAX_LISTING + 1) }
+    ensures to_the_end { is_reading words.now ≡ true → result ≡ Status.Done → IsAtEnd (S.left source.new) }
 {
-    if !is_validate_command(words) {
-        return answer_unread(alloc, words, sink);
-    }
+    let reading = match reading_of(alloc, words) {
+        Ok(Some(reading)) => reading,
+        Ok(None) => return answer_unread(alloc, words, sink),
+        Err(OutOfMemory) => return Status::Memory,
+    };
     let bytes = match read_all(alloc, source) {
         Ok(bytes) => bytes,
         Err(ReadError::Failed) => return Status::ReadFault,
         Err(ReadError::Memory) => return Status::Memory,
     };
-    answer(alloc, sink, &bytes)
+    answer(alloc, sink, reading, &bytes)
 }

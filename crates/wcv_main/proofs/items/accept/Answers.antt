@@ -1,7 +1,7 @@
 use Rattle.std.proofs.Common.{◌∙◌, Err, ap}
 use Rattle.wcv_main.specs.declared.status.Status.TheVariants as status
 use Rattle.wcv_main.proofs.Ending.{done_finishes, failed_finishes, memory_finishes}
-use Rattle.wcv_main.proofs.top.accept.Goals as goal
+use Rattle.wcv_main.proofs.items.accept.Goals as goal
 
 pub returns-in-Ok : goal.returns-in-Ok
 returns-in-Ok g c = done_finishes c.write_report.result status.Done _ _ _ _ _ c.write_report.ensures c.in-Ok.is

@@ -4,7 +4,7 @@ use Rattle.wcv_main.specs.Due.{no_shape}
 use Rattle.wcv_main.specs.Report.{line}
 use Rattle.wcv_main.specs.declared.status.Status.TheVariants as status
 use Rattle.wcv_main.proofs.Ending.{nothing_ends}
-use Rattle.wcv_main.proofs.top.no_shape.Goals as goal
+use Rattle.wcv_main.proofs.items.no_shape.Goals as goal
 
 pub returns-in-Ok : goal.returns-in-Ok
 returns-in-Ok g c =

@@ -18,7 +18,7 @@ use Rattle.wcv_main.specs.declared.status.Status.TheVariants as status
 use Rattle.wcv_main.proofs.Answering.{reported}
 use Rattle.wcv_main.proofs.Counting.{counted}
 use Rattle.wcv_main.proofs.Ending.{nothing_ends}
-use Rattle.wcv_main.proofs.top.answer_listing.Goals as goal
+use Rattle.wcv_main.proofs.items.answer_items.Goals as goal
 
 pub returns-in-Ok : goal.returns-in-Ok
 returns-in-Ok g c =
