@@ -1,5 +1,5 @@
 // The blocks of a file: rows, tables of rows, and remarks.
-use crate::answer::answer;
+use crate::answer::{answer, answer_listing};
 use crate::due::{first_difference, is_short_answer, whole_answer};
 use crate::question::Question;
 use crate::repeats::{expanded, push_with};
@@ -17,6 +17,22 @@ fn answer_lines(alloc: Global, lines: &str, due: &str) -> Result<(String, String
     Ok((answer(alloc, &mut question)?, offset))
 }
 
+/// Runs a row of these lines, which have a binary and a listing that are to be answered alike.
+fn run_alike(tally: &mut Tally, title: &str, lines: &str) -> Result<(), AllocError> {
+    let alloc = tally.alloc();
+    let mut question = Question::new(alloc);
+    for line in lines.split('\n') {
+        question.push_line(line)?;
+    }
+    let listed = answer_listing(alloc, &mut question)?;
+    let answer = answer(alloc, &mut question)?;
+    if listed == answer {
+        return Ok(());
+    }
+    let (due, came) = first_difference(listed.as_str(), answer.as_str());
+    tally.tell(title, "", due, came)
+}
+
 /// Runs a row of these lines, and tells by its title and what it asks if another answer comes than the one that
 /// is due.
 fn run_row(
@@ -31,6 +47,9 @@ fn run_row(
     let lines = expanded(alloc, lines)?;
     let due = expanded(alloc, due)?;
     let due = due.as_str();
+    if due == "alike" {
+        return run_alike(tally, title, lines.as_str());
+    }
     let (answer, offset) = answer_lines(alloc, lines.as_str(), due)?;
     if let Some(whole) = whole_answer(alloc, due)? {
         if whole == answer {

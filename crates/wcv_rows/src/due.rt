@@ -53,6 +53,10 @@ pub fn whole_answer(alloc: Global, due: &str) -> Result<Option<String>, AllocErr
     if first == "NotJson" {
         return Ok(Some(String::from_str(alloc, "3\nbad listing: not JSON\n")?));
     }
+    if first == "WrongWords" {
+        let usage = "2\nusage: wcv validate, wcv link TURNS or wcv make N\n";
+        return Ok(Some(String::from_str(alloc, usage)?));
+    }
     if let Some(at) = first.strip_prefix("BadShape at ") {
         return Ok(Some(format!(in alloc; "3\nbad listing at {at}\n")?));
     }
@@ -63,24 +67,18 @@ pub fn whole_answer(alloc: Global, due: &str) -> Result<Option<String>, AllocErr
     }
 }
 
-/// Whether the answer is a refusal of this kind at this offset, with this message, or any one line if none is due.
-fn is_refusal(
-    alloc: Global,
-    kind: &str,
-    offset: &str,
-    message: &str,
-    answer: &str,
-) -> Result<bool, AllocError> {
-    let first = format!(in alloc; "1\nrefused {kind} at {offset}\n")?;
-    let rest = answer.strip_prefix(first.as_str()).unwrap_or("");
+/// Whether the answer begins so and ends with this message, or with any one line if none is due.
+fn is_told(first: &str, message: &str, answer: &str) -> bool {
+    let rest = answer.strip_prefix(first).unwrap_or("");
     match rest.strip_suffix('\n') {
-        Some(line) if message.is_empty() => Ok(line.find('\n').is_none()),
-        Some(line) => Ok(line == message),
-        None => Ok(false),
+        Some(line) if message.is_empty() => line.find('\n').is_none(),
+        Some(line) => line == message,
+        None => false,
     }
 }
 
-/// Whether the answer is `ok`, as any on a valid root, or a refusal of one of the kinds that are due.
+/// Whether the answer is `ok`, as any on a valid root, a refusal of one of the kinds that are due, or a fault of a
+/// binary.
 pub fn is_short_answer(
     alloc: Global,
     due: &str,
@@ -93,7 +91,12 @@ pub fn is_short_answer(
     }
     let (kinds, _) = first.split_once(" at ").unwrap_or((first, ""));
     for kind in kinds.split('|') {
-        if is_refusal(alloc, kind, offset, message, answer)? {
+        let first = match kind {
+            "BadBinary" => format!(in alloc; "3\nbad binary at {offset}\n")?,
+            "Unsupported" => format!(in alloc; "3\nunsupported at {offset}\n")?,
+            _ => format!(in alloc; "1\nrefused {kind} at {offset}\n")?,
+        };
+        if is_told(first.as_str(), message, answer) {
             return Ok(true);
         }
     }

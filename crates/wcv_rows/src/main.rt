@@ -7,6 +7,7 @@ mod blocks;
 mod due;
 mod question;
 mod repeats;
+mod second;
 mod tally;
 
 use crate::blocks::run_blocks;

@@ -5,12 +5,16 @@ use std::mem::replace;
 /// How a listing begins.
 const HEAD: &str = "{\"version\":1,\"items\":[";
 
-/// The words of a run, the listing, whether its beginnings are asked for, and which reads and writes fail.
+/// The words of a run, the listing, the bytes of a binary, whether beginnings are asked for, and which reads and
+/// writes fail.
 #[derive(Drop)]
 pub struct Question<'a> {
     words: &'a str,
+    has_words: bool,
     text: String,
     is_whole: bool,
+    bytes: Vec<u8>,
+    is_binary: bool,
     is_cut: bool,
     features: &'a str,
     end: &'a str,
@@ -21,12 +25,15 @@ pub struct Question<'a> {
 }
 
 impl<'a> Question<'a> {
-    /// The command `validate` on no items.
+    /// A listing of no items, and no bytes.
     pub fn new(alloc: Global) -> Question<'a> {
         Question {
             words: "validate",
+            has_words: false,
             text: String::new(alloc),
             is_whole: false,
+            bytes: Vec::new(alloc),
+            is_binary: false,
             is_cut: false,
             features: "",
             end: "99",
@@ -42,13 +49,17 @@ impl<'a> Question<'a> {
         let (word, rest) = line.split_once(' ').unwrap_or((line, ""));
         match word {
             "" => {}
-            "words" => self.words = rest,
+            "words" => {
+                self.words = rest;
+                self.has_words = true;
+            }
             "features" => self.features = rest,
             "end" => self.end = rest,
             "reads" => self.reads = rest,
             "writes" => self.writes = rest,
             "beginnings" => self.is_cut = true,
             "listing" => return self.push_text(rest),
+            "bytes" => return self.push_bytes(rest),
             _ => return self.push_item(word, rest),
         }
         Ok(())
@@ -61,6 +72,17 @@ impl<'a> Question<'a> {
         }
         self.is_whole = true;
         self.text.push_str(line)
+    }
+
+    /// More bytes of a binary, each as two hexadecimal digits.
+    fn push_bytes(&mut self, line: &str) -> Result<(), AllocError> {
+        self.is_binary = true;
+        for word in line.split(' ') {
+            if let Ok(byte) = u8::from_str_radix(word, 16) {
+                self.bytes.push(byte)?;
+            }
+        }
+        Ok(())
     }
 
     /// One more item, by its form, with its offset behind `@` if it is not its position, and its body.
@@ -99,8 +121,17 @@ impl<'a> Question<'a> {
         self.text.push_str("}")
     }
 
+    /// The words: `validate-binary` for bytes and `validate` for a listing, where the row names none.
     pub fn words(&self) -> &str {
+        if self.is_binary && !self.has_words {
+            return "validate-binary";
+        }
         self.words
+    }
+
+    /// Whether a listing is validated, and nothing fails.
+    pub fn is_usual(&self) -> bool {
+        !self.has_words && self.reads.is_empty() && self.writes.is_empty()
     }
 
     pub fn reads(&self) -> &str {
@@ -127,8 +158,18 @@ impl<'a> Question<'a> {
         self.is_cut
     }
 
+    /// Whether bytes of a binary were given.
+    pub fn is_binary(&self) -> bool {
+        self.is_binary
+    }
+
+    /// The bytes of the binary, which it has no more then.
+    pub fn take_binary(&mut self, alloc: Global) -> Vec<u8> {
+        replace(&mut self.bytes, Vec::new(alloc))
+    }
+
     /// The bytes of the listing, which it has no more then.
-    pub fn take_bytes(&mut self, alloc: Global) -> Vec<u8> {
+    pub fn take_listing(&mut self, alloc: Global) -> Vec<u8> {
         replace(&mut self.text, String::new(alloc)).into_bytes()
     }
 }
