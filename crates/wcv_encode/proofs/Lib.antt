@@ -8,3 +8,10 @@ pub mod Parts
 pub mod Exports
 pub mod Declared
 pub mod Forms
+pub mod Again
+pub mod AgainNumbers
+pub mod AgainLists
+pub mod AgainValues
+pub mod AgainEntries
+pub mod AgainCore
+pub mod AgainCanons

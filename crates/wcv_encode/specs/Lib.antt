@@ -6,3 +6,4 @@ pub mod Canons
 pub mod Modules
 pub mod Types
 pub mod Spelling
+pub mod Laws

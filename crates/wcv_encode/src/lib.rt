@@ -9,6 +9,7 @@ mod entity;
 mod entry;
 mod fault;
 mod instance;
+mod laws;
 mod list;
 mod module;
 mod module_type;
@@ -20,3 +21,7 @@ mod types;
 mod value;
 
 pub use component::write_binary;
+pub use laws::{
+    canonical_functions_are_read_again, entries_are_read_again, numbers_and_texts_are_read_again,
+    value_types_are_read_again,
+};
