@@ -1,8 +1,8 @@
 -- Components that nest in components.
 use Rattle.std.proofs.Common.{◌≡◌, ℕ, zero, suc, ◌-◌, List, length, Err, refl, sym, subst}
-use Rattle.wcv_binary.specs.declared.fault.Why.TheVariants.{TooDeep}
+use Rattle.wcv_bytes.specs.declared.fault.Why.TheVariants.{TooDeep}
 use Rattle.wcv_binary.specs.Components.{component_over, component_within}
-use Rattle.wcv_binary.specs.Sections.{fault_at}
+use Rattle.wcv_bytes.specs.Sections.{fault_at}
 
 pub too_deep : (n end room : ℕ) (bytes : List ℕ) → n ≡ 0 → component_within n end room bytes ≡ Err (fault_at TooDeep (end - length bytes))
 unfolding component_within

@@ -5,9 +5,9 @@ use Rattle.wcv_syntax.specs.declared.instance.ComponentAlias.{ComponentAlias}
 use Rattle.wcv_syntax.specs.declared.instance.ComponentAlias.TheVariants.{InstanceExport, CoreInstanceExport, Outer}
 use Rattle.wcv_syntax.specs.declared.instance.ComponentOuterAliasKind.{ComponentOuterAliasKind}
 use Rattle.wcv_syntax.specs.declared.instance.ComponentOuterAliasKind.TheVariants as outer
-use Rattle.wcv_binary.specs.declared.fault.Fault.{Fault}
-use Rattle.wcv_binary.specs.declared.fault.Why.TheVariants.{NotAlias, NotOuter, UnsupportedExact}
-use Rattle.wcv_binary.specs.Reading.{◌>>=◌, fault, byte_at, zero_at, u32_at, text_at, under_byte, or_read}
+use Rattle.wcv_bytes.specs.declared.fault.Fault.{Fault}
+use Rattle.wcv_bytes.specs.declared.fault.Why.TheVariants.{NotAlias, NotOuter, UnsupportedExact}
+use Rattle.wcv_bytes.specs.Reading.{◌>>=◌, fault, byte_at, zero_at, u32_at, text_at, under_byte, or_read}
 use Rattle.wcv_binary.specs.Sorts.{core_sort_at, sort_at}
 
 -- what is behind a sort, which takes two bytes where the first is 0

@@ -5,10 +5,10 @@ use Rattle.wcv_syntax.specs.declared.canonical.CanonicalFunction.TheVariants as 
 use Rattle.wcv_syntax.specs.declared.canonical.CanonicalOption.{CanonicalOption}
 use Rattle.wcv_syntax.specs.declared.canonical.CanonicalOption.TheVariants as option
 use Rattle.wcv_syntax.specs.Model.{Canon_form, lift, lower, task_return, stream_read, stream_write, future_read, future_write, error_context_new, error_context_message, builtin}
-use Rattle.wcv_binary.specs.declared.fault.Fault.{Fault}
-use Rattle.wcv_binary.specs.declared.fault.Why.TheVariants.{Short, NotOption, NotCanon, UnsupportedAsyncDrop}
+use Rattle.wcv_bytes.specs.declared.fault.Fault.{Fault}
+use Rattle.wcv_bytes.specs.declared.fault.Why.TheVariants.{Short, NotOption, NotCanon, UnsupportedAsyncDrop}
 use Rattle.wcv_binary.specs.CoreValues.{core_val_at}
-use Rattle.wcv_binary.specs.Reading.{◌>>=◌, fault, byte_at, flag_at, u32_at, zero_at, vec_at, under_byte, or_read, of_one, of_two}
+use Rattle.wcv_bytes.specs.Reading.{◌>>=◌, fault, byte_at, flag_at, u32_at, zero_at, vec_at, under_byte, or_read, of_one, of_two}
 use Rattle.wcv_binary.specs.Values.{result_at}
 
 -- ## Options

@@ -2,13 +2,13 @@
 use Rattle.std.specs.Prelude.{ℕ, zero, suc, ◌-◌, List, [], ◌∷◌, ◌++◌, length, Bool, not, ◌||◌, Result, Ok, Err, nat_lt, ◌==◌, if◌then◌else◌}
 use Rattle.wcv_syntax.specs.Model.{Form, Entry, core_module_item, component_item}
 use Rattle.wcv_syntax.specs.View.{items_of}
-use Rattle.wcv_binary.specs.declared.fault.BinaryFault.{BinaryFault}
-use Rattle.wcv_binary.specs.declared.fault.Why.TheVariants.{Short, UnknownSection, TooDeep}
+use Rattle.wcv_bytes.specs.declared.fault.BinaryFault.{BinaryFault}
+use Rattle.wcv_bytes.specs.declared.fault.Why.TheVariants.{Short, UnknownSection, TooDeep}
 use Rattle.wcv_binary.specs.Headers.{component_header_at}
 use Rattle.wcv_binary.specs.Items.{entries_at}
 use Rattle.wcv_binary.specs.Modules.{core_module_at}
-use Rattle.wcv_binary.specs.Reading.{text_at}
-use Rattle.wcv_binary.specs.Sections.{◌>>=◌, fault_at, told, contents_at}
+use Rattle.wcv_bytes.specs.Reading.{text_at}
+use Rattle.wcv_bytes.specs.Sections.{◌>>=◌, fault_at, told, contents_at, counted_at}
 
 -- how many components and declared types may stand in one another, the root not counted
 abbrev pub max_nesting : ℕ
@@ -27,6 +27,11 @@ Nested = ℕ → ℕ → List ℕ → Read
 abbrev pub counts : ℕ → Bool
 counts id = not (id == 0 || (id == 1 || id == 4))
 
+-- How many bytes may still be kept behind a section of items that ends at an offset. Each of its items counts for more
+-- than its bytes, and so does a type for each of them; one that starts a function does not.
+abbrev pub items_room : ℕ → ℕ → ℕ → List ℕ → Result ℕ BinaryFault
+items_room id end room bytes = if id == 9 then Ok room else counted_at (id == 7) end room bytes
+
 -- what a section of one item holds, a core module or else a component
 unfoldable pub whole_at : Nested → ℕ → ℕ → ℕ → List ℕ → Result (Form × ℕ) BinaryFault
 whole_at nested id end room bytes =
@@ -38,7 +43,7 @@ unfoldable pub held_at : ℕ → Nested → ℕ → ℕ → List Entry → ℕ �
 held_at depth nested id end front room bytes =
     if id == 0 then (told end (text_at bytes) >>= λ _. Ok (front, room))
     else if id == 1 || id == 4 then (whole_at nested id end room bytes >>= λ x. Ok (front ++ (record { offset = end - length bytes; form = x.0 } ∷ []), x.1))
-    else if nat_lt id 12 then (told end (entries_at depth id end front bytes) >>= λ es. Ok (es, room))
+    else if nat_lt id 12 then (items_room id end room bytes >>= λ left. told end (entries_at depth id end front bytes) >>= λ es. Ok (es, left))
     else Err (fault_at UnknownSection (end - length bytes))
 
 -- a section behind its byte

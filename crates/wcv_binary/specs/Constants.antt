@@ -1,9 +1,9 @@
 -- Where a constant expression of a core module ends. What it computes is not looked at.
 use Rattle.std.specs.Prelude.{ℕ, zero, suc, ◌-◌, ◌/◌, ◌^◌, List, [], ◌∷◌, length, drop, Result, Ok, Err, Bool, true, nat_lt, nat_le, ◌==◌, ◌&&◌, ◌||◌, if◌then◌else◌}
-use Rattle.wcv_binary.specs.declared.fault.Fault.{Fault}
-use Rattle.wcv_binary.specs.declared.fault.Why.TheVariants.{Short, TooLong, TooLarge, UnsupportedInstruction}
+use Rattle.wcv_bytes.specs.declared.fault.Fault.{Fault}
+use Rattle.wcv_bytes.specs.declared.fault.Why.TheVariants.{Short, TooLong, TooLarge, UnsupportedInstruction}
 use Rattle.wcv_binary.specs.CoreValues.{full_ref_at}
-use Rattle.wcv_binary.specs.Reading.{◌>>=◌, fault, u32_at}
+use Rattle.wcv_bytes.specs.Reading.{◌>>=◌, fault, u32_at}
 
 -- Behind a number from - most - 1 to most, as signed LEB128: seven bits a byte, the lowest first, and the eighth bit
 -- where more follows. Of the last byte the bits beyond the number's width are those of its sign.

@@ -1,8 +1,8 @@
 -- Core instances.
 use Rattle.std.specs.Prelude.{ℕ, List, Result, if◌then◌else◌}
-use Rattle.wcv_binary.specs.declared.fault.Fault.{Fault}
-use Rattle.wcv_binary.specs.declared.fault.Why.TheVariants.{NotCoreInstance}
-use Rattle.wcv_binary.specs.Reading.{◌>>=◌, of_one, of_two, flag_at, expected_at, u32_at, vec_at, text_at}
+use Rattle.wcv_bytes.specs.declared.fault.Fault.{Fault}
+use Rattle.wcv_bytes.specs.declared.fault.Why.TheVariants.{NotCoreInstance}
+use Rattle.wcv_bytes.specs.Reading.{◌>>=◌, of_one, of_two, flag_at, expected_at, u32_at, vec_at, text_at}
 use Rattle.wcv_binary.specs.Sorts.{core_sort_at}
 use Rattle.wcv_syntax.specs.declared.core_section.Export.{Export}
 use Rattle.wcv_syntax.specs.declared.core_section.InstantiationArg.{InstantiationArg}

@@ -1,9 +1,9 @@
 -- Core types and groups of them.
 use Rattle.std.specs.Prelude.{ℕ, List, [], ◌∷◌, Bool, true, false, ◌==◌, ◌||◌, if◌then◌else◌, Option, Some, None, Result, Ok, Err}
 use Rattle.wcv_binary.specs.CoreValues.{core_val_at, field_at}
-use Rattle.wcv_binary.specs.declared.fault.Fault.{Fault}
-use Rattle.wcv_binary.specs.declared.fault.Why.TheVariants.{NotCoreType, ManySupertypes, UnsupportedContinuation, UnsupportedDescriptor}
-use Rattle.wcv_binary.specs.Reading.{◌>>=◌, fault, of_one, of_two, byte_at, u32_at, vec_at}
+use Rattle.wcv_bytes.specs.declared.fault.Fault.{Fault}
+use Rattle.wcv_bytes.specs.declared.fault.Why.TheVariants.{NotCoreType, ManySupertypes, UnsupportedContinuation, UnsupportedDescriptor}
+use Rattle.wcv_bytes.specs.Reading.{◌>>=◌, fault, of_one, of_two, byte_at, u32_at, vec_at}
 use Rattle.wcv_core.specs.CoreForm.{CompositeForm, func_form, struct_form, array_form, SubForm, Group}
 use Rattle.wcv_core.specs.declared.core_types.SuperType.{SuperType}
 use Rattle.wcv_core.specs.declared.core_types.SuperType.TheVariants as parent

@@ -1,8 +1,8 @@
 -- Core value types, reference types and types of fields.
 use Rattle.std.specs.Prelude.{ℕ, List, [], ◌∷◌, Bool, true, false, ◌==◌, ◌||◌, if◌then◌else◌, option_map, Result, Err}
-use Rattle.wcv_binary.specs.declared.fault.Fault.{Fault}
-use Rattle.wcv_binary.specs.declared.fault.Why.TheVariants.{NotCoreValue, NotHeap, UnsupportedExact, UnsupportedContinuation}
-use Rattle.wcv_binary.specs.Reading.{◌>>=◌, fault, of_one, of_two, byte_at, flag_at, index_at, under_byte, or_read}
+use Rattle.wcv_bytes.specs.declared.fault.Fault.{Fault}
+use Rattle.wcv_bytes.specs.declared.fault.Why.TheVariants.{NotCoreValue, NotHeap, UnsupportedExact, UnsupportedContinuation}
+use Rattle.wcv_bytes.specs.Reading.{◌>>=◌, fault, of_one, of_two, byte_at, flag_at, index_at, under_byte, or_read}
 use Rattle.wcv_core.specs.declared.core_types.AbstractHeap.{AbstractHeap}
 use Rattle.wcv_core.specs.declared.core_types.AbstractHeap.TheVariants as heap
 use Rattle.wcv_core.specs.declared.core_types.FieldType.{FieldType}

@@ -2,9 +2,9 @@
 use Rattle.std.specs.Prelude.{ℕ, List, ◌==◌, if◌then◌else◌, option_map, Result, Err}
 use Rattle.wcv_syntax.specs.declared.component_type.ComponentDefinedType.TheVariants as defined
 use Rattle.wcv_syntax.specs.Model.{Defined_form, record_of, variant_of, tuple_of, flags_of, enum_of, simple}
-use Rattle.wcv_binary.specs.declared.fault.Fault.{Fault}
-use Rattle.wcv_binary.specs.declared.fault.Why.TheVariants.{NotType}
-use Rattle.wcv_binary.specs.Reading.{◌>>=◌, fault, byte_at, u32_at, text_at, vec_at, of_one, of_two, under_byte, or_read}
+use Rattle.wcv_bytes.specs.declared.fault.Fault.{Fault}
+use Rattle.wcv_bytes.specs.declared.fault.Why.TheVariants.{NotType}
+use Rattle.wcv_bytes.specs.Reading.{◌>>=◌, fault, byte_at, u32_at, text_at, vec_at, of_one, of_two, under_byte, or_read}
 use Rattle.wcv_binary.specs.Values.{primitives, val_at, optional_val_at, param_at, case_at}
 
 -- one that is made of value types or of an index, and of no list

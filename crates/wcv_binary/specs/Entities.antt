@@ -1,9 +1,9 @@
 -- What core modules import and export: limits, the types of tables, memories and globals, and imports.
 use Rattle.std.specs.Prelude.{ℕ, List, [], ◌∷◌, Bool, false, not, ◌==◌, ◌||◌, ◌&&◌, length, if◌then◌else◌, nat_lt, bit_and, Option, Some, None, Result, Ok, Err}
 use Rattle.wcv_binary.specs.CoreValues.{core_val_at, ref_type_at}
-use Rattle.wcv_binary.specs.declared.fault.Fault.{Fault}
-use Rattle.wcv_binary.specs.declared.fault.Why.TheVariants.{NotCoreSort, UnknownMark, UnsupportedExact, UnsupportedImports}
-use Rattle.wcv_binary.specs.Reading.{◌>>=◌, fault, of_one, of_two, byte_at, zero_at, u32_at, u64_at, text_at}
+use Rattle.wcv_bytes.specs.declared.fault.Fault.{Fault}
+use Rattle.wcv_bytes.specs.declared.fault.Why.TheVariants.{NotCoreSort, UnknownMark, UnsupportedExact, UnsupportedImports}
+use Rattle.wcv_bytes.specs.Reading.{◌>>=◌, fault, of_one, of_two, byte_at, zero_at, u32_at, u64_at, text_at}
 use Rattle.wcv_core.specs.declared.core_types.GlobalType.{GlobalType}
 use Rattle.wcv_core.specs.declared.core_types.MemoryType.{MemoryType}
 use Rattle.wcv_core.specs.declared.core_types.TableType.{TableType}

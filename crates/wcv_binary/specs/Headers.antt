@@ -1,9 +1,9 @@
 -- Headers: four bytes of magic, two of a version and two of a layer.
 use Rattle.std.specs.Prelude.{ℕ, List, [], ◌∷◌, length, drop, Result, Ok, Err, nat_eq, nat_lt, if◌then◌else◌}
 use Rattle.std.specs.List.{starts_with}
-use Rattle.wcv_binary.specs.declared.fault.Fault.{Fault}
-use Rattle.wcv_binary.specs.declared.fault.Why.TheVariants.{Short, NotMagic, NotVersion, IsModule}
-use Rattle.wcv_binary.specs.Reading.{◌>>=◌, fault}
+use Rattle.wcv_bytes.specs.declared.fault.Fault.{Fault}
+use Rattle.wcv_bytes.specs.declared.fault.Why.TheVariants.{Short, NotMagic, NotVersion, IsModule}
+use Rattle.wcv_bytes.specs.Reading.{◌>>=◌, fault}
 
 abbrev pub magic : List ℕ
 magic = 0x00 ∷ 0x61 ∷ 0x73 ∷ 0x6D ∷ []

@@ -1,15 +1,16 @@
 -- Items of sections, each at its offset.
-use Rattle.std.specs.Prelude.{ℕ, ◌-◌, List, ◌++◌, length, Result, Ok, Err, ◌==◌, if◌then◌else◌}
+use Rattle.std.specs.Prelude.{ℕ, ◌-◌, List, length, Result, Ok, Err, ◌==◌, if◌then◌else◌}
 use Rattle.wcv_syntax.specs.Model.{Form, Entry, core_instance_item, core_type_item, instance_item, alias_item, type_item, canon_item, start_item, import_item, export_item}
-use Rattle.wcv_binary.specs.declared.fault.Fault.{Fault}
-use Rattle.wcv_binary.specs.declared.fault.Why.TheVariants.{Surplus}
+use Rattle.wcv_bytes.specs.declared.fault.Fault.{Fault}
+use Rattle.wcv_bytes.specs.declared.fault.Why.TheVariants.{Surplus}
 use Rattle.wcv_binary.specs.Aliases.{alias_at}
 use Rattle.wcv_binary.specs.Canons.{canon_at}
 use Rattle.wcv_binary.specs.CoreInstances.{core_instance_at}
 use Rattle.wcv_binary.specs.ModuleTypes.{core_type_at}
 use Rattle.wcv_binary.specs.Names.{import_at, export_at, instance_at}
 use Rattle.wcv_binary.specs.Types.{type_over, type_within}
-use Rattle.wcv_binary.specs.Reading.{◌>>=◌, fault, u32_at, list_at, vec_at, of_one}
+use Rattle.wcv_bytes.specs.Entries.{behind}
+use Rattle.wcv_bytes.specs.Reading.{◌>>=◌, fault, u32_at, list_at, vec_at, of_one}
 
 -- a function, its arguments, and how many results it has
 unfoldable pub start_at : List ℕ → Result (Form × List ℕ) Fault
@@ -32,15 +33,15 @@ form_at depth id bytes =
     else if id == 10 then of_one import_at import_item bytes
     else of_one export_at export_item bytes
 
--- an item, where the section ends at an offset
-unfoldable pub entry_at : ℕ → ℕ → ℕ → List ℕ → Result (Entry × List ℕ) Fault
-entry_at depth id end bytes = do
+-- an item at an offset
+abbrev pub placed_at : ℕ → ℕ → ℕ → List ℕ → Result (Entry × List ℕ) Fault
+placed_at depth id offset bytes = do
   f ← form_at depth id bytes
-  Ok (record { offset = end - length bytes; form = f.0 }, f.1)
+  Ok (record { offset = offset; form = f.0 }, f.1)
 
--- what stood before, and what is still read
-abbrev pub behind : {X : Type 0} → List X → Result (List X × List ℕ) Fault → Result (List X × List ℕ) Fault
-behind front read = read >>= λ x. Ok (front ++ x.0, x.1)
+-- one where the section ends at an offset
+unfoldable pub entry_at : ℕ → ℕ → ℕ → List ℕ → Result (Entry × List ℕ) Fault
+entry_at depth id end bytes = placed_at depth id (end - length bytes) bytes
 
 -- what was read to the end of a section
 abbrev pub ended : {X : Type 0} → Result (X × List ℕ) Fault → Result X Fault

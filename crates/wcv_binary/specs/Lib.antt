@@ -8,7 +8,6 @@ pub mod CoreTypes
 pub mod CoreValues
 pub mod Defined
 pub mod Entities
-pub mod Faults
 pub mod Funcs
 pub mod Headers
 pub mod Items
@@ -18,8 +17,6 @@ pub mod ModuleTypes
 pub mod ModuleViews
 pub mod Modules
 pub mod Names
-pub mod Reading
-pub mod Sections
 pub mod Sorts
 pub mod Types
 pub mod Values

@@ -11,12 +11,12 @@ use Rattle.wcv_syntax.specs.declared.core_section.Import.{Import}
 use Rattle.wcv_syntax.specs.declared.core_section.TypeRef.{TypeRef}
 use Rattle.wcv_syntax.specs.declared.core_section.TypeRef.TheVariants as ref
 use Rattle.wcv_syntax.specs.Model.{Text}
-use Rattle.wcv_binary.specs.declared.fault.Fault.{Fault}
-use Rattle.wcv_binary.specs.declared.fault.Why.TheVariants.{Short, UnknownIndex}
+use Rattle.wcv_bytes.specs.declared.fault.Fault.{Fault}
+use Rattle.wcv_bytes.specs.declared.fault.Why.TheVariants.{Short, UnknownIndex}
 use Rattle.wcv_binary.specs.declared.module_item.Tag.{Tag}
 use Rattle.wcv_binary.specs.Constants.{constant_at}
 use Rattle.wcv_binary.specs.Entities.{table_type_at, global_type_at}
-use Rattle.wcv_binary.specs.Reading.{◌>>=◌, fault, zero_at, u32_at, text_at, vec_at}
+use Rattle.wcv_bytes.specs.Reading.{◌>>=◌, fault, zero_at, u32_at, text_at, vec_at}
 use Rattle.wcv_binary.specs.Sorts.{core_sort_at}
 
 -- ## Tables, globals and tags of a core module

@@ -1,13 +1,13 @@
 -- The sections of a core module.
 use Rattle.std.specs.Prelude.{ℕ, ◌+◌, List, [], ◌∷◌, ◌++◌, map, length, Option, Some, None, Result, Ok, Err, Bool, nat_le, nat_lt, ◌==◌, ◌&&◌, ◌||◌, if◌then◌else◌}
 use Rattle.wcv_syntax.specs.Model.{Module_decl, module_type, module_import, module_export}
-use Rattle.wcv_binary.specs.declared.fault.Fault.{Fault}
-use Rattle.wcv_binary.specs.declared.fault.Why.TheVariants.{UnknownSection, SectionOrder, CodeCount}
+use Rattle.wcv_bytes.specs.declared.fault.Fault.{Fault}
+use Rattle.wcv_bytes.specs.declared.fault.Why.TheVariants.{UnknownSection, SectionOrder, CodeCount}
 use Rattle.wcv_binary.specs.CoreTypes.{group_at}
 use Rattle.wcv_binary.specs.Entities.{memory_type_at, module_import_at}
 use Rattle.wcv_binary.specs.Items.{ended}
 use Rattle.wcv_binary.specs.ModuleItems.{Module_form, table_at, global_at, tag_at, exports_at}
-use Rattle.wcv_binary.specs.Reading.{◌>>=◌, fault, under_byte, u32_at, text_at, vec_at}
+use Rattle.wcv_bytes.specs.Reading.{◌>>=◌, fault, under_byte, u32_at, text_at, vec_at}
 
 -- ## Their order
 

@@ -1,10 +1,10 @@
 -- The types of core modules, and core type items.
 use Rattle.std.specs.Prelude.{ℕ, List, Result, Err, ◌==◌, if◌then◌else◌}
 use Rattle.wcv_binary.specs.CoreTypes.{group_at}
-use Rattle.wcv_binary.specs.declared.fault.Fault.{Fault}
-use Rattle.wcv_binary.specs.declared.fault.Why.TheVariants.{NotAlias, NotDeclaration, NotOpenType, NotOuter}
+use Rattle.wcv_bytes.specs.declared.fault.Fault.{Fault}
+use Rattle.wcv_bytes.specs.declared.fault.Why.TheVariants.{NotAlias, NotDeclaration, NotOpenType, NotOuter}
 use Rattle.wcv_binary.specs.Entities.{entity_at, core_import_at}
-use Rattle.wcv_binary.specs.Reading.{◌>>=◌, fault, of_one, of_two, byte_at, expected_at, u32_at, vec_at, text_at}
+use Rattle.wcv_bytes.specs.Reading.{◌>>=◌, fault, of_one, of_two, byte_at, expected_at, u32_at, vec_at, text_at}
 use Rattle.wcv_core.specs.CoreForm.{Group}
 use Rattle.wcv_syntax.specs.Model.{Module_decl, module_type, module_import, module_export, module_outer, Core_type_form, core_rec, core_module_type}
 

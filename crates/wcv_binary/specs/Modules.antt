@@ -1,12 +1,17 @@
 -- Core modules, with their faults at their offsets in the file.
-use Rattle.std.specs.Prelude.{ℕ, zero, suc, ◌-◌, List, [], ◌∷◌, length, Result, Ok, Err, ◌==◌, if◌then◌else◌}
+use Rattle.std.specs.Prelude.{ℕ, zero, suc, ◌-◌, List, [], ◌∷◌, length, false, Result, Ok, Err, ◌==◌, if◌then◌else◌}
 use Rattle.wcv_syntax.specs.Model.{Module_decl}
-use Rattle.wcv_binary.specs.declared.fault.BinaryFault.{BinaryFault}
-use Rattle.wcv_binary.specs.declared.fault.Why.TheVariants.{Short, CodeCount}
+use Rattle.wcv_bytes.specs.declared.fault.BinaryFault.{BinaryFault}
+use Rattle.wcv_bytes.specs.declared.fault.Why.TheVariants.{Short, CodeCount}
 use Rattle.wcv_binary.specs.Headers.{module_header_at}
 use Rattle.wcv_binary.specs.ModuleItems.{Module_form}
 use Rattle.wcv_binary.specs.ModuleSections.{is_kept, said_at, no_sections, declarations}
-use Rattle.wcv_binary.specs.Sections.{◌>>=◌, fault_at, told, contents_at}
+use Rattle.wcv_bytes.specs.Sections.{◌>>=◌, fault_at, told, contents_at, counted_at}
+
+-- How many bytes may still be kept behind a section that ends at an offset. Each entry of one that is kept counts for
+-- more than its bytes.
+abbrev pub module_room : ℕ → ℕ → ℕ → List ℕ → Result ℕ BinaryFault
+module_room id end room bytes = if is_kept id then counted_at false end room bytes else Ok room
 
 -- A section of a core module that ends at an offset, from its size on: what is known behind it, what is left, and how
 -- many bytes may still be kept.
@@ -14,7 +19,8 @@ unfoldable pub module_section_at : ℕ → ℕ → ℕ → Module_form → List 
 module_section_at id end room m bytes = do
   read ← contents_at (is_kept id) end room bytes
   said ← told (end - length read.1) (said_at id m read.0)
-  Ok (said, read.1, read.2)
+  left ← module_room id (end - length read.1) read.2 read.0
+  Ok (said, read.1, left)
 
 -- sections to the end of the bytes, no more than a number
 unfoldable pub module_sections_at : ℕ → ℕ → ℕ → Module_form → List ℕ → Result (Module_form × ℕ) BinaryFault

@@ -11,9 +11,9 @@ use Rattle.wcv_syntax.specs.declared.name.ComponentExport.{ComponentExport}
 use Rattle.wcv_syntax.specs.declared.name.ComponentExternName.{ComponentExternName}
 use Rattle.wcv_syntax.specs.declared.name.ComponentImport.{ComponentImport}
 use Rattle.wcv_syntax.specs.Model.{Text, Instance_form, instantiate, bag}
-use Rattle.wcv_binary.specs.declared.fault.Fault.{Fault}
-use Rattle.wcv_binary.specs.declared.fault.Why.TheVariants.{NotName, UnsupportedName}
-use Rattle.wcv_binary.specs.Reading.{◌>>=◌, fault, byte_at, flag_at, u32_at, text_at, vec_at, of_one, of_two}
+use Rattle.wcv_bytes.specs.declared.fault.Fault.{Fault}
+use Rattle.wcv_bytes.specs.declared.fault.Why.TheVariants.{NotName, UnsupportedName}
+use Rattle.wcv_bytes.specs.Reading.{◌>>=◌, fault, byte_at, flag_at, u32_at, text_at, vec_at, of_one, of_two}
 use Rattle.wcv_binary.specs.Sorts.{sort_at}
 use Rattle.wcv_binary.specs.Values.{val_at}
 

@@ -4,9 +4,9 @@ use Rattle.wcv_syntax.specs.declared.core_section.ExternalKind.{ExternalKind}
 use Rattle.wcv_syntax.specs.declared.core_section.ExternalKind.TheVariants as core
 use Rattle.wcv_syntax.specs.declared.instance.ComponentExternalKind.{ComponentExternalKind}
 use Rattle.wcv_syntax.specs.declared.instance.ComponentExternalKind.TheVariants as sort
-use Rattle.wcv_binary.specs.declared.fault.Fault.{Fault}
-use Rattle.wcv_binary.specs.declared.fault.Why.TheVariants.{NotSort, NotCoreSort}
-use Rattle.wcv_binary.specs.Reading.{◌>>=◌, fault, byte_at, under_byte, or_read}
+use Rattle.wcv_bytes.specs.declared.fault.Fault.{Fault}
+use Rattle.wcv_bytes.specs.declared.fault.Why.TheVariants.{NotSort, NotCoreSort}
+use Rattle.wcv_bytes.specs.Reading.{◌>>=◌, fault, byte_at, under_byte, or_read}
 
 -- the core sorts by their bytes
 abbrev pub core_sorts : List (ℕ × ExternalKind)

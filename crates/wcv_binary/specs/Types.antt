@@ -2,15 +2,15 @@
 use Rattle.std.specs.Prelude.{ℕ, zero, suc, List, Option, Some, None, ◌==◌, if◌then◌else◌, true, false, Result, Ok, Err}
 use Rattle.wcv_syntax.specs.Model.{Type_form, defined_type, func_type, component_type, instance_type, resource_type, Decl, core_type_decl, type_decl, alias_decl, export_decl, import_decl}
 use Rattle.wcv_syntax.specs.View.{decls_of}
-use Rattle.wcv_binary.specs.declared.fault.Fault.{Fault}
-use Rattle.wcv_binary.specs.declared.fault.Why.TheVariants.{NotDeclaration, TooDeep}
+use Rattle.wcv_bytes.specs.declared.fault.Fault.{Fault}
+use Rattle.wcv_bytes.specs.declared.fault.Why.TheVariants.{NotDeclaration, TooDeep}
 use Rattle.wcv_binary.specs.Aliases.{alias_at}
 use Rattle.wcv_binary.specs.CoreValues.{core_val_at}
 use Rattle.wcv_binary.specs.Defined.{defined_at}
 use Rattle.wcv_binary.specs.Funcs.{func_at}
 use Rattle.wcv_binary.specs.ModuleTypes.{core_type_at}
 use Rattle.wcv_binary.specs.Names.{name_at, ref_at, import_at}
-use Rattle.wcv_binary.specs.Reading.{◌>>=◌, fault, byte_at, flag_at, u32_at, vec_at, of_one, of_two}
+use Rattle.wcv_bytes.specs.Reading.{◌>>=◌, fault, byte_at, flag_at, u32_at, vec_at, of_one, of_two}
 
 -- ## Types without declarations
 

@@ -6,8 +6,8 @@ use Rattle.wcv_syntax.specs.declared.component_type.ComponentValType.{ComponentV
 use Rattle.wcv_syntax.specs.declared.component_type.ComponentValType.TheVariants.{Primitive, Ty}
 use Rattle.wcv_syntax.specs.declared.component_type.VariantCase.{VariantCase}
 use Rattle.wcv_syntax.specs.Model.{Text}
-use Rattle.wcv_binary.specs.declared.fault.Fault.{Fault}
-use Rattle.wcv_binary.specs.Reading.{◌>>=◌, byte_at, under_byte, or_read, flag_at, zero_at, text_at, index_at}
+use Rattle.wcv_bytes.specs.declared.fault.Fault.{Fault}
+use Rattle.wcv_bytes.specs.Reading.{◌>>=◌, byte_at, under_byte, or_read, flag_at, zero_at, text_at, index_at}
 
 -- the primitives by their bytes
 abbrev pub primitives : List (ℕ × PrimitiveValType)

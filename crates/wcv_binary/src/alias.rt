@@ -1,13 +1,11 @@
 // Aliases.
 ghost use Rattle.std.specs.Prelude.{◌≡◌};
 ghost use Rattle.wcv_binary.specs.Aliases.{behind_sort_at, aliased_core_sort_at, core_outer_at, outer_sort_at, export_alias_at, core_export_alias_at, outer_alias_at, alias_at};
-ghost use Rattle.wcv_binary.specs.Reading.{Gives};
+ghost use Rattle.wcv_bytes.specs.Reading.{Gives};
 
-use crate::fault::{ReadError, Why, fault_at};
-use crate::number::{read_byte, read_u32, read_zero};
 use crate::sort::{read_core_sort, read_sort};
-use crate::text::read_text;
 use std::alloc::Global;
+use wcv_bytes::{ReadError, Why, fault_at, read_byte, read_text, read_u32, read_zero};
 use wcv_core::Text;
 use wcv_syntax::{ComponentAlias, ComponentOuterAliasKind, ExternalKind};
 

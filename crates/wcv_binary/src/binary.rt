@@ -1,13 +1,12 @@
 // What the bytes of a binary stand for.
 ghost use Rattle.std.specs.Prelude.{◌≡◌};
 ghost use Rattle.wcv_binary.specs.Binary.{binary_of, binary_within};
-ghost use Rattle.wcv_binary.specs.Sections.{GivesAt};
+ghost use Rattle.wcv_bytes.specs.Sections.{GivesAt};
 ghost use Rattle.wcv_syntax.specs.View.{entries};
 
 use crate::component::{MAX_NESTING, read_component};
-use crate::fault::BinaryError;
-use crate::section::MAX_KEPT_BYTES;
 use std::alloc::Global;
+use wcv_bytes::{BinaryError, MAX_KEPT_BYTES};
 use wcv_syntax::Item;
 
 /// A component as it is written: its items, each at its offset, and the offset of its end.

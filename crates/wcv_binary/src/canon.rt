@@ -1,16 +1,15 @@
 // Canonical functions.
 ghost use Rattle.std.specs.Prelude.{◌≡◌, option_map};
 ghost use Rattle.wcv_binary.specs.Canons.{plain_canons, plain_canon_at, waiting_canon_at, paired_canon_at, typed_canon_at, lift_at, lower_at, canon_at};
-ghost use Rattle.wcv_binary.specs.Reading.{Gives, under_byte};
+ghost use Rattle.wcv_bytes.specs.Reading.{Gives, under_byte};
 ghost use Rattle.wcv_syntax.specs.Model.{builtin};
 ghost use Rattle.wcv_syntax.specs.View.{canon_view};
 
 use crate::core_value::read_val_type;
-use crate::fault::{Fault, ReadError, Why};
 use crate::list::read_vec;
-use crate::number::{read_byte, read_flag, read_u32, read_zero};
 use crate::value::read_result;
 use std::alloc::Global;
+use wcv_bytes::{Fault, ReadError, Why, read_byte, read_flag, read_u32, read_zero};
 use wcv_syntax::CanonicalFunction;
 
 // One without operands, by its byte.

@@ -1,8 +1,7 @@
 // Options of canonical functions.
-use crate::fault::{Fault, ReadError, Why};
 use crate::list::FromBytes;
-use crate::number::read_u32;
 use std::alloc::Global;
+use wcv_bytes::{Fault, ReadError, Why, read_u32};
 use wcv_syntax::CanonicalOption;
 
 impl FromBytes for CanonicalOption {

@@ -1,26 +1,24 @@
 // Components: a header, and sections one after another.
 ghost use Rattle.std.specs.Prelude.{◌≡◌, [], length};
-ghost use Rattle.wcv_binary.specs.Components.{whole_at, held_at, section_at, sections_at, component_over, component_within};
+ghost use Rattle.wcv_binary.specs.Components.{items_room, whole_at, held_at, section_at, sections_at, component_over, component_within};
 ghost use Rattle.wcv_binary.specs.Headers.{component_header_at};
 ghost use Rattle.wcv_binary.specs.Items.{entries_at};
-ghost use Rattle.wcv_binary.specs.Reading.{text_at};
-ghost use Rattle.wcv_binary.specs.Sections.{GivesAt, told};
+ghost use Rattle.wcv_bytes.specs.Reading.{text_at};
+ghost use Rattle.wcv_bytes.specs.Sections.{GivesAt, told};
 ghost use Rattle.wcv_syntax.specs.View.{section_view, entries};
 
 use crate::entry::read_listed;
-use crate::fault::{BinaryError, BinaryFault, Why};
 use crate::header::read_component_header;
 use crate::module::read_core_module;
-use crate::section::{error_at, read_contents};
-use crate::text::read_text;
 use std::alloc::Global;
+use wcv_bytes::{BinaryError, BinaryFault, Why, count_entries, error_at, read_contents, read_text};
 use wcv_syntax::{Item, Section};
 
 /// How many components and declared types may stand in one another, the root not counted.
 pub const MAX_NESTING: usize = 127;
 
 // What is behind the header of a component that ends at that offset.
-#[tactic(auto, using(crate::proofs::Told::fails_told))]
+#[tactic(auto, using(wcv_bytes::proofs::Told::fails_told))]
 fn read_header(end: u64, bytes: &[u8]) -> Result<&[u8], BinaryError>
     ensures { GivesAt (λ x. x.now) result (told end (component_header_at bytes.now)) }
 {
@@ -31,7 +29,7 @@ fn read_header(end: u64, bytes: &[u8]) -> Result<&[u8], BinaryError>
 }
 
 // The name of a custom section that ends at that offset, and what is behind it.
-#[tactic(auto, using(crate::proofs::Told::fails_told))]
+#[tactic(auto, using(wcv_bytes::proofs::Told::fails_told))]
 fn read_custom(end: u64, bytes: &[u8]) -> Result<(&str, &[u8]), BinaryError>
     ensures { GivesAt (λ x. (x.0.now, x.1.now)) result (told end (text_at bytes.now)) }
 {
@@ -41,8 +39,18 @@ fn read_custom(end: u64, bytes: &[u8]) -> Result<(&str, &[u8]), BinaryError>
     }
 }
 
+// How many bytes may still be kept behind a section of items that ends at that offset.
+fn count_items(id: u8, end: u64, room: u64, bytes: &[u8]) -> Result<u64, BinaryError>
+    ensures { GivesAt (λ left. left) result (items_room id end room bytes.now) }
+{
+    if id == 9 {
+        return Ok(room);
+    }
+    count_entries(id == 7, end, room, bytes)
+}
+
 // The items of a section that ends at that offset, behind others.
-#[tactic(auto, using(crate::proofs::Told::fails_told))]
+#[tactic(auto, using(wcv_bytes::proofs::Told::fails_told))]
 fn read_items(
     alloc: Global,
     depth: usize,
@@ -136,12 +144,14 @@ fn read_held(
         return Ok((front, room));
     }
     if id == 1 || id == 4 {
-        let (section, room) = read_whole(alloc, depth, id, end, room, bytes)?;
         let mut all = front;
-        all.push(Item { offset, section })?;
+        all.reserve(1)?;
+        let (section, room) = read_whole(alloc, depth, id, end, room, bytes)?;
+        all.push_reserved(Item { offset, section });
         return Ok((all, room));
     }
     if id < 12 {
+        let room = count_items(id, end, room, bytes)?;
         let all = read_items(alloc, depth, front, id, end, bytes)?;
         return Ok((all, room));
     }

@@ -1,11 +1,10 @@
 // Where a constant expression of a core module ends.
 ghost use Rattle.std.specs.Prelude.{◌≡◌};
 ghost use Rattle.wcv_binary.specs.Constants.{signed_end, u32_end, heap_end, bytes_end, vector_end, gc_end, instruction_end, constant_at};
-ghost use Rattle.wcv_binary.specs.Reading.{Gives};
+ghost use Rattle.wcv_bytes.specs.Reading.{Gives};
 
 use crate::core_value::read_full_ref;
-use crate::fault::{ReadError, Why, fault_at};
-use crate::number::read_u32;
+use wcv_bytes::{ReadError, Why, fault_at, read_u32};
 
 // What stands behind a number from -most - 1 to `most`.
 #[tactic(auto, unfolding(crate::specs::Constants::signed_end))]

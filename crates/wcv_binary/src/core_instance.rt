@@ -1,15 +1,13 @@
 // Core instances.
 ghost use Rattle.std.specs.Prelude.{◌≡◌};
 ghost use Rattle.wcv_binary.specs.CoreInstances.{core_arg_at, core_instance_at, core_listed_at, passed_at};
-ghost use Rattle.wcv_binary.specs.Reading.{Gives};
+ghost use Rattle.wcv_bytes.specs.Reading.{Gives};
 ghost use Rattle.wcv_syntax.specs.View.{core_instance_view};
 
-use crate::fault::{ReadError, Why};
 use crate::list::{FromBytes, read_vec};
-use crate::number::{expect_byte, read_flag, read_u32};
 use crate::sort::read_core_sort;
-use crate::text::read_text;
 use std::alloc::Global;
+use wcv_bytes::{ReadError, Why, expect_byte, read_flag, read_text, read_u32};
 use wcv_core::Text;
 use wcv_syntax::{Export, Instance, InstantiationArg};
 

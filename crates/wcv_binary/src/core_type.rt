@@ -1,14 +1,13 @@
 // Core types and groups of them.
 ghost use Rattle.std.specs.Prelude.{◌≡◌};
 ghost use Rattle.wcv_binary.specs.CoreTypes.{composite_at, core_func_at, group_at, inner_at, place_at, sub_at, super_at};
-ghost use Rattle.wcv_binary.specs.Reading.{Gives};
+ghost use Rattle.wcv_bytes.specs.Reading.{Gives};
 ghost use Rattle.wcv_core.specs.CoreForm.{SubForm, composite_form, func_form, group_form, sub_form};
 
 use crate::core_value::read_field;
-use crate::fault::{ReadError, Why, fault_at};
 use crate::list::{FromBytes, read_vec};
-use crate::number::{read_byte, read_u32};
 use std::alloc::Global;
+use wcv_bytes::{ReadError, Why, fault_at, read_byte, read_u32};
 use wcv_core::{ArrayType, CompositeInnerType, FuncType, RecGroup, StructType, SubType, SuperType};
 
 // The parameters and the results of a function type.
@@ -132,8 +131,8 @@ pub fn read_group(alloc: Global, bytes: &[u8]) -> Result<(RecGroup, &[u8]), Read
         let (types, rest) = read_vec(alloc, rest)?;
         return Ok((RecGroup { types }, rest));
     }
+    let mut types = Vec::with_capacity(alloc, 1)?;
     let (ty, rest) = SubType::from_bytes(alloc, bytes)?;
-    let mut types = Vec::new(alloc);
-    types.push(ty)?;
+    types.push_reserved(ty);
     Ok((RecGroup { types }, rest))
 }

@@ -1,12 +1,11 @@
 // Core value types, reference types and types of fields.
 ghost use Rattle.std.specs.Prelude.{◌≡◌};
 ghost use Rattle.wcv_binary.specs.CoreValues.{core_val_at, field_at, full_ref_at, heap_at, heap_bytes, is_continuation, named_heap_at, number_bytes, packed_bytes, ref_type_at, storage_at};
-ghost use Rattle.wcv_binary.specs.Reading.{Gives, under_byte};
+ghost use Rattle.wcv_bytes.specs.Reading.{Gives, under_byte};
 
-use crate::fault::{ReadError, Why, fault_at};
 use crate::list::FromBytes;
-use crate::number::{read_byte, read_flag, read_index};
 use std::alloc::Global;
+use wcv_bytes::{ReadError, Why, fault_at, read_byte, read_flag, read_index};
 use wcv_core::{AbstractHeap, FieldType, HeapType, RefType, StorageType, ValType};
 
 // The heap type that the byte names.

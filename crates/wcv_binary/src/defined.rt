@@ -1,14 +1,13 @@
 // Defined types.
 ghost use Rattle.std.specs.Prelude.{◌≡◌};
 ghost use Rattle.wcv_binary.specs.Defined.{simple_at, compound_at, defined_at};
-ghost use Rattle.wcv_binary.specs.Reading.{Gives};
+ghost use Rattle.wcv_bytes.specs.Reading.{Gives};
 ghost use Rattle.wcv_syntax.specs.View.{defined_view};
 
-use crate::fault::{ReadError, Why, fault_at};
 use crate::list::read_vec;
-use crate::number::{read_byte, read_u32};
 use crate::value::{primitive_of, read_component_val_type, read_optional_val_type};
 use std::alloc::Global;
+use wcv_bytes::{ReadError, Why, fault_at, read_byte, read_u32};
 use wcv_syntax::ComponentDefinedType;
 
 // One that is made of value types or of an index, and of no list.

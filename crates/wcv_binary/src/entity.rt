@@ -1,14 +1,12 @@
 // What core modules import and export.
 ghost use Rattle.std.specs.Prelude.{◌≡◌};
 ghost use Rattle.wcv_binary.specs.Entities.{core_import_at, entity_at, module_import_at, opens_many};
-ghost use Rattle.wcv_binary.specs.Reading.{Gives};
+ghost use Rattle.wcv_bytes.specs.Reading.{Gives};
 
-use crate::fault::{ReadError, Why, fault_at};
 use crate::limits::{read_global_type, read_memory_type, read_table_type};
 use crate::list::FromBytes;
-use crate::number::{read_byte, read_u32, read_zero};
-use crate::text::read_text;
 use std::alloc::Global;
+use wcv_bytes::{ReadError, Why, fault_at, read_byte, read_text, read_u32, read_zero};
 use wcv_core::Text;
 use wcv_syntax::{Import, TypeRef};
 

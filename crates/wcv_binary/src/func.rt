@@ -1,13 +1,13 @@
 // Function types.
 ghost use Rattle.std.specs.Prelude.{◌≡◌};
 ghost use Rattle.wcv_binary.specs.Funcs.{func_at};
-ghost use Rattle.wcv_binary.specs.Reading.{Gives};
+ghost use Rattle.wcv_bytes.specs.Reading.{Gives};
 ghost use Rattle.wcv_syntax.specs.View.{func_view};
 
-use crate::fault::ReadError;
 use crate::list::read_vec;
 use crate::value::read_result;
 use std::alloc::Global;
+use wcv_bytes::ReadError;
 use wcv_syntax::ComponentFuncType;
 
 /// Parameters and a result, behind the byte that says whether the function is asynchronous, as the component

@@ -1,9 +1,9 @@
 // Headers: four bytes of magic, two of a version and two of a layer.
 ghost use Rattle.std.specs.Prelude.{◌≡◌, ◌≤◌, length, IfOk};
 ghost use Rattle.wcv_binary.specs.Headers.{magic_at, component_header_at, module_header_at};
-ghost use Rattle.wcv_binary.specs.Reading.{Gives};
+ghost use Rattle.wcv_bytes.specs.Reading.{Gives};
 
-use crate::fault::{Fault, ReadError, Why, fault_at};
+use wcv_bytes::{Fault, ReadError, Why, fault_at};
 
 const MAGIC: [u8; 4] = [0x00, 0x61, 0x73, 0x6D];
 

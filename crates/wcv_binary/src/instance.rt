@@ -1,15 +1,13 @@
 // Instances.
 ghost use Rattle.std.specs.Prelude.{◌≡◌};
 ghost use Rattle.wcv_binary.specs.Names.{instantiated_at, instance_at};
-ghost use Rattle.wcv_binary.specs.Reading.{Gives};
+ghost use Rattle.wcv_bytes.specs.Reading.{Gives};
 ghost use Rattle.wcv_syntax.specs.View.{instance_view};
 
-use crate::fault::ReadError;
 use crate::list::{FromBytes, read_vec};
 use crate::name::{own_name, read_item, read_name};
-use crate::number::{read_flag, read_u32};
-use crate::text::read_text;
 use std::alloc::Global;
+use wcv_bytes::{ReadError, read_flag, read_text, read_u32};
 use wcv_core::Text;
 use wcv_syntax::{ComponentExport, ComponentInstance, ComponentInstantiationArg};
 

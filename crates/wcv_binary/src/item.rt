@@ -6,7 +6,7 @@ ghost use Rattle.wcv_binary.specs.CoreInstances.{core_instance_at};
 ghost use Rattle.wcv_binary.specs.Items.{start_at, form_at};
 ghost use Rattle.wcv_binary.specs.ModuleTypes.{core_type_at};
 ghost use Rattle.wcv_binary.specs.Names.{import_at, export_at, instance_at};
-ghost use Rattle.wcv_binary.specs.Reading.{Gives, of_one};
+ghost use Rattle.wcv_bytes.specs.Reading.{Gives, of_one};
 ghost use Rattle.wcv_binary.specs.Types.{type_over, type_within};
 ghost use Rattle.wcv_syntax.specs.Model.{core_instance_item, core_type_item, instance_item, alias_item, type_item, canon_item, import_item, export_item};
 ghost use Rattle.wcv_syntax.specs.View.{section_view};
@@ -14,15 +14,14 @@ ghost use Rattle.wcv_syntax.specs.View.{section_view};
 use crate::alias::read_alias;
 use crate::canon::read_canon;
 use crate::core_instance::read_core_instance;
-use crate::fault::ReadError;
 use crate::instance::read_instance;
 use crate::list::read_vec;
 use crate::module_type::read_core_type;
 use crate::name::{read_export, read_import};
-use crate::number::read_u32;
 use crate::types::read_type_over;
 use std::alloc::Global;
-use wcv_syntax::Section;
+use wcv_bytes::{ReadEntry, ReadError, read_u32};
+use wcv_syntax::{Item, Section};
 
 // What the item of a core instance holds.
 #[tactic(auto, using(crate::proofs::Made::core_instance_made))]
@@ -114,9 +113,9 @@ fn read_export_item(alloc: Global, bytes: &[u8]) -> Result<(Section, &[u8]), Rea
     Ok((Section::Export(export), rest))
 }
 
-/// What an item holds, in a section of this byte that is known to hold items. Types nest in it at most so deep.
+// What an item holds, in a section of this byte that is known to hold items. Types nest in it at most so deep.
 #[tactic(auto, unfolding(crate::specs::Items::form_at))]
-pub fn read_form(
+fn read_form(
     alloc: Global,
     depth: usize,
     id: u8,
@@ -134,5 +133,37 @@ pub fn read_form(
         9 => read_start(alloc, bytes),
         10 => read_import_item(alloc, bytes),
         _ => read_export_item(alloc, bytes),
+    }
+}
+
+/// The items of a section of this byte, which is known to hold items. Types nest in them at most so deep.
+#[derive(Drop)]
+pub struct Items {
+    pub depth: usize,
+    pub id: u8,
+}
+
+impl ReadEntry for Items {
+    ghost use Rattle.wcv_binary.specs.Items.{placed_at};
+    ghost use Rattle.wcv_syntax.specs.Model.{Entry};
+    ghost use Rattle.wcv_syntax.specs.View.{item_view};
+
+    type Entry = Item;
+
+    ghost Form = { Entry };
+
+    ghost seen = { item_view };
+
+    ghost meant = { λ items. placed_at items.depth items.id };
+
+    #[tactic(auto, using(crate::proofs::Made::item_made))]
+    fn read_entry<'a>(
+        &self,
+        alloc: Global,
+        offset: u64,
+        bytes: &'a [u8],
+    ) -> Result<(Item, &'a [u8]), ReadError> {
+        let (section, rest) = read_form(alloc, self.depth, self.id, bytes)?;
+        Ok((Item { offset, section }, rest))
     }
 }

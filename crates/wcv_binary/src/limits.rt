@@ -1,11 +1,10 @@
 // The types of core tables, memories and globals.
 ghost use Rattle.std.specs.Prelude.{◌≡◌};
 ghost use Rattle.wcv_binary.specs.Entities.{global_type_at, has_bit, marks_at, memory_type_at, page_at, sizes_at, table_type_at};
-ghost use Rattle.wcv_binary.specs.Reading.{Gives};
+ghost use Rattle.wcv_bytes.specs.Reading.{Gives};
 
 use crate::core_value::{read_ref_type, read_val_type};
-use crate::fault::{ReadError, Why, fault_at};
-use crate::number::{read_byte, read_u32, read_u64};
+use wcv_bytes::{ReadError, Why, fault_at, read_byte, read_u32, read_u64};
 use wcv_core::{GlobalType, MemoryType, TableType};
 
 // A byte of marks, which is at most `most`.

@@ -1,16 +1,16 @@
 // Lists of things of one kind.
 ghost use Rattle.std.specs.Prelude.{◌≡◌, map};
-ghost use Rattle.wcv_binary.specs.Reading.{Gives, list_at, vec_at};
+ghost use Rattle.wcv_bytes.specs.Reading.{Gives, list_at, vec_at};
 
-use crate::fault::ReadError;
-use crate::number::read_u32;
 use std::alloc::Global;
+use wcv_bytes::{ReadError, read_text, read_u32, room_of};
+use wcv_core::Text;
 
 /// What bytes can stand for.
 pub trait FromBytes: Drop {
     ghost use Rattle.std.specs.Prelude.{ℕ, List, Result};
-    ghost use Rattle.wcv_binary.specs.declared.fault.Fault.{Fault};
-    ghost use Rattle.wcv_binary.specs.Reading.{Gives};
+    ghost use Rattle.wcv_bytes.specs.declared.fault.Fault.{Fault};
+    ghost use Rattle.wcv_bytes.specs.Reading.{Gives};
 
     // What contracts see of it: the thing itself, where an impl does not say otherwise.
     ghost Form: { Type 0 } = { Self };
@@ -25,14 +25,6 @@ pub trait FromBytes: Drop {
         ensures { Gives (λ x. (seen x.0, x.1.now)) result (meant bytes.now) };
 }
 
-// The most things that room is asked for before the first of them is read.
-const MAX_ROOM: usize = 4096;
-
-/// For how many things to ask for room, by their count and the bytes that are left.
-pub fn room_of(count: u32, bytes: &[u8]) -> usize {
-    (count as usize).min(bytes.len()).min(MAX_ROOM)
-}
-
 // So many of them, one after another.
 fn read_many<T: FromBytes>(
     alloc: Global,
@@ -44,15 +36,16 @@ fn read_many<T: FromBytes>(
     let mut things = Vec::with_capacity(alloc, room_of(count, bytes))?;
     let mut rest = bytes;
     for _ in 0..count {
+        things.reserve(1)?;
         let (thing, after) = T::from_bytes(alloc, rest)?;
-        things.push(thing)?;
+        things.push_reserved(thing);
         rest = after;
     }
     Ok((things, rest))
 }
 
 /// A count, and so many of them.
-#[tactic(auto, unfolding(crate::specs::Reading::vec_at))]
+#[tactic(auto, unfolding(wcv_bytes::specs::Reading::vec_at))]
 pub fn read_vec<T: FromBytes>(alloc: Global, bytes: &[u8]) -> Result<(Vec<T>, &[u8]), ReadError>
     ensures { Gives (λ x. (map T.seen x.0.items, x.1.now)) result (vec_at T.meant bytes.now) }
 {
@@ -61,7 +54,7 @@ pub fn read_vec<T: FromBytes>(alloc: Global, bytes: &[u8]) -> Result<(Vec<T>, &[
 }
 
 impl FromBytes for u32 {
-    ghost use Rattle.wcv_binary.specs.Reading.{u32_at};
+    ghost use Rattle.wcv_bytes.specs.Reading.{u32_at};
 
     ghost seen = { λ n. n };
 
@@ -69,5 +62,19 @@ impl FromBytes for u32 {
 
     fn from_bytes(_alloc: Global, bytes: &[u8]) -> Result<(u32, &[u8]), ReadError> {
         read_u32(bytes)
+    }
+}
+
+impl FromBytes for Text {
+    ghost use Rattle.wcv_bytes.specs.Reading.{text_at};
+
+    ghost seen = { λ t. t };
+
+    ghost meant = { text_at };
+
+    fn from_bytes(alloc: Global, bytes: &[u8]) -> Result<(Text, &[u8]), ReadError> {
+        let (text, rest) = read_text(bytes)?;
+        let text = Text::new(alloc, text)?;
+        Ok((text, rest))
     }
 }

@@ -3,19 +3,18 @@ ghost use Rattle.std.specs.Prelude.{◌≡◌, ◌-◌, length, map};
 ghost use Rattle.wcv_binary.specs.Headers.{module_header_at};
 ghost use Rattle.wcv_binary.specs.ModuleSections.{no_sections};
 ghost use Rattle.wcv_binary.specs.ModuleViews.{module_form};
-ghost use Rattle.wcv_binary.specs.Modules.{module_section_at, module_sections_at, core_module_at};
-ghost use Rattle.wcv_binary.specs.Sections.{GivesAt, told};
+ghost use Rattle.wcv_binary.specs.Modules.{module_room, module_section_at, module_sections_at, core_module_at};
+ghost use Rattle.wcv_bytes.specs.Sections.{GivesAt, told};
 ghost use Rattle.wcv_syntax.specs.View.{code_decl_view};
 
-use crate::fault::{BinaryError, BinaryFault, Why};
 use crate::header::read_module_header;
 use crate::module_section::{Module, keeps};
-use crate::section::{error_at, read_contents};
 use std::alloc::Global;
+use wcv_bytes::{BinaryError, BinaryFault, Why, count_entries, error_at, read_contents};
 use wcv_syntax::ModuleDecl;
 
 // What stands behind the header.
-#[tactic(auto, using(crate::proofs::Told::fails_told))]
+#[tactic(auto, using(wcv_bytes::proofs::Told::fails_told))]
 fn skip_header(end: u64, bytes: &[u8]) -> Result<&[u8], BinaryError>
     ensures { GivesAt (λ x. x.now) result (told end (module_header_at bytes.now)) }
 {
@@ -25,8 +24,18 @@ fn skip_header(end: u64, bytes: &[u8]) -> Result<&[u8], BinaryError>
     }
 }
 
+// How many bytes may still be kept behind a section that ends at that offset.
+fn count_kept(id: u8, end: u64, room: u64, bytes: &[u8]) -> Result<u64, BinaryError>
+    ensures { GivesAt (λ left. left) result (module_room id end room bytes.now) }
+{
+    if !keeps(id) {
+        return Ok(room);
+    }
+    count_entries(false, end, room, bytes)
+}
+
 // A section, from its size on: what is left behind it, and how many bytes may still be kept.
-#[tactic(auto, using(crate::proofs::Told::fails_told), unfolding(crate::specs::Modules::module_section_at))]
+#[tactic(auto, using(wcv_bytes::proofs::Told::fails_told), unfolding(crate::specs::Modules::module_section_at))]
 fn read_section<'a>(
     alloc: Global,
     module: &mut Module,
@@ -39,10 +48,11 @@ fn read_section<'a>(
 {
     let (contents, rest, room) = read_contents(keeps(id), end, room, bytes)?;
     let contents_end = end.saturating_sub(rest.len() as u64);
-    match module.read_section(alloc, id, contents) {
-        Ok(()) => Ok((rest, room)),
-        Err(error) => Err(error_at(contents_end, error)),
+    if let Err(error) = module.read_section(alloc, id, contents) {
+        return Err(error_at(contents_end, error));
     }
+    let room = count_kept(id, contents_end, room, contents)?;
+    Ok((rest, room))
 }
 
 // All sections, and how many bytes may still be kept behind them.

@@ -3,16 +3,13 @@ ghost use Rattle.std.specs.List.{filter_map};
 ghost use Rattle.std.specs.Prelude.{◌≡◌, ◌++◌, map, IfOk};
 ghost use Rattle.wcv_binary.specs.ModuleItems.{imported_function, imported_table, imported_memory, imported_global, imported_tag, spaces_of, item_of, export_at, exports_at};
 ghost use Rattle.wcv_binary.specs.ModuleViews.{module_form, spaces_form};
-ghost use Rattle.wcv_binary.specs.Reading.{Gives, list_at, vec_at};
+ghost use Rattle.wcv_bytes.specs.Reading.{Gives, list_at, vec_at};
 
-use crate::fault::{ReadError, Why, fault_at};
-use crate::list::room_of;
 use crate::module_item::Tag;
 use crate::module_section::Module;
-use crate::number::read_u32;
 use crate::sort::read_core_sort;
-use crate::text::read_text;
 use std::alloc::{AllocError, Global};
+use wcv_bytes::{ReadError, Why, fault_at, read_text, read_u32, room_of};
 use wcv_core::{GlobalType, MemoryType, TableType, Text};
 use wcv_syntax::{ExternalKind, Import, TypeRef};
 
@@ -153,15 +150,16 @@ fn read_many_exports<'a>(
     let mut exports = Vec::with_capacity(alloc, room_of(count, bytes))?;
     let mut rest = bytes;
     for _ in 0..count {
+        exports.reserve(1)?;
         let (export, after) = read_export(alloc, spaces, rest)?;
-        exports.push(export)?;
+        exports.push_reserved(export);
         rest = after;
     }
     Ok((exports, rest))
 }
 
 /// The exports of a core module, each with the item that it names.
-#[tactic(auto, unfolding(crate::specs::Reading::vec_at))]
+#[tactic(auto, unfolding(wcv_bytes::specs::Reading::vec_at))]
 pub fn read_exports<'a>(
     alloc: Global,
     module: &Module,

@@ -1,15 +1,14 @@
 // Types, tables, memories, tags and globals of a core module.
 ghost use Rattle.std.specs.Prelude.{◌≡◌};
 ghost use Rattle.wcv_binary.specs.ModuleItems.{filled_table_at};
-ghost use Rattle.wcv_binary.specs.Reading.{Gives};
+ghost use Rattle.wcv_bytes.specs.Reading.{Gives};
 
 use crate::constant::skip_constant;
 use crate::core_type::read_group;
-use crate::fault::{ReadError, Why, fault_at};
 use crate::limits::{read_global_type, read_memory_type, read_table_type};
 use crate::list::FromBytes;
-use crate::number::{read_u32, read_zero};
 use std::alloc::Global;
+use wcv_bytes::{ReadError, Why, fault_at, read_u32, read_zero};
 use wcv_core::{GlobalType, MemoryType, RecGroup, TableType};
 
 /// A tag: the index of its function type.

@@ -2,17 +2,15 @@
 ghost use Rattle.std.specs.Prelude.{◌≡◌, ◌++◌, map, IfOk};
 ghost use Rattle.wcv_binary.specs.ModuleSections.{places, place_behind, is_kept, kept_at, bodies_at, said_at, no_sections, declarations};
 ghost use Rattle.wcv_binary.specs.ModuleViews.{module_form};
-ghost use Rattle.wcv_binary.specs.Reading.{Gives, under_byte};
+ghost use Rattle.wcv_bytes.specs.Reading.{Gives, under_byte};
 ghost use Rattle.wcv_syntax.specs.View.{code_decl_view};
 ghost use Rattle.wcv_syntax.specs.declared.core_section.ModuleDecl.TheVariants as code;
 
-use crate::fault::{ReadError, Why, fault_at};
 use crate::list::read_vec;
 use crate::module_export::read_exports;
 use crate::module_item::Tag;
-use crate::number::read_u32;
-use crate::text::read_text;
 use std::alloc::{AllocError, Global};
+use wcv_bytes::{ReadError, Why, fault_at, read_text, read_u32};
 use wcv_core::{GlobalType, MemoryType, RecGroup, TableType, Text};
 use wcv_syntax::{Import, ModuleDecl, TypeRef};
 

@@ -1,17 +1,15 @@
 // The types of core modules, and core type items.
 ghost use Rattle.std.specs.Prelude.{◌≡◌};
 ghost use Rattle.wcv_binary.specs.ModuleTypes.{core_type_at, marked_group_at, module_decl_at, module_export_at, module_outer_at};
-ghost use Rattle.wcv_binary.specs.Reading.{Gives};
+ghost use Rattle.wcv_bytes.specs.Reading.{Gives};
 ghost use Rattle.wcv_core.specs.CoreForm.{group_form};
 ghost use Rattle.wcv_syntax.specs.View.{core_type_view, module_decl_view};
 
 use crate::core_type::read_group;
 use crate::entity::{read_core_import, read_entity};
-use crate::fault::{ReadError, Why, fault_at};
 use crate::list::{FromBytes, read_vec};
-use crate::number::{expect_byte, read_byte, read_u32};
-use crate::text::read_text;
 use std::alloc::Global;
+use wcv_bytes::{ReadError, Why, expect_byte, fault_at, read_byte, read_text, read_u32};
 use wcv_core::{RecGroup, Text};
 use wcv_syntax::{CoreType, ModuleTypeDeclaration};
 

@@ -1,14 +1,12 @@
 // Imports and exports with their names.
 ghost use Rattle.std.specs.Prelude.{◌≡◌, IfOk};
 ghost use Rattle.wcv_binary.specs.Names.{plain, name_at, bounds_at, ref_of, ref_at, optional_ref_at, import_at, item_at, export_at};
-ghost use Rattle.wcv_binary.specs.Reading.{Gives};
+ghost use Rattle.wcv_bytes.specs.Reading.{Gives};
 
-use crate::fault::{ReadError, Why, fault_at};
-use crate::number::{read_byte, read_flag, read_u32};
 use crate::sort::read_sort;
-use crate::text::read_text;
 use crate::value::read_component_val_type;
 use std::alloc::Global;
+use wcv_bytes::{ReadError, Why, fault_at, read_byte, read_flag, read_text, read_u32};
 use wcv_core::{OutOfMemory, Text};
 use wcv_syntax::{
     ComponentExport, ComponentExternName, ComponentExternalKind, ComponentImport, ComponentTypeRef,

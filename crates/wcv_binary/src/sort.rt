@@ -1,10 +1,9 @@
 // Sorts of items.
 ghost use Rattle.std.specs.Prelude.{◌≡◌};
-ghost use Rattle.wcv_binary.specs.Reading.{Gives};
+ghost use Rattle.wcv_bytes.specs.Reading.{Gives};
 ghost use Rattle.wcv_binary.specs.Sorts.{core_sort_at, module_sort_at, sort_at};
 
-use crate::fault::{ReadError, Why, fault_at};
-use crate::number::read_byte;
+use wcv_bytes::{ReadError, Why, fault_at, read_byte};
 use wcv_syntax::{ComponentExternalKind, ExternalKind};
 
 /// The sort of a core item, as the component model's Binary.md has it.

@@ -1,6 +1,6 @@
 // Types, and the declarations of component types and instance types, which nest.
 ghost use Rattle.std.specs.Prelude.{◌≡◌, map};
-ghost use Rattle.wcv_binary.specs.Reading.{Gives, list_at, of_one};
+ghost use Rattle.wcv_bytes.specs.Reading.{Gives, list_at, of_one};
 ghost use Rattle.wcv_binary.specs.Types.{destructor_at, plain_type_at, plain_decl_at, instance_decl_at, component_decl_at, type_over, type_within};
 ghost use Rattle.wcv_syntax.specs.Model.{import_decl};
 ghost use Rattle.wcv_binary.specs.Names.{import_at};
@@ -9,13 +9,11 @@ ghost use Rattle.wcv_syntax.specs.View.{type_view, component_decl_view, instance
 use crate::alias::read_alias;
 use crate::core_value::read_val_type;
 use crate::defined::read_defined;
-use crate::fault::{ReadError, Why, fault_at};
 use crate::func::read_func;
-use crate::list::room_of;
 use crate::module_type::read_core_type;
 use crate::name::{own_name, read_import, read_name, read_ref};
-use crate::number::{read_byte, read_flag, read_u32};
 use std::alloc::Global;
+use wcv_bytes::{ReadError, Why, fault_at, read_byte, read_flag, read_u32, room_of};
 use wcv_syntax::{ComponentType, ComponentTypeDeclaration, InstanceTypeDeclaration};
 
 // A type with types nested in it, itself among them, at most so deep.
@@ -35,7 +33,7 @@ fn read_type_within(
 
 /// A type, as the component model's Binary.md has it, in which types nest at most so deep.
 #[cycle(types)]
-#[tactic(auto, using(crate::proofs::Nested::views), unfolding(crate::specs::Types::type_over, crate::specs::Reading::vec_at))]
+#[tactic(auto, using(crate::proofs::Nested::views), unfolding(crate::specs::Types::type_over, wcv_bytes::specs::Reading::vec_at))]
 pub fn read_type_over(
     alloc: Global,
     depth: usize,
@@ -72,8 +70,9 @@ fn read_component_decls(
     let mut decls = Vec::with_capacity(alloc, room_of(count, bytes))?;
     let mut rest = bytes;
     for _ in 0..count {
+        decls.reserve(1)?;
         let (decl, after) = read_component_decl(alloc, depth, rest)?;
-        decls.push(decl)?;
+        decls.push_reserved(decl);
         rest = after;
     }
     Ok((decls, rest))
@@ -92,8 +91,9 @@ fn read_instance_decls(
     let mut decls = Vec::with_capacity(alloc, room_of(count, bytes))?;
     let mut rest = bytes;
     for _ in 0..count {
+        decls.reserve(1)?;
         let (decl, after) = read_instance_decl(alloc, depth, rest)?;
-        decls.push(decl)?;
+        decls.push_reserved(decl);
         rest = after;
     }
     Ok((decls, rest))

@@ -1,13 +1,11 @@
 // Value types.
 ghost use Rattle.std.specs.Prelude.{◌≡◌};
-ghost use Rattle.wcv_binary.specs.Reading.{Gives, under_byte};
+ghost use Rattle.wcv_bytes.specs.Reading.{Gives, under_byte};
 ghost use Rattle.wcv_binary.specs.Values.{primitives, val_at, optional_val_at, result_at};
 
-use crate::fault::ReadError;
 use crate::list::FromBytes;
-use crate::number::{read_byte, read_flag, read_index, read_zero};
-use crate::text::read_text;
 use std::alloc::Global;
+use wcv_bytes::{ReadError, read_byte, read_flag, read_index, read_text, read_zero};
 use wcv_core::{PrimitiveValType, Text};
 use wcv_syntax::{ComponentValType, VariantCase};
 

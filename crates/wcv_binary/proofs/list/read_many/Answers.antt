@@ -1,8 +1,8 @@
 use Rattle.std.proofs.Common.{◌≡◌, ◌++◌, ◌∷◌, [], map}
 use Rattle.std.proofs.lemmas.Result.{err_from_is_err_and}
 use Rattle.std.proofs.lemmas.List.{map_push}
-use Rattle.wcv_binary.specs.Reading.{list_at}
-use Rattle.wcv_binary.proofs.Loop.{goes_on, ends, is_done}
+use Rattle.wcv_bytes.specs.Reading.{list_at}
+use Rattle.wcv_bytes.proofs.Loop.{goes_on, ends, is_done}
 use Rattle.wcv_binary.proofs.list.read_many.Goals as goal
 
 pub returns-in_err-thing : goal.returns-in_err-thing
@@ -15,7 +15,7 @@ pub loop-preserved : goal.loop-preserved
 loop-preserved g c =
     let element = g.T.FromBytes in
     let n = c.in_ok-thing.thing in
-    let e : map element.seen c.push.new.self.items ≡ map element.seen c.loop.things.items ++ element.seen n ∷ [] = rw c.in_ok-push.ensures.items (map_push _ c.loop.things.items n) in
+    let e : map element.seen c.push_reserved.new.self.items ≡ map element.seen c.loop.things.items ++ element.seen n ∷ [] = rw (c.push_reserved.ensures.items, c.reserve.ensures.items) (map_push _ c.loop.things.items n) in
     rw e (goes_on element.meant (map element.seen c.loop.things.items) c.args.count c.loop.counter c.loop.rest.now (element.seen n) c.in_ok-thing.after.now (list_at element.meant c.args.count c.args.bytes.now) c.loop-test.true c.in_ok-thing.ensures c.loop.invariant)
 
 pub returns : goal.returns

@@ -1,6 +1,6 @@
 use Rattle.std.proofs.Common.{◌≡◌, ◌-◌, map}
-use Rattle.wcv_binary.specs.Reading.{list_at}
-use Rattle.wcv_binary.proofs.Loop.{with_front}
+use Rattle.wcv_bytes.specs.Reading.{list_at}
+use Rattle.wcv_bytes.proofs.Loop.{with_front}
 use Rattle.wcv_binary.proofs.list.read_many.Given as goal
 
 abbrev pub invariant-loop : goal.invariant-loop

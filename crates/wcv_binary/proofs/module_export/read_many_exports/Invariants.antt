@@ -1,8 +1,8 @@
 use Rattle.std.proofs.Common.{◌≡◌, ◌-◌}
 use Rattle.wcv_binary.specs.ModuleItems.{export_at}
 use Rattle.wcv_binary.specs.ModuleViews.{spaces_form}
-use Rattle.wcv_binary.specs.Reading.{list_at}
-use Rattle.wcv_binary.proofs.Loop.{with_front}
+use Rattle.wcv_bytes.specs.Reading.{list_at}
+use Rattle.wcv_bytes.proofs.Loop.{with_front}
 use Rattle.wcv_binary.proofs.module_export.read_many_exports.Given as goal
 
 abbrev pub invariant-loop : goal.invariant-loop

@@ -1,8 +1,8 @@
 use Rattle.std.proofs.Common.{◌≡◌, ◌+◌, ◌-◌, ◌*◌, map}
 use Rattle.wcv_syntax.specs.View.{component_decl_view, instance_decl_view}
-use Rattle.wcv_binary.specs.Reading.{list_at}
+use Rattle.wcv_bytes.specs.Reading.{list_at}
 use Rattle.wcv_binary.specs.Types.{component_decl_at, instance_decl_at, type_within}
-use Rattle.wcv_binary.proofs.Loop.{with_front}
+use Rattle.wcv_bytes.proofs.Loop.{with_front}
 use Rattle.wcv_binary.proofs.types.+types.Given as goal
 
 abbrev pub decreases-read_type_within : goal.decreases-read_type_within

@@ -2,11 +2,11 @@
 -- A reader is a function from the bytes that are left to a value and what is left behind it, or the first fault.
 use Rattle.std.specs.Prelude.{◌≡◌, ℕ, zero, suc, ◌+◌, ◌-◌, ◌*◌, ◌/◌, ◌^◌, List, [], ◌∷◌, length, take, drop, Result, Ok, Err, Bool, true, false, nat_lt, ◌==◌, if◌then◌else◌, Option, Some, None}
 use Rattle.std.specs.Str.{is_utf8}
-use Rattle.wcv_binary.specs.declared.fault.Fault.{Fault}
-use Rattle.wcv_binary.specs.declared.fault.Why.{Why}
-use Rattle.wcv_binary.specs.declared.fault.Why.TheVariants.{Short, TooLong, TooLarge, NotUtf8, Negative, NotFlag, NotZero}
-use Rattle.wcv_binary.specs.declared.fault.ReadError.{ReadError}
-use Rattle.wcv_binary.specs.declared.fault.ReadError.TheVariants as errors
+use Rattle.wcv_bytes.specs.declared.fault.Fault.{Fault}
+use Rattle.wcv_bytes.specs.declared.fault.Why.{Why}
+use Rattle.wcv_bytes.specs.declared.fault.Why.TheVariants.{Short, TooLong, TooLarge, NotUtf8, Negative, NotFlag, NotZero}
+use Rattle.wcv_bytes.specs.declared.fault.ReadError.{ReadError}
+use Rattle.wcv_bytes.specs.declared.fault.ReadError.TheVariants as errors
 
 infixl 10 ◌>>=◌
 abbrev pub ◌>>=◌ : {A B : Type 0} → Result A Fault → (A → Result B Fault) → Result B Fault

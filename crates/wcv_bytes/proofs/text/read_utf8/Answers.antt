@@ -1,9 +1,9 @@
 use Rattle.std.proofs.Common.{◌≡◌, List, ℕ, Bool, true, false, refl, Ok, Err}
 use Rattle.std.specs.Str.{is_utf8, IsUtf8}
 use Rattle.std.proofs.lemmas.Str.{IsUtf8-from_is_utf8, is_utf8-from_IsUtf8}
-use Rattle.wcv_binary.specs.declared.fault.Why.TheVariants.{NotUtf8}
-use Rattle.wcv_binary.specs.Reading.{utf8_in}
-use Rattle.wcv_binary.proofs.text.read_utf8.Goals as goal
+use Rattle.wcv_bytes.specs.declared.fault.Why.TheVariants.{NotUtf8}
+use Rattle.wcv_bytes.specs.Reading.{utf8_in}
+use Rattle.wcv_bytes.proofs.text.read_utf8.Goals as goal
 
 is_text : (bytes : List ℕ) (left : ℕ) → IsUtf8 bytes → utf8_in bytes left ≡ Ok bytes
 unfolding utf8_in

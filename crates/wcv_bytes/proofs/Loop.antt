@@ -1,10 +1,10 @@
 -- Reading things one after the other, as a loop does.
 use Rattle.std.proofs.Common.{◌≡◌, ℕ, suc, ◌-◌, ◌+◌, ◌≤◌, ◌<◌, List, [], ◌∷◌, ◌++◌, Result, Ok, Err, refl, sym, ap, ◌∙◌, append_assoc, arith}
 use Rattle.std.proofs.lemmas.List.{append-nil}
-use Rattle.wcv_binary.specs.declared.fault.Fault.{Fault}
-use Rattle.wcv_binary.specs.declared.fault.ReadError.{ReadError}
-use Rattle.wcv_binary.specs.declared.fault.ReadError.TheVariants as errors
-use Rattle.wcv_binary.specs.Reading.{◌>>=◌, Fails, list_at}
+use Rattle.wcv_bytes.specs.declared.fault.Fault.{Fault}
+use Rattle.wcv_bytes.specs.declared.fault.ReadError.{ReadError}
+use Rattle.wcv_bytes.specs.declared.fault.ReadError.TheVariants as errors
+use Rattle.wcv_bytes.specs.Reading.{◌>>=◌, Fails, list_at}
 
 -- what was read before, and what is still read
 abbrev pub with_front : {X : Type 0} → List X → Result (List X × List ℕ) Fault → Result (List X × List ℕ) Fault

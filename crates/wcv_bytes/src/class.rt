@@ -1,11 +1,11 @@
 // What a fault asks for, and what was expected there.
 ghost use Rattle.std.specs.Prelude.{◌≡◌};
-ghost use Rattle.wcv_binary.specs.Faults.{class_of};
+ghost use Rattle.wcv_bytes.specs.Faults.{class_of};
 
 use crate::fault::Why;
 
 /// What a fault asks for: a file that is whole, a reader that knows more, or fewer bytes.
-#[derive(Clone, Copy, Debug, PartialEq, Eq)]
+#[derive(Clone, Copy)]
 pub enum Class {
     /// The bytes are no component.
     Malformed,

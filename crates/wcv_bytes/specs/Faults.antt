@@ -1,8 +1,8 @@
 -- What a fault asks for.
-use Rattle.wcv_binary.specs.declared.class.Class.{Class}
-use Rattle.wcv_binary.specs.declared.class.Class.TheVariants as class
-use Rattle.wcv_binary.specs.declared.fault.Why.{Why}
-use Rattle.wcv_binary.specs.declared.fault.Why.TheVariants as why
+use Rattle.wcv_bytes.specs.declared.class.Class.{Class}
+use Rattle.wcv_bytes.specs.declared.class.Class.TheVariants as class
+use Rattle.wcv_bytes.specs.declared.fault.Why.{Why}
+use Rattle.wcv_bytes.specs.declared.fault.Why.TheVariants as why
 
 abbrev pub class_of : Why → Class
 class_of why.UnsupportedName = class.Unsupported

@@ -1,13 +1,13 @@
 // Why bytes stand for nothing.
 ghost use Rattle.std.specs.Prelude.{◌≡◌, length};
-ghost use Rattle.wcv_binary.specs.declared.fault.ReadError.TheVariants.{Memory};
-ghost use Rattle.wcv_binary.specs.declared.fault.ReadError.TheVariants as errors;
+ghost use Rattle.wcv_bytes.specs.declared.fault.ReadError.TheVariants.{Memory};
+ghost use Rattle.wcv_bytes.specs.declared.fault.ReadError.TheVariants as errors;
 
 use std::alloc::{AllocError, AllocFailed};
 use wcv_core::OutOfMemory;
 
 /// What stands where reading does not go on.
-#[derive(Clone, Copy, Debug, PartialEq, Eq)]
+#[derive(Clone, Copy)]
 pub enum Why {
     /// The bytes end here, and more are asked for.
     Short,
@@ -92,20 +92,21 @@ pub enum Why {
 }
 
 /// The first fault from left to right, and how many bytes are left from it on.
-#[derive(Clone, Copy, Debug, PartialEq, Eq)]
+#[derive(Clone, Copy)]
 pub struct Fault {
     pub why: Why,
     pub left: usize,
 }
 
 /// Why nothing was read: the bytes stand for nothing, or it ran out of memory.
-#[derive(Debug, Drop)]
+#[derive(Drop)]
 pub enum ReadError {
     Memory,
     Fault(Fault),
 }
 
 /// The fault that stands at the front of these bytes.
+#[inline(always)]
 pub fn fault_at(why: Why, bytes: &[u8]) -> ReadError
     ensures { result ≡ errors.Fault (record { why = why; left = length bytes.now }) }
 {
@@ -140,14 +141,14 @@ impl From<OutOfMemory> for ReadError {
 }
 
 /// A fault at its offset.
-#[derive(Clone, Copy, Debug, PartialEq, Eq)]
+#[derive(Clone, Copy)]
 pub struct BinaryFault {
     pub at: u64,
     pub why: Why,
 }
 
 /// Why no binary was read, or no section of one: the bytes stand for nothing, or it ran out of memory.
-#[derive(Debug, Drop)]
+#[derive(Drop)]
 pub enum BinaryError {
     OutOfMemory,
     Fault(BinaryFault),
@@ -155,7 +156,7 @@ pub enum BinaryError {
 
 impl From<AllocError> for BinaryError {
     ghost use Rattle.std.specs.Prelude.{◌≡◌};
-    ghost use Rattle.wcv_binary.specs.declared.fault.BinaryError.TheVariants.{OutOfMemory};
+    ghost use Rattle.wcv_bytes.specs.declared.fault.BinaryError.TheVariants.{OutOfMemory};
 
     ghost from_gives = { λ _ e. e ≡ OutOfMemory };
 
@@ -166,7 +167,7 @@ impl From<AllocError> for BinaryError {
 
 impl<T: Drop> From<AllocFailed<T>> for BinaryError {
     ghost use Rattle.std.specs.Prelude.{◌≡◌};
-    ghost use Rattle.wcv_binary.specs.declared.fault.BinaryError.TheVariants.{OutOfMemory};
+    ghost use Rattle.wcv_bytes.specs.declared.fault.BinaryError.TheVariants.{OutOfMemory};
 
     ghost from_gives = { λ _ e. e ≡ OutOfMemory };
 

@@ -1,10 +1,11 @@
 // Numbers.
 ghost use Rattle.std.specs.Prelude.{◌≡◌, ◌≤◌, ◌^◌, ◌-◌, IfOk};
-ghost use Rattle.wcv_binary.specs.Reading.{Gives, byte_at, expected_at, flag_at, zero_at, leb_at, u32_at, u64_at, index_within, index_at};
+ghost use Rattle.wcv_bytes.specs.Reading.{Gives, byte_at, expected_at, flag_at, zero_at, leb_at, u32_at, u64_at, index_within, index_at};
 
 use crate::fault::{Fault, ReadError, Why, fault_at};
 
 /// The byte at the front.
+#[inline(always)]
 #[tactic(auto, unfolding(crate::specs::Reading::byte_at))]
 pub fn read_byte(bytes: &[u8]) -> Result<(u8, &[u8]), ReadError>
     ensures { Gives (λ x. (x.0, x.1.now)) result (byte_at bytes.now) }
@@ -19,6 +20,7 @@ pub fn read_byte(bytes: &[u8]) -> Result<(u8, &[u8]), ReadError>
 }
 
 /// What stands behind a byte that has to be this one.
+#[inline(always)]
 #[tactic(auto, unfolding(crate::specs::Reading::expected_at))]
 pub fn expect_byte(bytes: &[u8], byte: u8, why: Why) -> Result<&[u8], ReadError>
     ensures { Gives (λ x. x.now) result (expected_at byte why bytes.now) }
@@ -32,6 +34,7 @@ pub fn expect_byte(bytes: &[u8], byte: u8, why: Why) -> Result<&[u8], ReadError>
 }
 
 /// A byte that is 0 or 1.
+#[inline(always)]
 #[tactic(auto, unfolding(crate::specs::Reading::flag_at))]
 pub fn read_flag(bytes: &[u8]) -> Result<(bool, &[u8]), ReadError>
     ensures { Gives (λ x. (x.0, x.1.now)) result (flag_at bytes.now) }
@@ -51,6 +54,7 @@ pub fn read_flag(bytes: &[u8]) -> Result<(bool, &[u8]), ReadError>
 }
 
 /// What stands behind a byte that is 0.
+#[inline(always)]
 #[tactic(auto, unfolding(crate::specs::Reading::zero_at))]
 pub fn read_zero(bytes: &[u8]) -> Result<&[u8], ReadError>
     ensures { Gives (λ x. x.now) result (zero_at bytes.now) }
@@ -117,12 +121,25 @@ pub fn read_u64(bytes: &[u8]) -> Result<(u64, &[u8]), ReadError>
     read_leb(bytes, u64::MAX)
 }
 
-/// A number of 32 bits.
-pub fn read_u32(bytes: &[u8]) -> Result<(u32, &[u8]), ReadError>
+// A number of 32 bits, of any length.
+fn read_long_u32(bytes: &[u8]) -> Result<(u32, &[u8]), ReadError>
     ensures { Gives (λ x. (x.0, x.1.now)) result (u32_at bytes.now) }
 {
     let (number, rest) = read_leb(bytes, 4294967295)?;
     Ok((number as u32, rest))
+}
+
+/// A number of 32 bits.
+#[inline(always)]
+pub fn read_u32(bytes: &[u8]) -> Result<(u32, &[u8]), ReadError>
+    ensures { Gives (λ x. (x.0, x.1.now)) result (u32_at bytes.now) }
+{
+    if let [b, rest @ ..] = bytes {
+        if *b < 128 {
+            return Ok((*b as u32, rest));
+        }
+    }
+    read_long_u32(bytes)
 }
 
 // The index at the front, at most `most`.
@@ -173,10 +190,23 @@ fn read_index_within(bytes: &[u8], most: u64) -> Result<(u64, &[u8]), ReadError>
     }
 }
 
-/// An index, written as a number of 33 bits with a sign, where the types that are no index are negative.
-pub fn read_index(bytes: &[u8]) -> Result<(u32, &[u8]), ReadError>
+// An index, of any length.
+fn read_long_index(bytes: &[u8]) -> Result<(u32, &[u8]), ReadError>
     ensures { Gives (λ x. (x.0, x.1.now)) result (index_at bytes.now) }
 {
     let (number, rest) = read_index_within(bytes, 4294967295)?;
     Ok((number as u32, rest))
+}
+
+/// An index, written as a number of 33 bits with a sign, where the types that are no index are negative.
+#[inline(always)]
+pub fn read_index(bytes: &[u8]) -> Result<(u32, &[u8]), ReadError>
+    ensures { Gives (λ x. (x.0, x.1.now)) result (index_at bytes.now) }
+{
+    if let [b, rest @ ..] = bytes {
+        if *b < 64 {
+            return Ok((*b as u32, rest));
+        }
+    }
+    read_long_index(bytes)
 }

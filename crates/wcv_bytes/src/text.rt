@@ -1,12 +1,9 @@
 // Texts.
 ghost use Rattle.std.specs.Prelude.{◌≡◌};
-ghost use Rattle.wcv_binary.specs.Reading.{Gives, text_at, utf8_in};
+ghost use Rattle.wcv_bytes.specs.Reading.{Gives, text_at, utf8_in};
 
 use crate::fault::{Fault, ReadError, Why};
-use crate::list::FromBytes;
 use crate::number::read_u32;
-use std::alloc::Global;
-use wcv_core::Text;
 
 // The bytes as a text, where they are one.
 fn read_utf8(bytes: &[u8], left: usize) -> Result<&str, ReadError>
@@ -38,18 +35,4 @@ pub fn read_text(bytes: &[u8]) -> Result<(&str, &[u8]), ReadError>
     let (text, rest) = rest.split_at(len);
     let text = read_utf8(text, left)?;
     Ok((text, rest))
-}
-
-impl FromBytes for Text {
-    ghost use Rattle.wcv_binary.specs.Reading.{text_at};
-
-    ghost seen = { λ t. t };
-
-    ghost meant = { text_at };
-
-    fn from_bytes(alloc: Global, bytes: &[u8]) -> Result<(Text, &[u8]), ReadError> {
-        let (text, rest) = read_text(bytes)?;
-        let text = Text::new(alloc, text)?;
-        Ok((text, rest))
-    }
 }
