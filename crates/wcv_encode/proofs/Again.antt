@@ -1,7 +1,7 @@
 -- What is written is read again, whatever follows: how readers of parts make a reader of the whole.
-use Rattle.std.proofs.Common.{◌≡◌, ℕ, Some, None, Result, Ok, List, ◌∷◌, ◌++◌, refl, sym, ap, ◌∙◌, append_assoc}
-use Rattle.wcv_binary.specs.declared.fault.Fault.{Fault}
-use Rattle.wcv_binary.specs.Reading.{◌>>=◌, of_one, of_two}
+use Rattle.std.proofs.Common.{◌≡◌, ℕ, Some, None, Result, Ok, List, [], ◌∷◌, ◌++◌, refl, sym, ap, ◌∙◌, subst, append_assoc}
+use Rattle.wcv_bytes.specs.declared.fault.Fault.{Fault}
+use Rattle.wcv_bytes.specs.Reading.{◌>>=◌, of_one, of_two}
 use Rattle.wcv_encode.specs.Bytes.{Bytes, ◌⧺◌, byte}
 use Rattle.wcv_encode.specs.Laws.{Reads}
 
@@ -44,3 +44,28 @@ prefixed a f g None z step again c rest e = absurd (cc)
 prefixed a f g (Some b) z step again c rest e =
     let same : a ++ b ≡ c = cc in
     ap (λ y. f (y ++ rest)) (sym same) ∙ ap f (append_assoc a b rest) ∙ step (b ++ rest) ∙ again b rest refl
+
+pub some_of : (a b : List ℕ) → Some a ≡ Some b → a ≡ b
+some_of a b e = cc
+
+-- what holds of all bytes that begin with a byte holds of what is written behind it
+pub begun : (n : ℕ) (P : List ℕ → Type 0) (more : Bytes) → ((c : List ℕ) → P (n ∷ c)) → (b : List ℕ) → byte n ⧺ more ≡ Some b → P b
+unfolding ◌⧺◌
+begun n P None each b e = absurd (cc)
+begun n P (Some c) each b e =
+    let same : n ∷ c ≡ b = cc in
+    subst P same (each c)
+
+-- what holds of all that two parts make holds of what is written of both
+pub parted : (P : List ℕ → Type 0) (a b : Bytes) → ((x y : List ℕ) → a ≡ Some x → b ≡ Some y → P (x ++ y)) → (c : List ℕ) → a ⧺ b ≡ Some c → P c
+unfolding ◌⧺◌
+parted P None b each c e = absurd (cc)
+parted P (Some x) None each c e = absurd (cc)
+parted P (Some x) (Some y) each c e =
+    let same : x ++ y ≡ c = cc in
+    subst P same (each x y refl refl)
+
+-- so where it is known what is behind the byte
+pub begun_by : (n : ℕ) (P : List ℕ → Type 0) (more : Bytes) → ((c : List ℕ) → more ≡ Some c → P (n ∷ c)) → (b : List ℕ) → byte n ⧺ more ≡ Some b → P b
+begun_by n P more each b e =
+    parted P (byte n) more (λ x y first second. subst (λ z. P (z ++ y)) (some_of (n ∷ []) x first) (each y second)) b e

@@ -4,7 +4,7 @@ use Rattle.wcv_syntax.specs.declared.canonical.CanonicalFunction.{CanonicalFunct
 use Rattle.wcv_syntax.specs.declared.canonical.CanonicalFunction.TheVariants as canon
 use Rattle.wcv_syntax.specs.declared.canonical.CanonicalOption.TheVariants as option
 use Rattle.wcv_syntax.specs.Model.{lift, lower, task_return, stream_read, stream_write, future_read, future_write, error_context_new, error_context_message, builtin}
-use Rattle.wcv_binary.specs.Reading.{◌>>=◌, byte_at, flag_at, zero_at, of_one, of_two, u32_at}
+use Rattle.wcv_bytes.specs.Reading.{◌>>=◌, byte_at, flag_at, zero_at, of_one, of_two, u32_at}
 use Rattle.wcv_binary.specs.Values.{result_at}
 use Rattle.wcv_binary.specs.CoreValues.{core_val_at}
 use Rattle.wcv_binary.specs.Canons.{option_at, options_at, plain_canon_at, waiting_canon_at, paired_canon_at, typed_canon_at, lift_at, lower_at, canon_at}

@@ -8,7 +8,7 @@ use Rattle.wcv_core.specs.declared.core_types.HeapType.TheVariants as heap
 use Rattle.wcv_core.specs.declared.core_types.RefType.{RefType}
 use Rattle.wcv_core.specs.declared.core_types.StorageType.TheVariants as storage
 use Rattle.wcv_core.specs.declared.core_types.ValType.TheVariants as val
-use Rattle.wcv_binary.specs.Reading.{byte_at, flag_at, under_byte, of_one, index_at}
+use Rattle.wcv_bytes.specs.Reading.{byte_at, flag_at, under_byte, of_one, index_at}
 use Rattle.wcv_binary.specs.CoreValues.{heap_bytes as heaps, named_heap_at, heap_at, full_ref_at, ref_type_at, core_val_at, storage_at, field_at}
 use Rattle.wcv_encode.specs.Bytes.{byte, flag, leb128, s33_bytes}
 use Rattle.wcv_encode.specs.CoreTypes.{abstract_byte, heap_bytes, ref_form, ref_bytes, val_bytes, storage_bytes, field_bytes}
@@ -78,7 +78,7 @@ full_named nullable abstract.Struct rest = refl
 full_named nullable abstract.Array rest = refl
 full_named nullable abstract.Exn rest = refl
 
-full_again : (nullable shared : Bool) (h : HeapType) → Reads (full_ref_at nullable) (heap_bytes shared h) (record { nullable = nullable; shared = shared; heap = h })
+pub full_again : (nullable shared : Bool) (h : HeapType) → Reads (full_ref_at nullable) (heap_bytes shared h) (record { nullable = nullable; shared = shared; heap = h })
 unfolding heap_bytes s33_bytes full_ref_at byte_at
 full_again nullable false (heap.Abstract a) = known (abstract_byte a ∷ []) (full_ref_at nullable) (unshared nullable (heap.Abstract a)) (full_named nullable a)
 full_again nullable true (heap.Abstract a) =

@@ -11,8 +11,8 @@ use Rattle.wcv_syntax.specs.declared.instance.ComponentExternalKind.TheVariants 
 use Rattle.wcv_syntax.specs.declared.instance.ComponentOuterAliasKind.TheVariants as outer
 use Rattle.wcv_syntax.specs.declared.name.ComponentExternName.{ComponentExternName}
 use Rattle.wcv_syntax.specs.Model.{Text, core_instantiate, core_bag, instantiate, bag}
-use Rattle.wcv_binary.specs.declared.fault.Fault.{Fault}
-use Rattle.wcv_binary.specs.Reading.{◌>>=◌, byte_at, flag_at, zero_at, expected_at, of_one, of_two, u32_at, vec_at, text_at}
+use Rattle.wcv_bytes.specs.declared.fault.Fault.{Fault}
+use Rattle.wcv_bytes.specs.Reading.{◌>>=◌, byte_at, flag_at, zero_at, expected_at, of_one, of_two, u32_at, vec_at, text_at}
 use Rattle.wcv_binary.specs.Sorts.{core_sort_at, module_sort_at, sort_at}
 use Rattle.wcv_binary.specs.Values.{val_at}
 use Rattle.wcv_binary.specs.Names.{plain, name_at, bounds_at, ref_at, optional_ref_at, import_at, item_at, export_at, listed_at, arg_at, instantiated_at, instance_at}

@@ -4,9 +4,9 @@ use Rattle.std.proofs.Math.Seq.{take-append_seam, drop-append_seam}
 use Rattle.std.proofs.lemmas.List.{length-append}
 use Rattle.std.proofs.lemmas.Bool.Decides.{nat_tests}
 use Rattle.std.specs.Str.{is_utf8}
-use Rattle.wcv_binary.specs.declared.fault.Fault.{Fault}
-use Rattle.wcv_binary.specs.Reading.{◌>>=◌, fault, flag_at, zero_at, u32_at, list_at, vec_at, utf8_in, text_at}
-use Rattle.wcv_binary.specs.declared.fault.Why.TheVariants.{Short}
+use Rattle.wcv_bytes.specs.declared.fault.Fault.{Fault}
+use Rattle.wcv_bytes.specs.Reading.{◌>>=◌, fault, flag_at, zero_at, u32_at, list_at, vec_at, utf8_in, text_at}
+use Rattle.wcv_bytes.specs.declared.fault.Why.TheVariants.{Short}
 use Rattle.wcv_encode.specs.Bytes.{Bytes, ◌⧺◌, byte, flag, u32_bytes, sized, text, each, vec}
 use Rattle.wcv_encode.specs.Laws.{Reads, IsReadAgain}
 use Rattle.wcv_encode.proofs.Again.{behind, made, known}

@@ -2,7 +2,7 @@
 use Rattle.std.proofs.Common.{◌≡◌, ℕ, zero, suc, ◌+◌, ◌-◌, ◌*◌, ◌/◌, ◌%◌, ◌^◌, ◌<◌, ◌≤◌, Bool, true, false, cond, nat_lt, Some, None, Ok, List, [], ◌∷◌, ◌++◌, refl, sym, ap, ◌∙◌, arith}
 use Rattle.std.proofs.Math.Nat.{pow-succ'}
 use Rattle.std.proofs.lemmas.Bool.Decides.{nat_tests}
-use Rattle.wcv_binary.specs.Reading.{leb_at, index_within, u32_at, u64_at, index_at}
+use Rattle.wcv_bytes.specs.Reading.{leb_at, index_within, u32_at, u64_at, index_at}
 use Rattle.wcv_encode.specs.Bytes.{leb128, u32_bytes, u64_bytes, s33_bytes}
 use Rattle.wcv_encode.specs.Laws.{Reads}
 
@@ -19,6 +19,9 @@ below n m e = grind (arith, nat_tests)
 
 pub above : (n m : ℕ) → nat_lt n m ≡ false → m ≤ n
 above n m e = grind (arith, nat_tests)
+
+pub not_below : (n m : ℕ) → m ≤ n → nat_lt n m ≡ false
+not_below n m h = grind (arith, nat_tests)
 
 pub leb_again : (k most n : ℕ) (rest : List ℕ) → n ≤ most → n < 128 * 128 ^ k → leb_at most (leb128 128 k n ++ rest) ≡ Ok (n, rest)
 unfolding leb128

@@ -7,8 +7,8 @@ use Rattle.wcv_syntax.specs.declared.component_type.ComponentDefinedType.TheVari
 use Rattle.wcv_syntax.specs.declared.component_type.ComponentValType.{ComponentValType}
 use Rattle.wcv_syntax.specs.declared.component_type.ComponentValType.TheVariants as value
 use Rattle.wcv_syntax.specs.Model.{record_of, variant_of, tuple_of, flags_of, enum_of, simple, Func_form}
-use Rattle.wcv_binary.specs.declared.fault.Fault.{Fault}
-use Rattle.wcv_binary.specs.Reading.{◌>>=◌, byte_at, flag_at, zero_at, under_byte, of_one, of_two, u32_at, index_at, vec_at, text_at}
+use Rattle.wcv_bytes.specs.declared.fault.Fault.{Fault}
+use Rattle.wcv_bytes.specs.Reading.{◌>>=◌, byte_at, flag_at, zero_at, under_byte, of_one, of_two, u32_at, index_at, vec_at, text_at}
 use Rattle.wcv_binary.specs.Values.{primitives, val_at, optional_val_at, result_at, param_at, case_at}
 use Rattle.wcv_binary.specs.Defined.{simple_at, compound_at, defined_at}
 use Rattle.wcv_binary.specs.Funcs.{func_at}

@@ -15,3 +15,16 @@ pub mod AgainValues
 pub mod AgainEntries
 pub mod AgainCore
 pub mod AgainCanons
+pub mod AgainEntities
+pub mod AgainCoreTypes
+pub mod AgainTypes
+pub mod AgainConstants
+pub mod AgainSections
+pub mod AgainKept
+pub mod AgainDeclarations
+pub mod AgainModuleParts
+pub mod AgainModuleSections
+pub mod AgainModules
+pub mod AgainItems
+pub mod AgainComponents
+pub mod AgainPlaces

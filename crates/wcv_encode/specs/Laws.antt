@@ -1,6 +1,6 @@
 -- What it is that bytes are read again.
 use Rattle.std.specs.Prelude.{◌≡◌, ℕ, List, ◌++◌, Result, Ok, Some}
-use Rattle.wcv_binary.specs.declared.fault.Fault.{Fault}
+use Rattle.wcv_bytes.specs.declared.fault.Fault.{Fault}
 use Rattle.wcv_encode.specs.Bytes.{Bytes}
 
 -- of what was made, whatever follows, the reader gives x and what follows

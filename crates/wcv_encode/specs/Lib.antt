@@ -6,4 +6,7 @@ pub mod Canons
 pub mod Modules
 pub mod Types
 pub mod Spelling
+pub mod Nesting
+pub mod Placed
+pub mod Kept
 pub mod Laws
