@@ -1,34 +1,34 @@
 // What core modules import and export.
-ghost use Rattle.std.specs.Prelude.{◌≡◌, ℕ, Option, codes};
-ghost use Rattle.serde_json.specs.Find.{get};
+ghost use Rattle.std.specs.Prelude.{◌≡◌, ℕ, Option, option_map, option_and_then};
 ghost use Rattle.wcv_listing.specs.CoreForms.{table_of, page_of, memory_of, global_of, entity_under, entity_of};
-ghost use Rattle.wcv_listing.specs.Fields.{both, natural, natural_in, optional};
+ghost use Rattle.wcv_listing.specs.Fields.{both, natural, optional};
 ghost use Rattle.wcv_listing.specs.Seen.{view};
 
-use crate::core_value::{marks_at, read_core_value, read_ref_type};
+use crate::core_value::{marks_of, read_core_value, read_ref_type};
+use crate::fields::{five_fields, three_fields};
 use crate::node::Node;
-use crate::value::{has_only_keys, index_of, member_at, natural_at, natural_of, sole_member};
+use crate::value::{index_of, natural_of, sole_member};
 use wcv_core::{GlobalType, MemoryType, TableType};
 use wcv_syntax::TypeRef;
 
 // The greatest number, where there is one, or `None` where what is there is no such number.
-fn read_maximum(value: Node<'_, '_>) -> Option<Option<u64>>
-    ensures { result ≡ optional natural (get (codes "max") (view value.entry)) }
+fn read_maximum(value: Option<Node<'_, '_>>) -> Option<Option<u64>>
+    ensures { result ≡ optional natural (option_map view value.entry) }
 {
-    match member_at(value, "max") {
+    match value {
         None => Some(None),
         Some(number) => natural_of(number).map(Some),
     }
 }
 
 // The least number and the greatest.
-fn read_limits(value: Node<'_, '_>) -> Option<(u64, Option<u64>)>
-    ensures { result ≡ both (λ (min : ℕ) (max : Option ℕ). (min, max)) (natural_in (codes "min") (view value.entry)) (optional natural (get (codes "max") (view value.entry))) }
+fn read_limits(min: Option<Node<'_, '_>>, max: Option<Node<'_, '_>>) -> Option<(u64, Option<u64>)>
+    ensures { result ≡ both (λ (min : ℕ) (max : Option ℕ). (min, max)) (option_and_then natural (option_map view min.entry)) (optional natural (option_map view max.entry)) }
 {
-    let Some(min) = natural_at(value, "min") else {
+    let Some(min) = min.and_then(natural_of) else {
         return None;
     };
-    let Some(max) = read_maximum(value) else {
+    let Some(max) = read_maximum(max) else {
         return None;
     };
     Some((min, max))
@@ -38,16 +38,18 @@ fn read_limits(value: Node<'_, '_>) -> Option<(u64, Option<u64>)>
 fn read_table(value: Node<'_, '_>) -> Option<TableType>
     ensures { result ≡ table_of (view value.entry) }
 {
-    if !has_only_keys(value, &["elem", "min", "max", "64", "shared"]) {
-        return None;
-    }
-    let Some(element_type) = member_at(value, "elem").and_then(read_ref_type) else {
-        return None;
-    };
-    let Some((initial, maximum)) = read_limits(value) else {
+    let Some((elem, min, max, table64, shared)) = five_fields(
+        value, "elem", "min", "max", "64", "shared",
+    ) else {
         return None;
     };
-    let Some((table64, shared)) = marks_at(value, "64", "shared") else {
+    let Some(element_type) = elem.and_then(read_ref_type) else {
+        return None;
+    };
+    let Some((initial, maximum)) = read_limits(min, max) else {
+        return None;
+    };
+    let Some((table64, shared)) = marks_of(table64, shared) else {
         return None;
     };
     Some(TableType {
@@ -60,10 +62,10 @@ fn read_table(value: Node<'_, '_>) -> Option<TableType>
 }
 
 // The exponent of the size of a page, which is 16 where nothing is said.
-fn read_page(value: Node<'_, '_>) -> Option<u32>
-    ensures { result ≡ page_of (get (codes "page") (view value.entry)) }
+fn read_page(value: Option<Node<'_, '_>>) -> Option<u32>
+    ensures { result ≡ page_of (option_map view value.entry) }
 {
-    match member_at(value, "page") {
+    match value {
         None => Some(16),
         Some(number) => index_of(number),
     }
@@ -73,16 +75,18 @@ fn read_page(value: Node<'_, '_>) -> Option<u32>
 fn read_memory(value: Node<'_, '_>) -> Option<MemoryType>
     ensures { result ≡ memory_of (view value.entry) }
 {
-    if !has_only_keys(value, &["min", "max", "64", "shared", "page"]) {
-        return None;
-    }
-    let Some((initial, maximum)) = read_limits(value) else {
-        return None;
-    };
-    let Some((memory64, shared)) = marks_at(value, "64", "shared") else {
+    let Some((min, max, memory64, shared, page)) = five_fields(
+        value, "min", "max", "64", "shared", "page",
+    ) else {
         return None;
     };
-    let Some(page_size_log2) = read_page(value) else {
+    let Some((initial, maximum)) = read_limits(min, max) else {
+        return None;
+    };
+    let Some((memory64, shared)) = marks_of(memory64, shared) else {
+        return None;
+    };
+    let Some(page_size_log2) = read_page(page) else {
         return None;
     };
     Some(MemoryType {
@@ -98,13 +102,13 @@ fn read_memory(value: Node<'_, '_>) -> Option<MemoryType>
 fn read_global(value: Node<'_, '_>) -> Option<GlobalType>
     ensures { result ≡ global_of (view value.entry) }
 {
-    if !has_only_keys(value, &["type", "mut", "shared"]) {
-        return None;
-    }
-    let Some(content_type) = member_at(value, "type").and_then(read_core_value) else {
+    let Some((content, mutable, shared)) = three_fields(value, "type", "mut", "shared") else {
         return None;
     };
-    let Some((mutable, shared)) = marks_at(value, "mut", "shared") else {
+    let Some(content_type) = content.and_then(read_core_value) else {
+        return None;
+    };
+    let Some((mutable, shared)) = marks_of(mutable, shared) else {
         return None;
     };
     Some(GlobalType {

@@ -1,16 +1,16 @@
 // The body of `core-instance`.
-ghost use Rattle.std.specs.Prelude.{◌≡◌, IfOk, option_map, option_and_then, codes};
-ghost use Rattle.serde_json.specs.Find.{get};
-ghost use Rattle.wcv_listing.specs.Fields.{both, index_in, array_of};
+ghost use Rattle.std.specs.Prelude.{◌≡◌, IfOk, option_map, option_and_then};
+ghost use Rattle.wcv_listing.specs.Fields.{both, index, array_of};
 ghost use Rattle.wcv_listing.specs.CoreForms.{core_arg_of, core_listed_of, core_instance_of};
 ghost use Rattle.wcv_listing.specs.Seen.{view};
 ghost use Rattle.wcv_syntax.specs.Model.{core_instantiate};
 ghost use Rattle.wcv_syntax.specs.View.{core_instance_view};
 
 use crate::alias::read_core_sort;
+use crate::fields::{one_field, two_fields};
 use crate::list::{FromValue, read_list};
 use crate::node::Node;
-use crate::value::{has_only_keys, index_at, index_of, member_at, pair_of, text_of, triple_of};
+use crate::value::{index_of, pair_of, text_of, triple_of};
 use std::alloc::Global;
 use wcv_core::{OutOfMemory, Text};
 use wcv_syntax::{Export, Instance, InstantiationArg};
@@ -63,14 +63,18 @@ impl FromValue for Export {
     }
 }
 
-// A core module with its arguments.
-fn read_instantiation(alloc: Global, value: Node<'_, '_>) -> Result<Option<Instance>, OutOfMemory>
-    ensures { IfOk result (λ made. option_map core_instance_view made ≡ both core_instantiate (index_in (codes "module") (view value.entry)) (option_and_then (array_of core_arg_of) (get (codes "args") (view value.entry)))) }
+// A core module that is instantiated with arguments.
+fn read_instantiation(
+    alloc: Global,
+    core_module: Option<Node<'_, '_>>,
+    args: Option<Node<'_, '_>>,
+) -> Result<Option<Instance>, OutOfMemory>
+    ensures { IfOk result (λ made. option_map core_instance_view made ≡ both core_instantiate (option_and_then index (option_map view core_module.entry)) (option_and_then (array_of core_arg_of) (option_map view args.entry))) }
 {
-    let Some(module_index) = index_at(value, "module") else {
+    let Some(module_index) = core_module.and_then(index_of) else {
         return Ok(None);
     };
-    let Some(args) = member_at(value, "args") else {
+    let Some(args) = args else {
         return Ok(None);
     };
     let Some(args) = read_list(alloc, args)? else {
@@ -86,13 +90,13 @@ pub fn read_core_instance(
 ) -> Result<Option<Instance>, OutOfMemory>
     ensures { IfOk result (λ made. option_map core_instance_view made ≡ core_instance_of (view value.entry)) }
 {
-    if has_only_keys(value, &["module", "args"]) {
-        read_instantiation(alloc, value)
-    } else if has_only_keys(value, &["exports"]) {
-        let Some(body) = member_at(value, "exports") else {
+    if let Some((module, args)) = two_fields(value, "module", "args") {
+        read_instantiation(alloc, module, args)
+    } else if let Some(exports) = one_field(value, "exports") {
+        let Some(exports) = exports else {
             return Ok(None);
         };
-        Ok(read_list(alloc, body)?.map(Instance::FromExports))
+        Ok(read_list(alloc, exports)?.map(Instance::FromExports))
     } else {
         Ok(None)
     }

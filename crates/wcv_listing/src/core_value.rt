@@ -5,29 +5,37 @@ ghost use Rattle.wcv_listing.specs.Core.{number_names, heap_names, named_heap, h
 ghost use Rattle.wcv_listing.specs.Fields.{both, named, mark};
 ghost use Rattle.wcv_listing.specs.Seen.{view};
 
+use crate::fields::{three_fields, two_fields};
 use crate::list::named_in;
 use crate::node::Node;
-use crate::value::{bool_of, has_only_keys, index_of, member_at, text_of};
+use crate::value::{bool_of, index_of, member_at, text_of};
 use wcv_core::{AbstractHeap, HeapType, RefType, ValType};
 
-/// The mark under a key, which is false where it is absent, or `None` where what is there is no Boolean.
-pub fn mark_at(value: Node<'_, '_>, key: &str) -> Option<bool>
-    ensures { result ≡ mark (get key.now (view value.entry)) }
+/// A mark, which is false where it is absent, or `None` where what is there is no Boolean.
+pub fn mark_of(value: Option<Node<'_, '_>>) -> Option<bool>
+    ensures { result ≡ mark (option_map view value.entry) }
 {
-    match member_at(value, key) {
+    match value {
         None => Some(false),
         Some(flag) => bool_of(flag),
     }
 }
 
-/// The marks under two keys.
-pub fn marks_at(value: Node<'_, '_>, first: &str, second: &str) -> Option<(bool, bool)>
-    ensures { result ≡ both (λ (a b : Bool). (a, b)) (mark (get first.now (view value.entry))) (mark (get second.now (view value.entry))) }
+/// The mark under a key, which is false where it is absent, or `None` where what is there is no Boolean.
+pub fn mark_at(value: Node<'_, '_>, key: &str) -> Option<bool>
+    ensures { result ≡ mark (get key.now (view value.entry)) }
 {
-    let Some(a) = mark_at(value, first) else {
+    mark_of(member_at(value, key))
+}
+
+/// Two marks, or `None` where one of them is no Boolean.
+pub fn marks_of(first: Option<Node<'_, '_>>, second: Option<Node<'_, '_>>) -> Option<(bool, bool)>
+    ensures { result ≡ both (λ (a b : Bool). (a, b)) (mark (option_map view first.entry)) (mark (option_map view second.entry)) }
+{
+    let Some(a) = mark_of(first) else {
         return None;
     };
-    let Some(b) = mark_at(value, second) else {
+    let Some(b) = mark_of(second) else {
         return None;
     };
     Some((a, b))
@@ -94,11 +102,11 @@ fn read_heap(value: Node<'_, '_>) -> Option<HeapType>
 pub fn read_ref_type(value: Node<'_, '_>) -> Option<RefType>
     ensures { result ≡ ref_type_of (view value.entry) }
 {
-    if has_only_keys(value, &["ref", "null"]) {
-        let Some(heap) = member_at(value, "ref").and_then(read_heap) else {
+    if let Some((heap, null)) = two_fields(value, "ref", "null") {
+        let Some(heap) = heap.and_then(read_heap) else {
             return None;
         };
-        let Some(nullable) = mark_at(value, "null") else {
+        let Some(nullable) = mark_of(null) else {
             return None;
         };
         Some(RefType {
@@ -106,11 +114,11 @@ pub fn read_ref_type(value: Node<'_, '_>) -> Option<RefType>
             shared: false,
             heap,
         })
-    } else if has_only_keys(value, &["ref", "null", "shared"]) {
-        let Some(heap) = member_at(value, "ref").and_then(read_named_heap) else {
+    } else if let Some((heap, null, shared)) = three_fields(value, "ref", "null", "shared") {
+        let Some(heap) = heap.and_then(read_named_heap) else {
             return None;
         };
-        let Some((nullable, shared)) = marks_at(value, "null", "shared") else {
+        let Some((nullable, shared)) = marks_of(null, shared) else {
             return None;
         };
         Some(RefType {

@@ -7,12 +7,11 @@ ghost use Rattle.wcv_listing.specs.Seen.{view};
 ghost use Rattle.wcv_listing.specs.Values.{value_of};
 ghost use Rattle.wcv_syntax.specs.View.{defined_view};
 
+use crate::fields::two_fields;
 use crate::list::{FromValue, read_list};
 use crate::node::Node;
-use crate::value::{
-    has_only_keys, index_of, is_null, one_or_two_of, pair_of, sole_member, text_of,
-};
-use crate::value_type::{optional_type, primitive_of, read_optional, read_params, read_value_type};
+use crate::value::{index_of, is_null, one_or_two_of, pair_of, sole_member, text_of};
+use crate::value_type::{optional_type, primitive_of, read_params, read_value_type};
 use std::alloc::Global;
 use wcv_core::{OutOfMemory, Text};
 use wcv_syntax::{ComponentDefinedType, ComponentValType, VariantCase};
@@ -88,13 +87,13 @@ fn read_fixed_list(value: Node<'_, '_>) -> Option<ComponentDefinedType>
 fn read_result(value: Node<'_, '_>) -> Option<ComponentDefinedType>
     ensures { option_map defined_view result ≡ result_of (view value.entry) }
 {
-    if !has_only_keys(value, &["ok", "err"]) {
-        return None;
-    }
-    let Some(ok) = read_optional(value, "ok") else {
+    let Some((ok, err)) = two_fields(value, "ok", "err") else {
         return None;
     };
-    let Some(err) = read_optional(value, "err") else {
+    let Some(ok) = optional_type(ok) else {
+        return None;
+    };
+    let Some(err) = optional_type(err) else {
         return None;
     };
     Some(ComponentDefinedType::Result { ok, err })

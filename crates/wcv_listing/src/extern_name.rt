@@ -1,21 +1,22 @@
 // Names of imports and exports.
 ghost use Rattle.std.specs.Prelude.{◌≡◌, IfOk, option_map};
-ghost use Rattle.serde_json.specs.Find.{as_str, get};
+ghost use Rattle.serde_json.specs.Find.{as_str};
 ghost use Rattle.wcv_listing.specs.Fields.{optional};
 ghost use Rattle.wcv_listing.specs.Forms.{name_object_of, extern_name_of};
 ghost use Rattle.wcv_listing.specs.Seen.{view};
 
+use crate::fields::four_fields;
 use crate::node::Node;
-use crate::value::{has_only_keys, member_at, text_at, text_of};
+use crate::value::text_of;
 use std::alloc::Global;
 use wcv_core::{OutOfMemory, Text};
 use wcv_syntax::ComponentExternName;
 
-// A text under a key that may be absent, or `None` where what is there is none.
-fn optional_text<'a>(value: Node<'_, 'a>, key: &str) -> Option<Option<&'a str>>
-    ensures { option_map (option_map (λ text. text.now)) result ≡ optional as_str (get key.now (view value.entry)) }
+// A text that may be absent, or `None` where what is there is none.
+fn optional_text<'a>(value: Option<Node<'_, 'a>>) -> Option<Option<&'a str>>
+    ensures { option_map (option_map (λ text. text.now)) result ≡ optional as_str (option_map view value.entry) }
 {
-    match member_at(value, key) {
+    match value {
         None => Some(None),
         Some(text) => text_of(text).map(Some),
     }
@@ -65,19 +66,28 @@ fn read_name_object(
 ) -> Result<Option<ComponentExternName>, OutOfMemory>
     ensures { IfOk result (λ name. name ≡ name_object_of (view value.entry)) }
 {
-    if !has_only_keys(value, &["name", "implements", "suffix", "id"]) {
-        return Ok(None);
-    }
-    let Some(name) = text_at(value, "name") else {
-        return Ok(None);
-    };
-    let Some(implements) = optional_text(value, "implements") else {
-        return Ok(None);
-    };
-    let Some(suffix) = optional_text(value, "suffix") else {
+    let Some((name, implements, suffix, id)) = four_fields(
+        value,
+        "name",
+        "implements",
+        "suffix",
+        "id",
+    ) else {
         return Ok(None);
     };
-    let Some(id) = optional_text(value, "id") else {
+    let Some(name) = name else {
+        return Ok(None);
+    };
+    let Some(name) = text_of(name) else {
+        return Ok(None);
+    };
+    let Some(implements) = optional_text(implements) else {
+        return Ok(None);
+    };
+    let Some(suffix) = optional_text(suffix) else {
+        return Ok(None);
+    };
+    let Some(id) = optional_text(id) else {
         return Ok(None);
     };
     Ok(Some(own_name(alloc, name, implements, suffix, id)?))

@@ -1,17 +1,17 @@
 // The body of `instance`.
-ghost use Rattle.std.specs.Prelude.{◌≡◌, IfOk, option_map, option_and_then, codes};
-ghost use Rattle.serde_json.specs.Find.{get};
-ghost use Rattle.wcv_listing.specs.Fields.{both, index_in, array_of};
+ghost use Rattle.std.specs.Prelude.{◌≡◌, IfOk, option_map, option_and_then};
+ghost use Rattle.wcv_listing.specs.Fields.{both, index, array_of};
 ghost use Rattle.wcv_listing.specs.Forms.{export_of, arg_of, instance_of};
 ghost use Rattle.wcv_listing.specs.Seen.{view};
 ghost use Rattle.wcv_syntax.specs.Model.{instantiate};
 ghost use Rattle.wcv_syntax.specs.View.{instance_view};
 
 use crate::alias::read_sort;
+use crate::fields::{one_field, two_fields};
 use crate::forms::read_export;
 use crate::list::{FromValue, read_list};
 use crate::node::Node;
-use crate::value::{has_only_keys, index_at, index_of, member_at, text_of, triple_of};
+use crate::value::{index_of, text_of, triple_of};
 use std::alloc::Global;
 use wcv_core::{OutOfMemory, Text};
 use wcv_syntax::{ComponentExport, ComponentInstance, ComponentInstantiationArg};
@@ -57,17 +57,18 @@ impl FromValue for ComponentExport {
     }
 }
 
-// A component with its arguments.
+// A component that is instantiated with arguments.
 fn read_instantiation(
     alloc: Global,
-    value: Node<'_, '_>,
+    component: Option<Node<'_, '_>>,
+    args: Option<Node<'_, '_>>,
 ) -> Result<Option<ComponentInstance>, OutOfMemory>
-    ensures { IfOk result (λ made. option_map instance_view made ≡ both instantiate (index_in (codes "component") (view value.entry)) (option_and_then (array_of arg_of) (get (codes "args") (view value.entry)))) }
+    ensures { IfOk result (λ made. option_map instance_view made ≡ both instantiate (option_and_then index (option_map view component.entry)) (option_and_then (array_of arg_of) (option_map view args.entry))) }
 {
-    let Some(component_index) = index_at(value, "component") else {
+    let Some(component_index) = component.and_then(index_of) else {
         return Ok(None);
     };
-    let Some(args) = member_at(value, "args") else {
+    let Some(args) = args else {
         return Ok(None);
     };
     let Some(args) = read_list(alloc, args)? else {
@@ -86,13 +87,13 @@ pub fn read_instance(
 ) -> Result<Option<ComponentInstance>, OutOfMemory>
     ensures { IfOk result (λ made. option_map instance_view made ≡ instance_of (view value.entry)) }
 {
-    if has_only_keys(value, &["component", "args"]) {
-        read_instantiation(alloc, value)
-    } else if has_only_keys(value, &["exports"]) {
-        let Some(body) = member_at(value, "exports") else {
+    if let Some((component, args)) = two_fields(value, "component", "args") {
+        read_instantiation(alloc, component, args)
+    } else if let Some(exports) = one_field(value, "exports") {
+        let Some(exports) = exports else {
             return Ok(None);
         };
-        Ok(read_list(alloc, body)?.map(ComponentInstance::FromExports))
+        Ok(read_list(alloc, exports)?.map(ComponentInstance::FromExports))
     } else {
         Ok(None)
     }

@@ -5,9 +5,10 @@ ghost use Rattle.wcv_listing.specs.Forms.{start_of};
 ghost use Rattle.wcv_listing.specs.Seen.{view};
 ghost use Rattle.wcv_syntax.specs.View.{section_view};
 
+use crate::fields::three_fields;
 use crate::list::{FromValue, read_list};
 use crate::node::Node;
-use crate::value::{has_only_keys, index_at, index_of, member_at};
+use crate::value::index_of;
 use std::alloc::Global;
 use wcv_core::OutOfMemory;
 use wcv_syntax::Section;
@@ -28,16 +29,16 @@ impl FromValue for u32 {
 pub fn read_start(alloc: Global, value: Node<'_, '_>) -> Result<Option<Section>, OutOfMemory>
     ensures { IfOk result (λ section. option_map section_view section ≡ start_of (view value.entry)) }
 {
-    if !has_only_keys(value, &["func", "args", "results"]) {
-        return Ok(None);
-    }
-    let Some(func_index) = index_at(value, "func") else {
+    let Some((func, args, results)) = three_fields(value, "func", "args", "results") else {
         return Ok(None);
     };
-    let Some(results) = index_at(value, "results") else {
+    let Some(func_index) = func.and_then(index_of) else {
         return Ok(None);
     };
-    let Some(args) = member_at(value, "args") else {
+    let Some(results) = results.and_then(index_of) else {
+        return Ok(None);
+    };
+    let Some(args) = args else {
         return Ok(None);
     };
     let Some(args) = read_list(alloc, args)? else {

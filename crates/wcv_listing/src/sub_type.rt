@@ -1,6 +1,5 @@
 // Core types in a group.
-ghost use Rattle.std.specs.Prelude.{◌≡◌, Bool, IfOk, Option, codes, map, option_map};
-ghost use Rattle.serde_json.specs.Find.{get};
+ghost use Rattle.std.specs.Prelude.{◌≡◌, Bool, IfOk, Option, map, option_map};
 ghost use Rattle.wcv_core.specs.declared.core_types.SuperType.{SuperType};
 ghost use Rattle.wcv_core.specs.CoreForm.{SubForm, func_form, composite_form, sub_form, group_form};
 ghost use Rattle.wcv_listing.specs.Core.{core_value_of};
@@ -8,10 +7,11 @@ ghost use Rattle.wcv_listing.specs.CoreForms.{storage_of, field_of, core_func_of
 ghost use Rattle.wcv_listing.specs.Fields.{both, first_of, mark, optional};
 ghost use Rattle.wcv_listing.specs.Seen.{view};
 
-use crate::core_value::{mark_at, read_core_value};
+use crate::core_value::{mark_of, read_core_value};
+use crate::fields::{four_fields, two_fields};
 use crate::list::{FromValue, read_list};
 use crate::node::Node;
-use crate::value::{bool_of, first_key, has_only_keys, index_of, member_at, pair_of, text_of};
+use crate::value::{bool_of, first_key, index_of, pair_of, text_of};
 use std::alloc::Global;
 use wcv_core::{
     ArrayType, CompositeInnerType, FieldType, FuncType, OutOfMemory, RecGroup, StorageType,
@@ -33,13 +33,13 @@ fn read_storage(value: Node<'_, '_>) -> Option<StorageType>
 fn read_field(value: Node<'_, '_>) -> Option<FieldType>
     ensures { result ≡ field_of (view value.entry) }
 {
-    if !has_only_keys(value, &["type", "mut"]) {
-        return None;
-    }
-    let Some(storage) = read_storage(member_at(value, "type")?) else {
+    let Some((storage, mutable)) = two_fields(value, "type", "mut") else {
         return None;
     };
-    let Some(mutable) = mark_at(value, "mut") else {
+    let Some(storage) = storage.and_then(read_storage) else {
+        return None;
+    };
+    let Some(mutable) = mark_of(mutable) else {
         return None;
     };
     Some(FieldType { storage, mutable })
@@ -115,20 +115,20 @@ fn form_name(value: Node<'_, '_>) -> Option<&'static str>
 }
 
 // Whether the type is final, which it is where nothing says so, or `None` where what is there is no Boolean.
-fn read_final(value: Node<'_, '_>) -> Option<bool>
-    ensures { result ≡ final_mark (get (codes "final") (view value.entry)) }
+fn read_final(value: Option<Node<'_, '_>>) -> Option<bool>
+    ensures { result ≡ final_mark (option_map view value.entry) }
 {
-    match member_at(value, "final") {
+    match value {
         None => Some(true),
         Some(flag) => bool_of(flag),
     }
 }
 
 // The supertype, where there is one, or `None` where what is there is no index.
-fn read_super(value: Node<'_, '_>) -> Option<Option<SuperType>>
-    ensures { result ≡ optional super_of (get (codes "super") (view value.entry)) }
+fn read_super(value: Option<Node<'_, '_>>) -> Option<Option<SuperType>>
+    ensures { result ≡ optional super_of (option_map view value.entry) }
 {
-    match member_at(value, "super") {
+    match value {
         None => Some(None),
         Some(index) => {
             let index = index_of(index)?;
@@ -138,16 +138,20 @@ fn read_super(value: Node<'_, '_>) -> Option<Option<SuperType>>
 }
 
 // Whether the type is final, its supertype, and whether it is shared, or `None` where one of them is none.
-fn read_marks(value: Node<'_, '_>) -> Option<(bool, Option<SuperType>, bool)>
-    ensures { option_map {U = Bool × (Option SuperType × Bool)} (λ p. (p.0, (p.1, p.2))) result ≡ both (λ (final : Bool) (rest : Option SuperType × Bool). (final, rest)) (final_mark (get (codes "final") (view value.entry))) (both (λ above shared. (above, shared)) (optional super_of (get (codes "super") (view value.entry))) (mark (get (codes "shared") (view value.entry)))) }
+fn read_marks(
+    is_final: Option<Node<'_, '_>>,
+    supertype: Option<Node<'_, '_>>,
+    shared: Option<Node<'_, '_>>,
+) -> Option<(bool, Option<SuperType>, bool)>
+    ensures { option_map {U = Bool × (Option SuperType × Bool)} (λ p. (p.0, (p.1, p.2))) result ≡ both (λ (final : Bool) (rest : Option SuperType × Bool). (final, rest)) (final_mark (option_map view is_final.entry)) (both (λ above shared. (above, shared)) (optional super_of (option_map view supertype.entry)) (mark (option_map view shared.entry))) }
 {
-    let Some(is_final) = read_final(value) else {
+    let Some(is_final) = read_final(is_final) else {
         return None;
     };
-    let Some(supertype) = read_super(value) else {
+    let Some(supertype) = read_super(supertype) else {
         return None;
     };
-    let Some(shared) = mark_at(value, "shared") else {
+    let Some(shared) = mark_of(shared) else {
         return None;
     };
     Some((is_final, supertype, shared))
@@ -161,13 +165,15 @@ fn read_under(
 ) -> Result<Option<SubType>, OutOfMemory>
     ensures { IfOk result (λ ty. option_map sub_form ty ≡ sub_under name.now (view value.entry)) }
 {
-    if !has_only_keys(value, &["final", "super", "shared", name]) {
-        return Ok(None);
-    }
-    let Some((is_final, supertype, shared)) = read_marks(value) else {
+    let Some((is_final, supertype, shared, body)) = four_fields(
+        value, "final", "super", "shared", name,
+    ) else {
         return Ok(None);
     };
-    let Some(body) = member_at(value, name) else {
+    let Some((is_final, supertype, shared)) = read_marks(is_final, supertype, shared) else {
+        return Ok(None);
+    };
+    let Some(body) = body else {
         return Ok(None);
     };
     let Some(inner) = read_composite(alloc, name, body)? else {

@@ -12,10 +12,11 @@ use crate::alias::read_alias;
 use crate::core_form::read_core_type;
 use crate::core_value::read_core_value;
 use crate::defined::read_defined;
+use crate::fields::two_fields;
 use crate::forms::read_import;
 use crate::func::read_func;
 use crate::node::Node;
-use crate::value::{has_only_keys, index_of, list_of, member_at, room_of, sole_member};
+use crate::value::{index_of, list_of, room_of, sole_member};
 use std::alloc::Global;
 use wcv_core::OutOfMemory;
 use wcv_syntax::{
@@ -264,13 +265,13 @@ fn read_plain_type(
 fn read_resource(value: Node<'_, '_>) -> Option<ComponentType>
     ensures { option_map type_view result ≡ resource_of (view value.entry) }
 {
-    if !has_only_keys(value, &["rep", "dtor"]) {
-        return None;
-    }
-    let Some(rep) = read_core_value(member_at(value, "rep")?) else {
+    let Some((rep, dtor)) = two_fields(value, "rep", "dtor") else {
         return None;
     };
-    let dtor = match member_at(value, "dtor") {
+    let Some(rep) = rep.and_then(read_core_value) else {
+        return None;
+    };
+    let dtor = match dtor {
         None => None,
         Some(index) => Some(index_of(index)?),
     };
