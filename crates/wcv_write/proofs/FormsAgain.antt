@@ -146,7 +146,7 @@ alias_again (alias.Outer kind steps k) h = let low : nat_lt steps (2 ^ 32) ≡ t
 
 -- ## Lists
 
-both_cons : {X : Type 0} (x : X) (xs : List X) (first : Option X) (rest : Option (List X)) → first ≡ Some x → rest ≡ Some xs → both (λ y ys. y ∷ ys) first rest ≡ Some (x ∷ xs)
+pub both_cons : {X : Type 0} (x : X) (xs : List X) (first : Option X) (rest : Option (List X)) → first ≡ Some x → rest ≡ Some xs → both (λ y ys. y ∷ ys) first rest ≡ Some (x ∷ xs)
 both_cons x xs first rest p q = rw (p, q) refl
 
 pub list_again : {X : Type 0} (read : Data → Option X) (write : X → Data) (says : X → Type 0) → ((x : X) → says x → read (write x) ≡ Some x) → (xs : List X) → SaysAll says xs → array_of read (list_data write xs) ≡ Some xs

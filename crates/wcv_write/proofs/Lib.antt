@@ -1,4 +1,9 @@
+pub mod CanonsAgain
+pub mod CoreAgain
+pub mod DeclaredAgain
 pub mod FormsAgain
+pub mod ItemsAgain
 pub mod Lists
 pub mod ReadAgain
+pub mod TypesAgain
 pub mod Views
