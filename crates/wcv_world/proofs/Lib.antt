@@ -1,0 +1,9 @@
+pub mod ToTypes
+pub mod Features
+pub mod Fitting
+pub mod Outcomes
+pub mod Turns
+pub mod RenamedValues
+pub mod RenamedMade
+pub mod RenamedGrowth
+pub mod RenamedRuns
