@@ -1,3 +1,4 @@
 pub mod Closing
 pub mod Standing
 pub mod Opened
+pub mod MadeOf

@@ -9,6 +9,8 @@ mod base;
 #[cfg(test)]
 mod core_types;
 #[cfg(test)]
+mod counted;
+#[cfg(test)]
 mod depth;
 #[cfg(test)]
 mod driving;
@@ -30,6 +32,8 @@ mod modules;
 mod names;
 #[cfg(test)]
 mod printed;
+#[cfg(test)]
+mod shared;
 #[cfg(test)]
 mod sort_calls;
 #[cfg(test)]
