@@ -1,6 +1,7 @@
 // What a run answers.
 use crate::question::Question;
 use crate::second::other_as_binary;
+use crate::varied::answer_varied;
 use std::alloc::{AllocError, Global};
 use wcv_main::{MemorySink, MemorySource, Words, run};
 
@@ -48,7 +49,11 @@ pub fn answer_with(
 }
 
 /// What comes of these bytes with the row's own words.
-fn answer_on(alloc: Global, question: &Question<'_>, bytes: Vec<u8>) -> Result<String, AllocError> {
+pub fn answer_on(
+    alloc: Global,
+    question: &Question<'_>,
+    bytes: Vec<u8>,
+) -> Result<String, AllocError> {
     answer_with(alloc, question, question.words(), bytes)
 }
 
@@ -70,12 +75,15 @@ fn answer_on_beginnings(
     Ok(answer)
 }
 
-/// The status and the text that come of the listing, or of the binary where there is one, or of the proper
-/// beginnings where these are asked for. A listing is asked a second time as a binary of the same items: where that
+/// The status and the text that come of the listing, or of the binary where there is one, varied where that is
+/// asked for, or of the proper beginnings where these are. A listing is asked a second time as a binary of the same items: where that
 /// is answered otherwise, this is what came.
 pub fn answer(alloc: Global, question: &mut Question<'_>) -> Result<String, AllocError> {
+    if let Some(parts) = question.varied() {
+        return answer_varied(alloc, question, parts);
+    }
     if question.is_binary() {
-        let bytes = question.take_binary(alloc);
+        let bytes = question.take_binary(alloc)?;
         return answer_on(alloc, question, bytes);
     }
     let text = question.take_listing(alloc);

@@ -8,7 +8,9 @@ mod due;
 mod question;
 mod repeats;
 mod second;
+mod sections;
 mod tally;
+mod varied;
 
 use crate::blocks::run_blocks;
 use crate::tally::Tally;

@@ -1,12 +1,13 @@
 // What a row asks.
+use crate::sections::{Spelling, spelled};
 use std::alloc::{AllocError, Global};
 use std::mem::replace;
 
 /// How a listing begins.
 const HEAD: &str = "{\"version\":1,\"items\":[";
 
-/// The words of a run, the listing, the bytes of a binary, whether beginnings are asked for, and which reads and
-/// writes fail.
+/// The words of a run, the listing, the bytes of a binary or the parts of one, whether beginnings are asked for or
+/// all that is varied, and which reads and writes fail.
 #[derive(Drop)]
 pub struct Question<'a> {
     words: &'a str,
@@ -15,7 +16,9 @@ pub struct Question<'a> {
     is_whole: bool,
     bytes: Vec<u8>,
     is_binary: bool,
+    parts: Vec<&'a str>,
     is_cut: bool,
+    is_varied: bool,
     features: &'a str,
     end: &'a str,
     items: u64,
@@ -34,7 +37,9 @@ impl<'a> Question<'a> {
             is_whole: false,
             bytes: Vec::new(alloc),
             is_binary: false,
+            parts: Vec::new(alloc),
             is_cut: false,
+            is_varied: false,
             features: "",
             end: "99",
             items: 0,
@@ -58,8 +63,10 @@ impl<'a> Question<'a> {
             "reads" => self.reads = rest,
             "writes" => self.writes = rest,
             "beginnings" => self.is_cut = true,
+            "varied" => self.is_varied = true,
             "listing" => return self.push_text(rest),
             "bytes" => return self.push_bytes(rest),
+            "sections" => return self.push_sections(rest),
             _ => return self.push_item(word, rest),
         }
         Ok(())
@@ -81,6 +88,15 @@ impl<'a> Question<'a> {
             if let Ok(byte) = u8::from_str_radix(word, 16) {
                 self.bytes.push(byte)?;
             }
+        }
+        Ok(())
+    }
+
+    /// More sections of a binary, by their parts.
+    fn push_sections(&mut self, line: &'a str) -> Result<(), AllocError> {
+        self.is_binary = true;
+        for part in line.split(' ') {
+            self.parts.push(part)?;
         }
         Ok(())
     }
@@ -142,15 +158,23 @@ impl<'a> Question<'a> {
         self.writes
     }
 
-    /// The offset at which a refusal is due: that which stands behind ` at `, or else that of the last item.
+    /// The offset at which a refusal is due: that which stands behind ` at `, or else that of the last item. `!` is
+    /// that of the byte before which it stands among the parts of a binary.
     pub fn offset(&self, alloc: Global, due: &str) -> Result<String, AllocError> {
         let (first, _) = due.split_once('\n').unwrap_or((due, ""));
         let named = first.split_once(" at ").map(|(_, at)| at);
         match named.or(self.at) {
             Some("end") => String::from_str(alloc, self.end),
+            Some("!") => self.marked(alloc),
             Some(at) => String::from_str(alloc, at),
             None => self.items.saturating_sub(1).to_string(alloc),
         }
+    }
+
+    /// The offset of the byte that is marked among the parts of a binary.
+    fn marked(&self, alloc: Global) -> Result<String, AllocError> {
+        let (_, at) = spelled(alloc, &self.parts, Spelling::Shortest)?;
+        at.to_string(alloc)
     }
 
     /// Whether each proper beginning of the listing is asked for, in place of the listing.
@@ -163,9 +187,21 @@ impl<'a> Question<'a> {
         self.is_binary
     }
 
+    /// The parts of a binary that are to be varied, if they are.
+    pub fn varied(&self) -> Option<&[&'a str]> {
+        if self.is_varied {
+            return Some(&self.parts);
+        }
+        None
+    }
+
     /// The bytes of the binary, which it has no more then.
-    pub fn take_binary(&mut self, alloc: Global) -> Vec<u8> {
-        replace(&mut self.bytes, Vec::new(alloc))
+    pub fn take_binary(&mut self, alloc: Global) -> Result<Vec<u8>, AllocError> {
+        if self.parts.is_empty() {
+            return Ok(replace(&mut self.bytes, Vec::new(alloc)));
+        }
+        let (bytes, _) = spelled(alloc, &self.parts, Spelling::Shortest)?;
+        Ok(bytes)
     }
 
     /// The bytes of the listing, which it has no more then.
