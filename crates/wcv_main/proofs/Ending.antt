@@ -5,10 +5,10 @@ use Rattle.std.specs.Prelude.{if◌then◌else◌}
 use Rattle.std.specs.Io.KnownBytes.{Appends}
 use Rattle.std.proofs.lemmas.Bool.Decides.{nat_tests}
 use Rattle.wcv_listing.specs.Listing.{Outcome, not_json, bad_shape, listed, outcome_of}
-use Rattle.wcv_binary.specs.declared.fault.BinaryFault.{BinaryFault}
-use Rattle.wcv_binary.specs.declared.class.Class.{Class}
-use Rattle.wcv_binary.specs.declared.class.Class.TheVariants as class
-use Rattle.wcv_binary.specs.Faults.{class_of}
+use Rattle.wcv_bytes.specs.declared.fault.BinaryFault.{BinaryFault}
+use Rattle.wcv_bytes.specs.declared.class.Class.{Class}
+use Rattle.wcv_bytes.specs.declared.class.Class.TheVariants as class
+use Rattle.wcv_bytes.specs.Faults.{class_of}
 use Rattle.wcv_binary.specs.Binary.{binary_of, binary_within}
 use Rattle.wcv_main.specs.declared.reading.Reading.{Reading}
 use Rattle.wcv_main.specs.declared.reading.Reading.TheVariants as reading

@@ -16,10 +16,10 @@ use Rattle.wcv_listing.specs.Generated.{generated}
 use Rattle.wcv_listing.specs.Listing.{Outcome, not_json, bad_shape, listed, outcome_of}
 use Rattle.wcv_write.specs.Indices.{numbers}
 use Rattle.wcv_write.specs.Listing.{listing_data}
-use Rattle.wcv_binary.specs.declared.fault.BinaryFault.{BinaryFault}
-use Rattle.wcv_binary.specs.declared.class.Class.{Class}
-use Rattle.wcv_binary.specs.declared.class.Class.TheVariants.{Malformed, Unsupported, TooMuch}
-use Rattle.wcv_binary.specs.Faults.{class_of}
+use Rattle.wcv_bytes.specs.declared.fault.BinaryFault.{BinaryFault}
+use Rattle.wcv_bytes.specs.declared.class.Class.{Class}
+use Rattle.wcv_bytes.specs.declared.class.Class.TheVariants.{Malformed, Unsupported, TooMuch}
+use Rattle.wcv_bytes.specs.Faults.{class_of}
 use Rattle.wcv_binary.specs.Binary.{binary_of, binary_within}
 use Rattle.wcv_main.specs.declared.reading.Reading.{Reading}
 use Rattle.wcv_main.specs.declared.reading.Reading.TheVariants as reading

@@ -4,7 +4,7 @@ ghost use Rattle.serde_json.specs.Written.{compact_text};
 ghost use Rattle.wcv_syntax.specs.View.{entries};
 ghost use Rattle.wcv_main.specs.declared.reading.Reading.TheVariants as reads;
 ghost use Rattle.wcv_main.specs.Due.{due_of_short, due_of_class, IsFaultText};
-ghost use Rattle.wcv_binary.specs.Faults.{class_of};
+ghost use Rattle.wcv_bytes.specs.Faults.{class_of};
 ghost use Rattle.wcv_write.specs.Indices.{numbers};
 ghost use Rattle.wcv_write.specs.Listing.{listing_data};
 ghost use Rattle.wcv_main.specs.Report.{line};
