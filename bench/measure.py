@@ -10,7 +10,7 @@ what else the machine does can only add to them. Peak memory is the largest resi
 bytes that it writes are counted too. Where valgrind is there, the instructions of one run are counted: they do not
 depend on what else the machine does. Memory and instructions are told for each byte of the listing as well.
 
-`overview` is one row for each kind of items, the first table of docs/PERFORMANCE.md.
+`overview` is one row for each kind of items, "Kinds of items" of docs/PERFORMANCE.md.
 
 `whole` has components that hold 1,000 others each, since no more may stand in one, and components 40 deep, since JSON
 lets no more nest, where the rules would let 100 be open; aliases of up to 99,999 functions of one instance, since an
