@@ -49,10 +49,10 @@ max_kept = 8388608
 abbrev pub room_behind : ℕ → ℕ → ℕ → Result ℕ BinaryFault
 room_behind at room counted = if nat_lt room counted then Err (fault_at TooMuch at) else Ok (room - counted)
 
--- for how many bytes more than their own so many entries count, four each, of which there are no more than the bytes that
+-- for how many bytes more than their own so many entries count, three each, of which there are no more than the bytes that
 -- are left, and these once more where that is asked for
 abbrev pub more_for : Bool → ℕ → ℕ → ℕ
-more_for again count left = 4 * (if nat_lt left count then left else count) + (if again then left else 0)
+more_for again count left = 3 * (if nat_lt left count then left else count) + (if again then left else 0)
 
 -- ## Sections
 

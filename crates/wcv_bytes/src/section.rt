@@ -55,7 +55,7 @@ fn more_of(again: bool, count: u32, bytes: &[u8]) -> u64
     let left = bytes.len() as u64;
     let count = count as u64;
     let entries = if left < count { left } else { count };
-    4 * entries + if again { left } else { 0 }
+    3 * entries + if again { left } else { 0 }
 }
 
 /// How many bytes may still be kept behind the contents of a section, which end at that offset and were counted: its

@@ -51,7 +51,7 @@ abbrev entries_told : ℕ → Result (List Entry) Fault → Result ℕ BinaryFau
 entries_told end read room = room >>= λ left. told end read >>= λ es. Ok (es, left)
 
 -- a section of a list
-listed_holds : (depth id end room from more : ℕ) (front : List Entry) (f : Form) → ((c : List ℕ) → held_at depth (component_within depth) id end front room c ≡ entries_told end (entries_at depth id end front c) (counted_at (nat_eq id 7) end room c)) → ((x : List ℕ) → count_at id (1 ∷ x) ≡ Ok (1, x)) → Reads (form_at depth id) (one_of f) f → ((x : List ℕ) → one_of f ≡ Some x → 4 + cond (nat_eq id 7) (length x) 0 ≤ more) → (c : List ℕ) → byte 1 ⧺ one_of f ≡ Some c → end ≡ from + length c → more ≤ room → Holds depth id end room front c more (record { offset = from + 1; form = f })
+listed_holds : (depth id end room from more : ℕ) (front : List Entry) (f : Form) → ((c : List ℕ) → held_at depth (component_within depth) id end front room c ≡ entries_told end (entries_at depth id end front c) (counted_at (nat_eq id 7) end room c)) → ((x : List ℕ) → count_at id (1 ∷ x) ≡ Ok (1, x)) → Reads (form_at depth id) (one_of f) f → ((x : List ℕ) → one_of f ≡ Some x → 3 + cond (nat_eq id 7) (length x) 0 ≤ more) → (c : List ℕ) → byte 1 ⧺ one_of f ≡ Some c → end ≡ from + length c → more ≤ room → Holds depth id end room front c more (record { offset = from + 1; form = f })
 listed_holds depth id end room from more front f step one again most c e at fits =
     begun_by 1 (λ z. end ≡ from + length z → Holds depth id end room front z more (record { offset = from + 1; form = f })) (one_of f)
     (λ x made h.
@@ -65,7 +65,7 @@ listed_holds depth id end room from more front f step one again most c e at fits
     )) c e at
 
 -- what a type counts for more
-type_more : (t : Type_form) (x : List ℕ) → one_of (type_item t) ≡ Some x → 4 + length x ≤ 4 + size (type_bytes t)
+type_more : (t : Type_form) (x : List ℕ) → one_of (type_item t) ≡ Some x → 3 + length x ≤ 3 + size (type_bytes t)
 unfolding one_of
 type_more t x made =
     let long : size (type_bytes t) ≡ length x = ap size made in
@@ -176,14 +176,14 @@ mutual
   unfolding held_at contents form_nesting form_more placed_form component_header items_bytes items_nesting items_more sections_at placed_items entries_of
 
   held_again : (f : Form) (depth : ℕ) → form_nesting f ≤ depth → (c : List ℕ) (from end room : ℕ) (front : List Entry) → contents f ≡ Some c → end ≡ from + length c → gap (form_id f) c + form_more f ≤ room → Holds depth (form_id f) end room front c (form_more f) (record { offset = from + lead f; form = placed_form from f })
-  held_again (core_instance_item i) depth h c from end room front e at fits = listed_holds depth 2 end room from 4 front (core_instance_item i) (λ d. refl) counts_one (one_again (core_instance_item i) depth h) (λ x made. omega arith) c e at (omega (arith, fits))
-  held_again (core_type_item t) depth h c from end room front e at fits = listed_holds depth 3 end room from 4 front (core_type_item t) (λ d. refl) counts_one (one_again (core_type_item t) depth h) (λ x made. omega arith) c e at (omega (arith, fits))
-  held_again (instance_item i) depth h c from end room front e at fits = listed_holds depth 5 end room from 4 front (instance_item i) (λ d. refl) counts_one (one_again (instance_item i) depth h) (λ x made. omega arith) c e at (omega (arith, fits))
-  held_again (alias_item a) depth h c from end room front e at fits = listed_holds depth 6 end room from 4 front (alias_item a) (λ d. refl) counts_one (one_again (alias_item a) depth h) (λ x made. omega arith) c e at (omega (arith, fits))
-  held_again (type_item t) depth h c from end room front e at fits = listed_holds depth 7 end room from (4 + size (type_bytes t)) front (type_item t) (λ d. refl) counts_one (one_again (type_item t) depth h) (type_more t) c e at (omega (arith, fits))
-  held_again (canon_item f) depth h c from end room front e at fits = listed_holds depth 8 end room from 4 front (canon_item f) (λ d. refl) counts_one (one_again (canon_item f) depth h) (λ x made. omega arith) c e at (omega (arith, fits))
-  held_again (import_item i) depth h c from end room front e at fits = listed_holds depth 10 end room from 4 front (import_item i) (λ d. refl) counts_one (one_again (import_item i) depth h) (λ x made. omega arith) c e at (omega (arith, fits))
-  held_again (export_item x) depth h c from end room front e at fits = listed_holds depth 11 end room from 4 front (export_item x) (λ d. refl) counts_one (one_again (export_item x) depth h) (λ x made. omega arith) c e at (omega (arith, fits))
+  held_again (core_instance_item i) depth h c from end room front e at fits = listed_holds depth 2 end room from 3 front (core_instance_item i) (λ d. refl) counts_one (one_again (core_instance_item i) depth h) (λ x made. omega arith) c e at (omega (arith, fits))
+  held_again (core_type_item t) depth h c from end room front e at fits = listed_holds depth 3 end room from 3 front (core_type_item t) (λ d. refl) counts_one (one_again (core_type_item t) depth h) (λ x made. omega arith) c e at (omega (arith, fits))
+  held_again (instance_item i) depth h c from end room front e at fits = listed_holds depth 5 end room from 3 front (instance_item i) (λ d. refl) counts_one (one_again (instance_item i) depth h) (λ x made. omega arith) c e at (omega (arith, fits))
+  held_again (alias_item a) depth h c from end room front e at fits = listed_holds depth 6 end room from 3 front (alias_item a) (λ d. refl) counts_one (one_again (alias_item a) depth h) (λ x made. omega arith) c e at (omega (arith, fits))
+  held_again (type_item t) depth h c from end room front e at fits = listed_holds depth 7 end room from (3 + size (type_bytes t)) front (type_item t) (λ d. refl) counts_one (one_again (type_item t) depth h) (type_more t) c e at (omega (arith, fits))
+  held_again (canon_item f) depth h c from end room front e at fits = listed_holds depth 8 end room from 3 front (canon_item f) (λ d. refl) counts_one (one_again (canon_item f) depth h) (λ x made. omega arith) c e at (omega (arith, fits))
+  held_again (import_item i) depth h c from end room front e at fits = listed_holds depth 10 end room from 3 front (import_item i) (λ d. refl) counts_one (one_again (import_item i) depth h) (λ x made. omega arith) c e at (omega (arith, fits))
+  held_again (export_item x) depth h c from end room front e at fits = listed_holds depth 11 end room from 3 front (export_item x) (λ d. refl) counts_one (one_again (export_item x) depth h) (λ x made. omega arith) c e at (omega (arith, fits))
   held_again (start_item f args results) depth h c from end room front e at fits = start_holds depth end room from front f args results c e at
   held_again (core_module_item ds) depth h c from end room front e at fits = module_holds depth end room from front ds c e at fits
   held_again (component_item is n) zero h c from end room front e at fits = absurd (not-suc-le-zero h)

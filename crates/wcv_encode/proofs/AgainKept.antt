@@ -6,15 +6,15 @@ use Rattle.wcv_encode.specs.Bytes.{Bytes, u32_bytes, each, vec}
 use Rattle.wcv_encode.proofs.Again.{parted}
 use Rattle.wcv_encode.proofs.AgainNumbers.{u32_again, below, not_below}
 
-lesser : (t : Bool) (n k : ℕ) → nat_lt k n ≡ t → 4 * cond t k n ≤ 4 * n
+lesser : (t : Bool) (n k : ℕ) → nat_lt k n ≡ t → 3 * cond t k n ≤ 3 * n
 lesser true n k e = omega (arith, below k n e)
 lesser false n k e = omega arith
 
 -- entries count for no more than four bytes each, and the bytes behind their count once more where that is asked for
-more_at_most : (again : Bool) (n k : ℕ) → more_for again n k ≤ 4 * n + cond again k 0
+more_at_most : (again : Bool) (n k : ℕ) → more_for again n k ≤ 3 * n + cond again k 0
 more_at_most again n k = omega (arith, lesser (nat_lt k n) n k refl)
 
-pub counted_again : (again : Bool) (end room n : ℕ) (c rest : List ℕ) → u32_at c ≡ Ok (n, rest) → 4 * n + cond again (length rest) 0 ≤ room → (left : ℕ) × (counted_at again end room c ≡ Ok left) × (room ≤ left + (4 * n + cond again (length rest) 0))
+pub counted_again : (again : Bool) (end room n : ℕ) (c rest : List ℕ) → u32_at c ≡ Ok (n, rest) → 3 * n + cond again (length rest) 0 ≤ room → (left : ℕ) × (counted_at again end room c ≡ Ok left) × (room ≤ left + (3 * n + cond again (length rest) 0))
 unfolding counted_at
 counted_again again end room n c rest read h =
     let more = more_at_most again n (length rest) in (

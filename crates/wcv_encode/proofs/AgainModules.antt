@@ -46,7 +46,7 @@ state groups imports functions tables memories tags globals exports bodies = rec
 
 -- for how many bytes more so many entries of a section count
 abbrev section_more : ℕ → ℕ → ℕ
-section_more id count = cond (is_kept id) (4 * count) 0
+section_more id count = cond (is_kept id) (3 * count) 0
 
 -- Sections that stand at a place or behind it, and count for more by a number, lead from what is known to what is known
 -- at the end.
@@ -71,7 +71,7 @@ abbrev and_more : ℕ → ℕ → Result (Module_form × List ℕ × ℕ) Binary
 and_more most end read = read >>= λ x. module_sections_at most end x.2 x.0 x.1
 
 -- how much may still be kept behind the entries of a section, if it is kept
-room_again : (kept : Bool) (end room count : ℕ) (c rest : List ℕ) → u32_at c ≡ Ok (count, rest) → cond kept (4 * count) 0 ≤ room → (left : ℕ) × (cond kept (counted_at false end room c) (Ok room) ≡ Ok left) × (room ≤ left + cond kept (4 * count) 0)
+room_again : (kept : Bool) (end room count : ℕ) (c rest : List ℕ) → u32_at c ≡ Ok (count, rest) → cond kept (3 * count) 0 ≤ room → (left : ℕ) × (cond kept (counted_at false end room c) (Ok room) ≡ Ok left) × (room ≤ left + cond kept (3 * count) 0)
 room_again true end room count c rest read h =
     let counted = counted_again false end room count c rest read (omega (arith, h)) in
     (counted.0, counted.1, omega (arith, counted.2))
@@ -106,7 +106,7 @@ section_leads id place count others contents more m middle out counts says leads
     opened (λ z. length z ≤ most → length z + (section_more id count + others) ≤ room → (left : ℕ) × (last : ℕ) × (module_sections_at most end room (record m { next = next }) z ≡ Ok (record out { next = last }, left)) × (room ≤ left + (length z + (section_more id count + others)))) id contents more
     (λ l c y size first second. section_step id place count others contents more m middle out counts says leads l c y next most end room n size first second) b e f r
 
-none_more : (kept : Bool) (others : ℕ) → cond kept (4 * 0) 0 + others ≡ others
+none_more : (kept : Bool) (others : ℕ) → cond kept (3 * 0) 0 + others ≡ others
 none_more true others = omega arith
 none_more false others = omega arith
 
@@ -255,14 +255,14 @@ all_exports ds ordered =
 
 -- for how many bytes more the entries of all sections count
 abbrev exports_more : Counts → List Module_decl → ℕ
-exports_more c ds = 4 * length (exports_from c ds)
+exports_more c ds = 3 * length (exports_from c ds)
 
 abbrev own_more : List Module_decl → ℕ → ℕ
 own_more ds others =
-    4 * length (filter_map function_in ds) + (4 * length (filter_map table_in ds) + (4 * length (filter_map memory_in ds) + (4 * length (filter_map tag_in ds) + (4 * length (filter_map global_in ds) + others))))
+    3 * length (filter_map function_in ds) + (3 * length (filter_map table_in ds) + (3 * length (filter_map memory_in ds) + (3 * length (filter_map tag_in ds) + (3 * length (filter_map global_in ds) + others))))
 
 abbrev entries_more : Counts → List Module_decl → ℕ
-entries_more c ds = 4 * length (filter_map group_in ds) + (4 * length (filter_map import_in ds) + own_more ds (exports_more c ds + 0))
+entries_more c ds = 3 * length (filter_map group_in ds) + (3 * length (filter_map import_in ds) + own_more ds (exports_more c ds + 0))
 
 more_of_entries : (c : Counts) (ds : List Module_decl) → entries_more c ds ≤ module_more ds
 unfolding exports_from modules.export_at next module_more
@@ -313,12 +313,12 @@ all_lead ds ordered =
     let m6 = state gs is fs ts ms tags [] [] 0 in
     let m7 = state gs is fs ts ms tags gls [] 0 in
     let n7 : ℕ = exports_more no_items ds + 0 in
-    let n6 : ℕ = 4 * length gls + n7 in
-    let n5 : ℕ = 4 * length tags + n6 in
-    let n4 : ℕ = 4 * length ms + n5 in
-    let n3 : ℕ = 4 * length ts + n4 in
-    let n2 : ℕ = 4 * length fs + n3 in
-    let n1 : ℕ = 4 * length is + n2 in
+    let n6 : ℕ = 3 * length gls + n7 in
+    let n5 : ℕ = 3 * length tags + n6 in
+    let n4 : ℕ = 3 * length ms + n5 in
+    let n3 : ℕ = 3 * length ts + n4 in
+    let n2 : ℕ = 3 * length fs + n3 in
+    let n1 : ℕ = 3 * length is + n2 in
     part_leads part.Types 0 n1 group_bytes group_in ds (drop 1 parts) more m0 m1 out types_are (λ none. ap (λ xs. state xs [] [] [] [] [] [] [] 0) (sym none)) (groups_say m0 gs)
     (part_leads part.Imports 1 n2 core_import_bytes import_in ds (drop 2 parts) more m1 m2 out imports_are (λ none. ap (λ xs. state gs xs [] [] [] [] [] [] 0) (sym none)) (imports_say m1 is)
     (part_leads part.Functions 2 n3 u32_bytes function_in ds (drop 3 parts) more m2 m3 out functions_are (λ none. ap (λ xs. state gs is xs [] [] [] [] [] 0) (sym none)) (functions_say m2 fs)
