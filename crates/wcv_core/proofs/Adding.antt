@@ -32,7 +32,7 @@ equal_bytes x y p q = sym (tied_then (nat_cmp x.0 y.0) (string_cmp x.1 y.1)) ∙
     go true e = ap (λ (b : Bool). b && true) (number_equal x.0 y.0 (p ∙ ap mixed (same_bytes (bytes x) (bytes y) e) ∙ sym q))
     go false e = and-false (is_eq (nat_cmp x.0 y.0))
 
--- so the set has what compares equal where it has the bytes
+-- a set has what compares equal to a label where it has the label's bytes
 pub has_bytes : (k : Numbered) (ks : List Numbered) → IsNumbered k → AreNumbered ks → list_any (is_at (order k)) ks ≡ is_among (bytes k) (texts ks)
 has_bytes k [] p q = refl
 has_bytes k (x ∷ ks) p q =

@@ -22,6 +22,6 @@ pub is_among-push : (t n : List ℕ) (ks : List (List ℕ)) → is_among t (ks +
 is_among-push t n [] = or-false (bytes_eq t n)
 is_among-push t n (k ∷ ks) = ap (λ (b : Bool). bytes_eq t k || b) (is_among-push t n ks) ∙ sym (or_assoc (bytes_eq t k) (is_among t ks) (bytes_eq t n))
 
--- so where it is looked at first
+-- one more text at the end, which is looked at first
 pub is_among-joined : (t n : List ℕ) (ks : List (List ℕ)) → (bytes_eq t n || is_among t ks) ≡ is_among t (ks ++ n ∷ [])
 is_among-joined t n ks = or_comm (bytes_eq t n) (is_among t ks) ∙ sym (is_among-push t n ks)

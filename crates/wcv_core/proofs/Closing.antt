@@ -40,7 +40,7 @@ free_suc f (y ∷ xs) (suc i) x h n m =
 pub free_next : {A : Type 0} (f : A → Checks) (xs : List A) (i : ℕ) (x : A) → i < length xs → IsFree (all_checks f (take i xs)) → IsFree (f (get_or xs i x)) → IsFree (all_checks f (take (i + 1) xs))
 free_next f xs i x h n m = subst (λ (j : ℕ). IsFree (all_checks f (take j xs))) (sym (add-one i)) (free_suc f xs i x h n m)
 
--- so where the elements are views
+-- a cause of one element is one of the list, where the checks are of views of the elements
 pub caused_mapped : {M : Type 0} {A B : Type 0} (v : A → B) (f : B → Checks) (xs : List A) (i : ℕ) (x : A) (offset : ℕ) (e : Error M) → i < length xs → x ≡ get_or xs i x → CausedBy (f (v x)) offset e → CausedBy (all_checks f (map v xs)) offset e
 caused_mapped v f xs i x offset e h is c = caused_at f (map v xs) i (v x) offset e (omega (arith, length-map v xs)) (subst (λ y. CausedBy (f y) offset e) (ap v is ∙ sym (get_or-map v xs i x)) c)
 

@@ -27,16 +27,16 @@ next f old xs i d h =
     append_assoc old (all_codes f (take i xs)) (f (get_or xs i d)) ∙
     ap (λ (c : List ℕ). old ++ c) (sym (step f xs i d h) ∙ ap (λ (n : ℕ). all_codes f (take n xs)) (sym (add-one i)))
 
--- so where a code is pushed in a loop
+-- one more code is pushed in a loop
 pub pushed : {A : Type 0} (f : A → List ℕ) (old : List ℕ) (xs : List A) (i : ℕ) (d : A) {code new : List ℕ} → i < length xs → code ≡ old ++ all_codes f (take i xs)
     → new ≡ code ++ f (get_or xs i d) → new ≡ old ++ all_codes f (take (i + 1) xs)
 pushed f old xs i d h e n = n ∙ (ap (λ (c : List ℕ). c ++ f (get_or xs i d)) e ∙ next f old xs i d h)
 
--- and where the loop ends
+-- the loop that pushes codes ends
 pub pushed_all : {A : Type 0} (f : A → List ℕ) (old : List ℕ) (xs : List A) (i : ℕ) {code : List ℕ} → length xs ≤ i → code ≡ old ++ all_codes f (take i xs) → code ≡ old ++ all_codes f xs
 pushed_all f old xs i h e = e ∙ ap (λ (ys : List _). old ++ all_codes f ys) (take_all i xs h)
 
--- so where the elements are lent
+-- one more code is pushed in a loop over elements that are lent
 pub pushed_item : {A : Type 0} (f : A → List ℕ) (old : List ℕ) (xs ys : List A) (i : ℕ) (x : A) {code new : List ℕ} → ys ≡ xs → i < length ys → x ≡ get_or ys i x
     → code ≡ old ++ all_codes f (take i xs) → new ≡ code ++ f x → new ≡ old ++ all_codes f (take (i + 1) xs)
 pushed_item f old xs ys i x {code} v h is e n =

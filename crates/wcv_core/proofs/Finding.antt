@@ -109,6 +109,6 @@ one_code n i (g ∷ gs) c d a e f = go (bytes_eq c (code_of g)) (bytes_eq d (cod
     go false true x y e f r = Prim.absurd (low c (e ∙ sym f))
     go false false x y e f r = r e f
 
--- so they are one
+-- groups that are found at one id are one
 pub one_group : (i : ℕ) (gs : List Group) (g h : Group) → AreClosed 0 gs → id_of gs g ≡ Some i → id_of gs h ≡ Some i → g ≡ h
 one_group i gs g h a e f = code_of-same g h (one_code 0 i gs (code_of g) (code_of h) a e f)

@@ -159,7 +159,7 @@ field_read f g r s e =
     let p = storage_same f.storage g.storage r s (omega arith) t in
     (λ j. record { storage = p.0 j; mutable = b j }, p.1)
 
--- so lists of one length
+-- lists of one length are read from their codes
 pub all_read : {A : Type 0} (f : A → List ℕ) → IsRead f → (xs ys : List A) (r s : List ℕ) → length xs ≡ length ys
     → all_codes f xs ++ r ≡ all_codes f ys ++ s → (xs ≡ ys) × (r ≡ s)
 all_read f read [] [] r s n e = (refl, e)

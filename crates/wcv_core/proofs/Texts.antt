@@ -107,7 +107,7 @@ found n b t ts i absent = go (is_among t ts) refl
     go false h = with_place (checked ts t (get_by_text b t)) refl h ∙ sym h
     go true h = let s = among_stands t ts h in leads s (i.leads s.at t s.is) ∙ sym h
 
--- so of texts as they are seen
+-- a text is found where it is among the texts that are seen
 pub found_seen : (n : Numbers) (b : Bytes) (t : Text) (ts us : List Text) (m : ℕ) → IsIndexed n b ts → ts ≡ us → m ≡ mixed t → None ≡ checked us t (get nat_cmp n m) → is_some (checked us t (get_by_text b t)) ≡ is_among t us
 found_seen n b t ts us m i e f h =
     let absent : None ≡ checked ts t (get nat_cmp n (mixed t)) = h ∙ ap (λ (k : ℕ). checked us t (get nat_cmp n k)) f ∙ ap (λ (vs : List Text). checked vs t (get nat_cmp n (mixed t))) (sym e) in

@@ -3,7 +3,7 @@ use Rattle.wcv_core.specs.Limits.{max_list, max_params}
 use Rattle.std.specs.Prelude.{ℕ, List, [], ◌∷◌, ◌++◌, length, Bool, true, false, ◌&&◌, not, eqb, is_some, codes}
 use Rattle.wcv_core.specs.Checks.{Checks, all_checks, too_many}
 use Rattle.wcv_core.specs.CoreForm.{CompositeForm, func_form, struct_form, array_form, SubForm, Group}
-use Rattle.wcv_core.specs.Features.{has_feature}
+use Rattle.wcv_core.specs.Features.{simd, function_references, gc, exceptions, shared_everything_threads, has_feature}
 use Rattle.wcv_core.specs.declared.core_types.AbstractHeap.{AbstractHeap}
 use Rattle.wcv_core.specs.declared.core_types.AbstractHeap.TheVariants as name
 use Rattle.wcv_core.specs.declared.core_types.FieldType.{FieldType}
@@ -16,23 +16,6 @@ use Rattle.wcv_core.specs.declared.core_types.ValType.{ValType}
 use Rattle.wcv_core.specs.declared.core_types.ValType.TheVariants as val
 use Rattle.wcv_core.specs.declared.error.ErrorKind.TheVariants as kind
 use Rattle.wcv_core.specs.declared.features.WasmFeatures.{WasmFeatures}
-
--- ## The features, by their bits
-
-abbrev pub simd : ℕ
-simd = 1
-
-abbrev pub function_references : ℕ
-function_references = 4
-
-abbrev pub gc : ℕ
-gc = 8
-
-abbrev pub exceptions : ℕ
-exceptions = 16
-
-abbrev pub shared_everything : ℕ
-shared_everything = 128
 
 -- a feature is missing that something needs, if it is there
 abbrev pub needs : WasmFeatures → ℕ → Bool → Checks
@@ -54,7 +37,7 @@ is_exn_name _ = false
 
 -- a heap, and the own mark of the reference to it
 abbrev pub heap_needs : WasmFeatures → Bool → HeapType → Checks
-heap_needs fs shared (heap.Abstract a) = needs fs gc (is_gc_name a) ++ (needs fs exceptions (is_exn_name a) ++ needs fs shared_everything shared)
+heap_needs fs shared (heap.Abstract a) = needs fs gc (is_gc_name a) ++ (needs fs exceptions (is_exn_name a) ++ needs fs shared_everything_threads shared)
 heap_needs fs shared _ = needs fs function_references true
 
 abbrev pub ref_needs : WasmFeatures → RefType → Checks
@@ -80,7 +63,7 @@ form_needs fs (struct_form ts) = needs fs gc true ++ all_checks (field_needs fs)
 form_needs fs (array_form t) = needs fs gc true ++ field_needs fs t
 
 abbrev pub sub_needs : WasmFeatures → SubForm → Checks
-sub_needs fs s = needs fs gc (not s.is_final) ++ (needs fs gc (is_some s.supertype) ++ (needs fs shared_everything s.shared ++ form_needs fs s.inner))
+sub_needs fs s = needs fs gc (not s.is_final) ++ (needs fs gc (is_some s.supertype) ++ (needs fs shared_everything_threads s.shared ++ form_needs fs s.inner))
 
 abbrev pub group_needs : WasmFeatures → Group → Checks
 group_needs fs w = needs fs gc (not (eqb (length w) 1)) ++ all_checks (sub_needs fs) w

@@ -23,7 +23,7 @@ abbrev pub is_late : ℕ → Option SuperType → Bool
 is_late k (Some (super.Index i)) = not (nat_lt i k)
 is_late k _ = false
 
--- so in a group whose first type has the index k
+-- the supertypes of a group are late, whose first type has the index k
 abbrev pub order_checks : ℕ → Group → Checks
 order_checks k [] = []
 order_checks k (s ∷ ss) = (kind.CoreType, is_late k s.supertype) ∷ order_checks (suc k) ss

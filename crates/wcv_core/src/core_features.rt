@@ -1,7 +1,8 @@
 // The features that core types need.
 ghost use Rattle.std.specs.Prelude.{◌≡◌, ◌++◌, not, map, OnOk, IfErr};
 ghost use Rattle.wcv_core.specs.Checks.{IsFree, CausedBy, all_checks};
-ghost use Rattle.wcv_core.specs.CoreFeatures.{needs, gc, function_references, shared_everything, is_gc_name, is_exn_name, heap_needs, ref_needs, val_needs, field_needs, form_needs, sub_needs, group_needs};
+ghost use Rattle.wcv_core.specs.CoreFeatures.{needs, is_gc_name, is_exn_name, heap_needs, ref_needs, val_needs, field_needs, form_needs, sub_needs, group_needs};
+ghost use Rattle.wcv_core.specs.Features.{gc, function_references, shared_everything_threads};
 ghost use Rattle.wcv_core.specs.Refusal.{error_kind, error_offset};
 ghost use Rattle.wcv_core.specs.CoreForm.{func_form, composite_form, sub_form, group_form};
 
@@ -18,22 +19,22 @@ use bitflags::Flags;
 pub fn missing_feature<'a>(
     by: &'static str,
     name: &'a str,
-    feature: &'static str,
+    feature: WasmFeatures,
     offset: u64,
 ) -> Refusal<'a>
     ensures kind { error_kind result ≡ ErrorKind.Feature }
     ensures offset { error_offset result ≡ offset }
 {
-    let why = Why::new(by).name(name).needs(feature);
+    let why = Why::new(by).name(name).needs(feature.name());
     Error::new(ErrorKind::Feature, offset, why)
 }
 
-/// Refuses what needs a feature that is missing, if it is there, by the feature's name and by what it is.
-fn require(
+/// Refuses what needs a feature that is missing, if it is there. `by` and the name say what it is, as in
+/// `missing_feature`.
+pub fn require_feature(
     features: &WasmFeatures,
     feature: WasmFeatures,
     there: bool,
-    feature_name: &'static str,
     by: &'static str,
     name: &'static str,
     offset: u64,
@@ -42,7 +43,7 @@ fn require(
     ensures err { IfErr result (CausedBy (needs features.now feature.0 there) offset) }
 {
     if there && !features.contains(feature) {
-        return Err(missing_feature(by, name, feature_name, offset));
+        return Err(missing_feature(by, name, feature, offset));
     }
     Ok(())
 }
@@ -76,7 +77,7 @@ fn check_gc(
     ensures ok { OnOk result (IsFree (needs features.now gc there)) }
     ensures err { IfErr result (CausedBy (needs features.now gc there) offset) }
 {
-    require(features, WasmFeatures::GC, there, "gc", by, "", offset)
+    require_feature(features, WasmFeatures::GC, there, by, "", offset)
 }
 
 fn check_references(
@@ -88,11 +89,10 @@ fn check_references(
     ensures ok { OnOk result (IsFree (needs features.now function_references there)) }
     ensures err { IfErr result (CausedBy (needs features.now function_references there) offset) }
 {
-    require(
+    require_feature(
         features,
         WasmFeatures::FUNCTION_REFERENCES,
         there,
-        "function-references",
         by,
         "",
         offset,
@@ -105,14 +105,13 @@ fn check_shared(
     by: &'static str,
     offset: u64,
 ) -> Result<(), Refusal<'static>>
-    ensures ok { OnOk result (IsFree (needs features.now shared_everything there)) }
-    ensures err { IfErr result (CausedBy (needs features.now shared_everything there) offset) }
+    ensures ok { OnOk result (IsFree (needs features.now shared_everything_threads there)) }
+    ensures err { IfErr result (CausedBy (needs features.now shared_everything_threads there) offset) }
 {
-    require(
+    require_feature(
         features,
         WasmFeatures::SHARED_EVERYTHING_THREADS,
         there,
-        "shared-everything-threads",
         by,
         "",
         offset,
@@ -132,20 +131,18 @@ fn check_heap(
     match heap {
         HeapType::Abstract(name) => {
             let by = "the heap type `%n`";
-            require(
+            require_feature(
                 features,
                 WasmFeatures::GC,
                 is_gc_name(name),
-                "gc",
                 by,
                 name.word(),
                 offset,
             )?;
-            require(
+            require_feature(
                 features,
                 WasmFeatures::EXCEPTIONS,
                 is_exn_name(name),
-                "exceptions",
                 by,
                 name.word(),
                 offset,
@@ -186,15 +183,7 @@ pub fn check_val_features(
     ensures err { IfErr result (CausedBy (val_needs features.now ty) offset) }
 {
     match ty {
-        ValType::V128 => require(
-            features,
-            WasmFeatures::SIMD,
-            true,
-            "simd",
-            "`v128`",
-            "",
-            offset,
-        ),
+        ValType::V128 => require_feature(features, WasmFeatures::SIMD, true, "`v128`", "", offset),
         ValType::Ref(r) => check_ref_features(features, r, offset),
         _ => Ok(()),
     }

@@ -98,7 +98,7 @@ pub struct Why<'a> {
 }
 
 impl<'a> Why<'a> {
-    /// These words, in which nothing stands.
+    /// A message of words in which nothing stands.
     pub fn new(words: &'static str) -> Why<'a> {
         Why {
             words,
@@ -109,17 +109,17 @@ impl<'a> Why<'a> {
         }
     }
 
-    /// The same words with that one in them.
+    /// The message with this word in it.
     pub fn word(self, word: &'static str) -> Why<'a> {
         Why { word, ..self }
     }
 
-    /// The same words with the name in them.
+    /// The message with this name in it.
     pub fn name(self, name: &'a str) -> Why<'a> {
         Why { name, ..self }
     }
 
-    /// The same words with the feature behind them that they say is needed.
+    /// The message that says behind its words that the feature is needed.
     pub fn needs(self, feature: &'static str) -> Why<'a> {
         Why {
             needs: true,
@@ -128,7 +128,7 @@ impl<'a> Why<'a> {
         }
     }
 
-    /// The same words with the numbers in them.
+    /// The message with these numbers in it.
     pub fn numbers(self, numbers: [u64; 3]) -> Why<'a> {
         Why { numbers, ..self }
     }

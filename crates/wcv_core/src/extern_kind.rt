@@ -3,7 +3,7 @@ ghost use Rattle.std.specs.Prelude.{◌≡◌};
 ghost use Rattle.wcv_core.specs.Kinds.{extern_kind_name};
 
 /// Which of its two lists an entry of a component stands in.
-#[derive(Clone, Copy, Debug)]
+#[derive(Clone, Copy)]
 pub enum ExternKind {
     Import,
     Export,

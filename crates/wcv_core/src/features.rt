@@ -1,8 +1,12 @@
 // The features that a component may use.
+ghost use Rattle.std.specs.Prelude.{◌≡◌, map};
+ghost use Rattle.wcv_core.specs.Features as spec;
+ghost use Rattle.wcv_core.specs.Features.{feature_names};
+
 use bitflags::{Flag, Flags, bitflag_items};
 
 /// A set of features. Those of `default` hold where a listing names none.
-#[derive(Clone, Copy, Debug, PartialEq, Eq)]
+#[derive(Clone, Copy)]
 pub struct WasmFeatures(u32);
 
 bitflag_items! {
@@ -28,6 +32,58 @@ bitflag_items! {
         const CM_CANON_NAMES = 1 << 18;
         const CM_IMPLEMENTS = 1 << 19;
         const CM_ACCESSORS = 1 << 20;
+    }
+}
+
+/// The features by their names in a listing, in the order of their bits.
+pub const FEATURE_NAMES: [(&str, WasmFeatures); 21] = [
+    ("simd", WasmFeatures::SIMD),
+    ("threads", WasmFeatures::THREADS),
+    ("function-references", WasmFeatures::FUNCTION_REFERENCES),
+    ("gc", WasmFeatures::GC),
+    ("exceptions", WasmFeatures::EXCEPTIONS),
+    ("memory64", WasmFeatures::MEMORY64),
+    ("custom-page-sizes", WasmFeatures::CUSTOM_PAGE_SIZES),
+    (
+        "shared-everything-threads",
+        WasmFeatures::SHARED_EVERYTHING_THREADS,
+    ),
+    ("cm-async", WasmFeatures::CM_ASYNC),
+    ("cm-async-stackful", WasmFeatures::CM_ASYNC_STACKFUL),
+    (
+        "cm-more-async-builtins",
+        WasmFeatures::CM_MORE_ASYNC_BUILTINS,
+    ),
+    ("cm-forward", WasmFeatures::CM_FORWARD),
+    ("cm-threading", WasmFeatures::CM_THREADING),
+    ("cm64", WasmFeatures::CM64),
+    ("cm-values", WasmFeatures::CM_VALUES),
+    ("cm-map", WasmFeatures::CM_MAP),
+    ("cm-fixed-length-lists", WasmFeatures::CM_FIXED_LENGTH_LISTS),
+    ("cm-error-context", WasmFeatures::CM_ERROR_CONTEXT),
+    ("cm-canon-names", WasmFeatures::CM_CANON_NAMES),
+    ("cm-implements", WasmFeatures::CM_IMPLEMENTS),
+    ("cm-accessors", WasmFeatures::CM_ACCESSORS),
+];
+
+/// The name beside the feature in the table, or no text where it has none.
+fn name_in(table: &[(&'static str, WasmFeatures)], feature: WasmFeatures) -> &'static str
+    ensures { result.now ≡ spec.name_in (map (λ row. (row.0.now, row.1.0)) table.now) feature.0 }
+{
+    for (name, known) in table {
+        if known.0 == feature.0 {
+            return *name;
+        }
+    }
+    ""
+}
+
+impl WasmFeatures {
+    /// The name of the feature in a listing, where the set has that feature alone.
+    pub fn name(self) -> &'static str
+        ensures { result.now ≡ spec.name_in feature_names self.0 }
+    {
+        name_in(&FEATURE_NAMES, self)
     }
 }
 
@@ -62,8 +118,15 @@ impl Default for WasmFeatures {
 
     ghost is_default = { λ f. f ≡ default_features };
 
-    /// The first six features and `cm-async`.
     fn default() -> WasmFeatures {
-        WasmFeatures(0x3f | 1 << 8)
+        WasmFeatures(
+            WasmFeatures::SIMD.0
+                | WasmFeatures::THREADS.0
+                | WasmFeatures::FUNCTION_REFERENCES.0
+                | WasmFeatures::GC.0
+                | WasmFeatures::EXCEPTIONS.0
+                | WasmFeatures::MEMORY64.0
+                | WasmFeatures::CM_ASYNC.0,
+        )
     }
 }

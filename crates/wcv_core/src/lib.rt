@@ -34,7 +34,7 @@ pub use append_only::{IndexMapAppendOnly, IntoIter, Iter};
 pub use canonical::canonicalize_and_intern_rec_group;
 pub use core_closing::{Site, close_heap, close_val, closed_mark};
 pub use core_features::{
-    check_group_features, check_ref_features, check_val_features, missing_feature,
+    check_group_features, check_ref_features, check_val_features, missing_feature, require_feature,
 };
 pub use core_laws::{
     an_interned_group_is_found, declared_is_the_closure_of_supertypes,
@@ -54,7 +54,7 @@ pub use core_types::{
 pub use error::{Error, ErrorKind, Refusal, Why};
 pub use excerpt::Excerpt;
 pub use extern_kind::ExternKind;
-pub use features::WasmFeatures;
+pub use features::{FEATURE_NAMES, WasmFeatures};
 pub use kebab::{KebabString, is_label};
 pub use label_set::{LabelSet, mix};
 pub use memory::OutOfMemory;

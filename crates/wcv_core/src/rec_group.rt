@@ -18,10 +18,10 @@ pub trait InternRecGroup {
     /// The features that may be used.
     ghost allowed: { Self → WasmFeatures };
 
-    /// The same with one more type behind the others.
+    /// The space with one more type behind the others.
     ghost with_type: { Self → ℕ → Self };
 
-    /// The same after memory ended.
+    /// The space after memory ended in a call.
     ghost failed: { Self → Self };
 
     /// The features that may be used.
