@@ -1,36 +1,11 @@
 -- The features that a listing names.
-use Rattle.std.specs.Prelude.{ℕ, List, [], ◌∷◌, Option, Some, None, option_map, option_and_then, codes}
+use Rattle.std.specs.Prelude.{ℕ, Option, Some, None, option_map, option_and_then}
 use Rattle.std.specs.Int.RustNames.{bit_or}
 use Rattle.serde_json.specs.Data.{Data, Items, no_items, item}
 use Rattle.serde_json.specs.Find.{as_array, as_str}
-use Rattle.wcv_core.specs.Features.{default_features}
+use Rattle.wcv_core.specs.Features.{feature_names, default_features}
 use Rattle.wcv_core.specs.declared.features.WasmFeatures.{WasmFeatures}
 use Rattle.wcv_listing.specs.Fields.{both, named}
-
--- the features by their names in a listing, and the bits that stand for them
-abbrev pub feature_names : List (List ℕ × ℕ)
-feature_names =
-    (codes "simd", 1)
-    ∷ (codes "threads", 2)
-    ∷ (codes "function-references", 4)
-    ∷ (codes "gc", 8)
-    ∷ (codes "exceptions", 16)
-    ∷ (codes "memory64", 32)
-    ∷ (codes "custom-page-sizes", 64)
-    ∷ (codes "shared-everything-threads", 128)
-    ∷ (codes "cm-async", 256)
-    ∷ (codes "cm-async-stackful", 512)
-    ∷ (codes "cm-more-async-builtins", 1024)
-    ∷ (codes "cm-forward", 2048)
-    ∷ (codes "cm-threading", 4096)
-    ∷ (codes "cm64", 8192)
-    ∷ (codes "cm-values", 16384)
-    ∷ (codes "cm-map", 32768)
-    ∷ (codes "cm-fixed-length-lists", 65536)
-    ∷ (codes "cm-error-context", 131072)
-    ∷ (codes "cm-canon-names", 262144)
-    ∷ (codes "cm-implements", 524288)
-    ∷ (codes "cm-accessors", 1048576) ∷ []
 
 -- the bit of the feature that a text names
 abbrev pub feature_bit : Data → Option ℕ

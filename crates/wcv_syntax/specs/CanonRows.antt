@@ -4,6 +4,8 @@ use Rattle.wcv_core.specs.declared.core_types.ValType.{ValType}
 use Rattle.wcv_syntax.specs.Model.{Text, Canon_form, lift, lower, task_return, stream_read, stream_write, future_read, future_write, error_context_new, error_context_message, builtin}
 use Rattle.wcv_syntax.specs.declared.canonical.CanonicalFunction.{CanonicalFunction}
 use Rattle.wcv_syntax.specs.declared.canonical.CanonicalFunction.TheVariants as canon
+use Rattle.wcv_syntax.specs.declared.canonical.CanonicalOperands.{CanonicalOperands}
+use Rattle.wcv_syntax.specs.declared.canonical.CanonicalOperands.TheVariants as shown
 use Rattle.wcv_syntax.specs.declared.canonical.CanonicalOption.{CanonicalOption}
 use Rattle.wcv_syntax.specs.declared.component_type.ComponentValType.{ComponentValType}
 
@@ -173,3 +175,109 @@ type_rows = map type_row type_forms
 -- all, by their names
 unfoldable pub canon_rows : List (Text × Written)
 canon_rows = option_rows ++ (operand_rows ++ (plain_rows ++ type_rows))
+
+-- ## As they are shown
+
+-- the name of each
+abbrev pub canon_name : CanonicalFunction → Text
+canon_name (canon.Lift f t os) = codes "lift"
+canon_name (canon.Lower f os) = codes "lower"
+canon_name (canon.ResourceNew k) = codes "resource.new"
+canon_name (canon.ResourceDrop k) = codes "resource.drop"
+canon_name (canon.ResourceRep k) = codes "resource.rep"
+canon_name (canon.ThreadSpawnRef t) = codes "thread.spawn-ref"
+canon_name (canon.ThreadSpawnIndirect t n) = codes "thread.spawn-indirect"
+canon_name canon.ThreadAvailableParallelism = codes "thread.available-parallelism"
+canon_name canon.BackpressureInc = codes "backpressure.inc"
+canon_name canon.BackpressureDec = codes "backpressure.dec"
+canon_name canon.TaskCancel = codes "task.cancel"
+canon_name (canon.TaskReturn r os) = codes "task.return"
+canon_name (canon.ContextGet v n) = codes "context.get"
+canon_name (canon.ContextSet v n) = codes "context.set"
+canon_name canon.SubtaskDrop = codes "subtask.drop"
+canon_name (canon.SubtaskCancel b) = codes "subtask.cancel"
+canon_name (canon.StreamNew t) = codes "stream.new"
+canon_name (canon.StreamRead t os) = codes "stream.read"
+canon_name (canon.StreamWrite t os) = codes "stream.write"
+canon_name (canon.StreamForward t) = codes "stream.forward"
+canon_name (canon.StreamCancelRead t b) = codes "stream.cancel-read"
+canon_name (canon.StreamCancelWrite t b) = codes "stream.cancel-write"
+canon_name (canon.StreamDropReadable t) = codes "stream.drop-readable"
+canon_name (canon.StreamDropWritable t) = codes "stream.drop-writable"
+canon_name (canon.FutureNew t) = codes "future.new"
+canon_name (canon.FutureRead t os) = codes "future.read"
+canon_name (canon.FutureWrite t os) = codes "future.write"
+canon_name (canon.FutureForward t) = codes "future.forward"
+canon_name (canon.FutureCancelRead t b) = codes "future.cancel-read"
+canon_name (canon.FutureCancelWrite t b) = codes "future.cancel-write"
+canon_name (canon.FutureDropReadable t) = codes "future.drop-readable"
+canon_name (canon.FutureDropWritable t) = codes "future.drop-writable"
+canon_name (canon.ErrorContextNew os) = codes "error-context.new"
+canon_name (canon.ErrorContextDebugMessage os) = codes "error-context.debug-message"
+canon_name canon.ErrorContextDrop = codes "error-context.drop"
+canon_name canon.WaitableSetNew = codes "waitable-set.new"
+canon_name (canon.WaitableSetWait m) = codes "waitable-set.wait"
+canon_name (canon.WaitableSetPoll m) = codes "waitable-set.poll"
+canon_name canon.WaitableSetDrop = codes "waitable-set.drop"
+canon_name canon.WaitableJoin = codes "waitable.join"
+canon_name canon.ThreadIndex = codes "thread.index"
+canon_name (canon.ThreadNewIndirect t n) = codes "thread.new-indirect"
+canon_name canon.ThreadResumeLater = codes "thread.resume-later"
+canon_name canon.ThreadSuspend = codes "thread.suspend"
+canon_name canon.ThreadYield = codes "thread.yield"
+canon_name canon.ThreadSuspendThenResume = codes "thread.suspend-then-resume"
+canon_name canon.ThreadYieldThenResume = codes "thread.yield-then-resume"
+canon_name canon.ThreadSuspendThenPromote = codes "thread.suspend-then-promote"
+canon_name canon.ThreadYieldThenPromote = codes "thread.yield-then-promote"
+
+-- the operands of each, but for a list of options and what stands beside it
+abbrev pub operands_of : CanonicalFunction → CanonicalOperands
+operands_of (canon.Lift f t os) = shown.None
+operands_of (canon.Lower f os) = shown.None
+operands_of (canon.ResourceNew k) = shown.Type k
+operands_of (canon.ResourceDrop k) = shown.Type k
+operands_of (canon.ResourceRep k) = shown.Type k
+operands_of (canon.ThreadSpawnRef t) = shown.CoreType t
+operands_of (canon.ThreadSpawnIndirect t n) = shown.TypeAndTable t n
+operands_of canon.ThreadAvailableParallelism = shown.None
+operands_of canon.BackpressureInc = shown.None
+operands_of canon.BackpressureDec = shown.None
+operands_of canon.TaskCancel = shown.None
+operands_of (canon.TaskReturn r os) = shown.None
+operands_of (canon.ContextGet v n) = shown.TypeAndSlot v n
+operands_of (canon.ContextSet v n) = shown.TypeAndSlot v n
+operands_of canon.SubtaskDrop = shown.None
+operands_of (canon.SubtaskCancel b) = shown.Async b
+operands_of (canon.StreamNew t) = shown.Type t
+operands_of (canon.StreamRead t os) = shown.None
+operands_of (canon.StreamWrite t os) = shown.None
+operands_of (canon.StreamForward t) = shown.Type t
+operands_of (canon.StreamCancelRead t b) = shown.TypeAndAsync t b
+operands_of (canon.StreamCancelWrite t b) = shown.TypeAndAsync t b
+operands_of (canon.StreamDropReadable t) = shown.Type t
+operands_of (canon.StreamDropWritable t) = shown.Type t
+operands_of (canon.FutureNew t) = shown.Type t
+operands_of (canon.FutureRead t os) = shown.None
+operands_of (canon.FutureWrite t os) = shown.None
+operands_of (canon.FutureForward t) = shown.Type t
+operands_of (canon.FutureCancelRead t b) = shown.TypeAndAsync t b
+operands_of (canon.FutureCancelWrite t b) = shown.TypeAndAsync t b
+operands_of (canon.FutureDropReadable t) = shown.Type t
+operands_of (canon.FutureDropWritable t) = shown.Type t
+operands_of (canon.ErrorContextNew os) = shown.None
+operands_of (canon.ErrorContextDebugMessage os) = shown.None
+operands_of canon.ErrorContextDrop = shown.None
+operands_of canon.WaitableSetNew = shown.None
+operands_of (canon.WaitableSetWait m) = shown.Memory m
+operands_of (canon.WaitableSetPoll m) = shown.Memory m
+operands_of canon.WaitableSetDrop = shown.None
+operands_of canon.WaitableJoin = shown.None
+operands_of canon.ThreadIndex = shown.None
+operands_of (canon.ThreadNewIndirect t n) = shown.TypeAndTable t n
+operands_of canon.ThreadResumeLater = shown.None
+operands_of canon.ThreadSuspend = shown.None
+operands_of canon.ThreadYield = shown.None
+operands_of canon.ThreadSuspendThenResume = shown.None
+operands_of canon.ThreadYieldThenResume = shown.None
+operands_of canon.ThreadSuspendThenPromote = shown.None
+operands_of canon.ThreadYieldThenPromote = shown.None

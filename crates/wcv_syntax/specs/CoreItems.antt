@@ -2,7 +2,8 @@
 use Rattle.std.specs.Prelude.{ℕ, ◌*◌, ◌^◌, List, [], ◌∷◌, ◌++◌, map, Bool, true, false, ◌&&◌, ◌||◌, not, eqb, nat_lt, Option, Some, None, slice_get}
 use Rattle.std.specs.Option.{option_map}
 use Rattle.wcv_core.specs.Checks.{Checks, is_none, missing}
-use Rattle.wcv_core.specs.CoreFeatures.{needs, exceptions, shared_everything, ref_needs, val_needs}
+use Rattle.wcv_core.specs.Features.{threads, exceptions, memory64, custom_page_sizes, shared_everything_threads}
+use Rattle.wcv_core.specs.CoreFeatures.{needs, ref_needs, val_needs}
 use Rattle.wcv_core.specs.CoreForm.{CompositeForm, func_form, struct_form, array_form, Group}
 use Rattle.wcv_core.specs.CoreGroups.{total}
 use Rattle.wcv_core.specs.CoreJoining.{then_checks}
@@ -21,17 +22,6 @@ use Rattle.wcv_core.specs.declared.error.ErrorKind.TheVariants as kind
 use Rattle.wcv_core.specs.declared.features.WasmFeatures.{WasmFeatures}
 use Rattle.wcv_syntax.specs.declared.core_section.TypeRef.{TypeRef}
 use Rattle.wcv_syntax.specs.declared.core_section.TypeRef.TheVariants as ref
-
--- ## Features, by their bits
-
-abbrev pub threads : ℕ
-threads = 2
-
-abbrev pub memory64 : ℕ
-memory64 = 32
-
-abbrev pub custom_page_sizes : ℕ
-custom_page_sizes = 64
 
 -- ## Functions and tags
 
@@ -130,10 +120,10 @@ sharing_checks gs es t = (kind.CoreType, t.shared && not (ref_shared gs (closed_
 
 abbrev pub table_checks : WasmFeatures → List Group → List Core_entry → TableType → Checks
 table_checks fs gs es t =
-    needs fs memory64 t.table64 ++ (needs fs shared_everything t.shared ++ (table_sizes t ++ then_checks (element_checks fs gs es t.element_type) (sharing_checks gs es t)))
+    needs fs memory64 t.table64 ++ (needs fs shared_everything_threads t.shared ++ (table_sizes t ++ then_checks (element_checks fs gs es t.element_type) (sharing_checks gs es t)))
 
 abbrev pub global_checks : WasmFeatures → List Group → List Core_entry → GlobalType → Checks
-global_checks fs gs es g = needs fs shared_everything g.shared ++ (val_needs fs g.content_type ++ val_checks (total gs) es 0 g.content_type)
+global_checks fs gs es g = needs fs shared_everything_threads g.shared ++ (val_needs fs g.content_type ++ val_checks (total gs) es 0 g.content_type)
 
 -- ## All sorts
 

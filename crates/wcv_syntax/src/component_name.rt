@@ -57,7 +57,7 @@ pub fn checked_kind<'a>(
         Some(kind) => {
             if kind.is_accessor() && !features.contains(WasmFeatures::CM_ACCESSORS) {
                 let by = "the name `%n`";
-                let refusal = missing_feature(by, name, "cm-accessors", offset);
+                let refusal = missing_feature(by, name, WasmFeatures::CM_ACCESSORS, offset);
                 return Err(Error::from(refusal));
             }
             Ok(kind)

@@ -2,7 +2,7 @@
 ghost use Rattle.std.specs.Prelude.{◌≡◌, IfOk};
 ghost use Rattle.wcv_syntax.specs.View.{item_view, section_view, entries};
 
-use crate::copy_canon::copy_canon;
+use crate::canonical::copy_canon;
 use crate::copy_core::{copy_core_instance, copy_core_type, copy_module};
 use crate::copy_name::copy_instance;
 use crate::copy_text::CopyIn;

@@ -8,7 +8,7 @@ use Rattle.wcv_syntax.specs.declared.canonical.CanonicalOption.{CanonicalOption}
 use Rattle.wcv_syntax.specs.declared.canonical.CanonicalOption.TheVariants as option
 use Rattle.wcv_listing.specs.Canons.{option_of, canon_named, canon_of}
 use Rattle.wcv_listing.specs.Fields.{array_of}
-use Rattle.wcv_write.specs.Canons.{option_data, options_data, plain_name, lone_index, keyed_data, builtin_data, canon_data}
+use Rattle.wcv_write.specs.Canons.{option_data, options_data, builtin_data, canon_data}
 use Rattle.wcv_write.specs.Indices.{numbers}
 use Rattle.wcv_write.specs.Sayable.{SaysAll, SaysOption, SaysBuiltin, SaysCanon}
 use Rattle.wcv_write.proofs.FormsAgain.{value_again, core_value_again, list_again}
@@ -30,7 +30,7 @@ options_again : (os : List CanonicalOption) → SaysAll SaysOption os → array_
 options_again os h = list_again option_of (option_data numbers) SaysOption option_again os h
 
 builtin_again : (f : CanonicalFunction) → SaysBuiltin f → canon_of (builtin_data numbers f) ≡ Some (builtin f)
-unfolding builtin_data plain_name lone_index keyed_data canon_named canon_rows
+unfolding builtin_data canon_named canon_rows
 builtin_again canon.ThreadAvailableParallelism h = refl
 builtin_again canon.BackpressureInc h = refl
 builtin_again canon.BackpressureDec h = refl

@@ -1,10 +1,12 @@
 -- Canonical functions.
-use Rattle.std.specs.Prelude.{ℕ, List, Bool, Option, Some, None, codes}
+use Rattle.std.specs.Prelude.{ℕ, List, Bool, Option, codes}
 use Rattle.serde_json.specs.Data.{Data, null, string, object, no_members, member}
 use Rattle.wcv_core.specs.declared.core_types.ValType.{ValType}
-use Rattle.wcv_syntax.specs.Model.{Text, Canon_form, lift, lower, task_return, stream_read, stream_write, future_read, future_write, error_context_new, error_context_message, builtin}
+use Rattle.wcv_syntax.specs.CanonRows.{canon_name, operands_of}
+use Rattle.wcv_syntax.specs.Model.{Canon_form, lift, lower, task_return, stream_read, stream_write, future_read, future_write, error_context_new, error_context_message, builtin}
 use Rattle.wcv_syntax.specs.declared.canonical.CanonicalFunction.{CanonicalFunction}
-use Rattle.wcv_syntax.specs.declared.canonical.CanonicalFunction.TheVariants as canon
+use Rattle.wcv_syntax.specs.declared.canonical.CanonicalOperands.{CanonicalOperands}
+use Rattle.wcv_syntax.specs.declared.canonical.CanonicalOperands.TheVariants as shown
 use Rattle.wcv_syntax.specs.declared.canonical.CanonicalOption.{CanonicalOption}
 use Rattle.wcv_syntax.specs.declared.canonical.CanonicalOption.TheVariants as option
 use Rattle.wcv_syntax.specs.declared.component_type.ComponentValType.{ComponentValType}
@@ -12,7 +14,6 @@ use Rattle.wcv_write.specs.Core.{core_value_data}
 use Rattle.wcv_write.specs.Indices.{Indexing}
 use Rattle.wcv_write.specs.Json.{count, list_data, under, with_mark, with_optional}
 use Rattle.wcv_write.specs.Values.{value_data}
-use Rattle.wcv_write.specs.declared.indices.Space.{Space}
 use Rattle.wcv_write.specs.declared.indices.Space.TheVariants as space
 
 -- ## Options
@@ -57,44 +58,6 @@ context_data ix os = under (codes "options") (options_data ix os)
 
 -- ## Those without
 
--- the name of one without operands
-unfoldable pub plain_name : CanonicalFunction → Option Text
-plain_name canon.ThreadAvailableParallelism = Some (codes "thread.available-parallelism")
-plain_name canon.BackpressureInc = Some (codes "backpressure.inc")
-plain_name canon.BackpressureDec = Some (codes "backpressure.dec")
-plain_name canon.TaskCancel = Some (codes "task.cancel")
-plain_name canon.SubtaskDrop = Some (codes "subtask.drop")
-plain_name canon.ErrorContextDrop = Some (codes "error-context.drop")
-plain_name canon.WaitableSetNew = Some (codes "waitable-set.new")
-plain_name canon.WaitableSetDrop = Some (codes "waitable-set.drop")
-plain_name canon.WaitableJoin = Some (codes "waitable.join")
-plain_name canon.ThreadIndex = Some (codes "thread.index")
-plain_name canon.ThreadSuspend = Some (codes "thread.suspend")
-plain_name canon.ThreadResumeLater = Some (codes "thread.resume-later")
-plain_name canon.ThreadYield = Some (codes "thread.yield")
-plain_name canon.ThreadSuspendThenResume = Some (codes "thread.suspend-then-resume")
-plain_name canon.ThreadYieldThenResume = Some (codes "thread.yield-then-resume")
-plain_name canon.ThreadSuspendThenPromote = Some (codes "thread.suspend-then-promote")
-plain_name canon.ThreadYieldThenPromote = Some (codes "thread.yield-then-promote")
-plain_name _ = None
-
--- the name of one of an index alone, and the index with its space
-unfoldable pub lone_index : CanonicalFunction → Option (Text × (Space × ℕ))
-lone_index (canon.ResourceNew k) = Some (codes "resource.new", (space.Ty, k))
-lone_index (canon.ResourceDrop k) = Some (codes "resource.drop", (space.Ty, k))
-lone_index (canon.ResourceRep k) = Some (codes "resource.rep", (space.Ty, k))
-lone_index (canon.StreamNew k) = Some (codes "stream.new", (space.Ty, k))
-lone_index (canon.StreamForward k) = Some (codes "stream.forward", (space.Ty, k))
-lone_index (canon.StreamDropReadable k) = Some (codes "stream.drop-readable", (space.Ty, k))
-lone_index (canon.StreamDropWritable k) = Some (codes "stream.drop-writable", (space.Ty, k))
-lone_index (canon.FutureNew k) = Some (codes "future.new", (space.Ty, k))
-lone_index (canon.FutureForward k) = Some (codes "future.forward", (space.Ty, k))
-lone_index (canon.FutureDropReadable k) = Some (codes "future.drop-readable", (space.Ty, k))
-lone_index (canon.FutureDropWritable k) = Some (codes "future.drop-writable", (space.Ty, k))
-lone_index (canon.WaitableSetWait k) = Some (codes "waitable-set.wait", (space.CoreMemory, k))
-lone_index (canon.WaitableSetPoll k) = Some (codes "waitable-set.poll", (space.CoreMemory, k))
-lone_index _ = None
-
 -- {"slot": number, "type": core value type}
 abbrev pub slot_data : ValType → ℕ → Data
 slot_data v n = object (member (codes "slot") (count n) (member (codes "type") (core_value_data v) no_members))
@@ -111,27 +74,19 @@ async_data b = object (with_mark (codes "async") b no_members)
 abbrev pub cancel_data : Indexing → ℕ → Bool → Data
 cancel_data ix t b = object (with_mark (codes "async") b (member (codes "type") (ix space.Ty t) no_members))
 
--- one of operands by their keys; another is of no listing
-unfoldable pub keyed_data : Indexing → CanonicalFunction → Data
-keyed_data ix (canon.ContextGet v n) = under (codes "context.get") (slot_data v n)
-keyed_data ix (canon.ContextSet v n) = under (codes "context.set") (slot_data v n)
-keyed_data ix (canon.ThreadSpawnRef t) = under (codes "thread.spawn-ref") (under (codes "type") (ix space.CoreType t))
-keyed_data ix (canon.ThreadSpawnIndirect t n) = under (codes "thread.spawn-indirect") (indirect_data ix t n)
-keyed_data ix (canon.ThreadNewIndirect t n) = under (codes "thread.new-indirect") (indirect_data ix t n)
-keyed_data ix (canon.SubtaskCancel b) = under (codes "subtask.cancel") (async_data b)
-keyed_data ix (canon.StreamCancelRead t b) = under (codes "stream.cancel-read") (cancel_data ix t b)
-keyed_data ix (canon.StreamCancelWrite t b) = under (codes "stream.cancel-write") (cancel_data ix t b)
-keyed_data ix (canon.FutureCancelRead t b) = under (codes "future.cancel-read") (cancel_data ix t b)
-keyed_data ix (canon.FutureCancelWrite t b) = under (codes "future.cancel-write") (cancel_data ix t b)
-keyed_data ix _ = null
-
--- what is made of a part that is there, or the other
-abbrev pub if_there : {X : Type 0} → Option X → (X → Data) → Data → Data
-if_there None f other = other
-if_there (Some x) f other = f x
+-- an index as it is, others by their keys
+abbrev pub operands_data : Indexing → CanonicalOperands → Data
+operands_data ix shown.None = null
+operands_data ix (shown.Type k) = ix space.Ty k
+operands_data ix (shown.Memory k) = ix space.CoreMemory k
+operands_data ix (shown.CoreType t) = under (codes "type") (ix space.CoreType t)
+operands_data ix (shown.TypeAndTable t n) = indirect_data ix t n
+operands_data ix (shown.TypeAndSlot v n) = slot_data v n
+operands_data ix (shown.Async b) = async_data b
+operands_data ix (shown.TypeAndAsync t b) = cancel_data ix t b
 
 unfoldable pub builtin_data : Indexing → CanonicalFunction → Data
-builtin_data ix f = if_there (plain_name f) (λ name. under name null) (if_there (lone_index f) (λ s. under s.0 (ix s.1.0 s.1.1)) (keyed_data ix f))
+builtin_data ix f = under (canon_name f) (operands_data ix (operands_of f))
 
 -- ## Canonical functions
 

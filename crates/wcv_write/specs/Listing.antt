@@ -1,10 +1,9 @@
 -- The root of a listing of version 1.
 use Rattle.std.specs.Prelude.{ℕ, List, [], ◌∷◌, Option, if◌then◌else◌, codes}
 use Rattle.serde_json.specs.Data.{Data, string, array, object, Items, no_items, item, Members, no_members, member}
-use Rattle.wcv_core.specs.Features.{has_feature}
+use Rattle.wcv_core.specs.Features.{has_feature, feature_names}
 use Rattle.wcv_core.specs.declared.features.WasmFeatures.{WasmFeatures}
 use Rattle.wcv_syntax.specs.Model.{Text, Entry}
-use Rattle.wcv_listing.specs.Features.{feature_names}
 use Rattle.wcv_write.specs.Indices.{Indexing}
 use Rattle.wcv_write.specs.Items.{entry_data}
 use Rattle.wcv_write.specs.Json.{count, list_data, with_optional}

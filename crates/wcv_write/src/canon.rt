@@ -1,7 +1,7 @@
 // Canonical functions.
-ghost use Rattle.std.specs.Prelude.{◌++◌, ◌≡◌, OnOk, codes, option_map};
+ghost use Rattle.std.specs.Prelude.{◌++◌, ◌≡◌, OnOk, codes};
 ghost use Rattle.wcv_syntax.specs.View.{canon_view};
-ghost use Rattle.wcv_write.specs.Canons.{lift_data, lower_data, return_data, copying_data, context_data, plain_name, lone_index, slot_data, indirect_data, async_data, cancel_data, keyed_data, builtin_data, canon_data};
+ghost use Rattle.wcv_write.specs.Canons.{lift_data, lower_data, return_data, copying_data, context_data, slot_data, indirect_data, async_data, cancel_data, operands_data, builtin_data, canon_data};
 ghost use Rattle.serde_json.specs.Data.{null};
 ghost use Rattle.wcv_write.specs.Json.{tokens_of, under};
 ghost use Rattle.wcv_write.specs.declared.indices.Space.TheVariants.{CoreType};
@@ -14,7 +14,10 @@ use crate::output::Output;
 use crate::value::write_index_under;
 use std::alloc::AllocError;
 use wcv_core::ValType;
-use wcv_syntax::{CanonicalFunction, CanonicalOption, ComponentValType};
+use wcv_syntax::{
+    CanonicalFunction, CanonicalOperands, CanonicalOption, ComponentValType, canonical_name,
+    operands_of,
+};
 
 // Writes the operands of `lift`.
 fn write_lift<I: Indices>(
@@ -125,76 +128,6 @@ fn write_cancel<I: Indices>(
     out.end_object()
 }
 
-// The name of one without operands.
-#[tactic(auto, unfolding(crate::specs::Canons::plain_name))]
-fn name_of_plain(func: &CanonicalFunction) -> Option<&'static str>
-    ensures { option_map (λ name. name.now) result ≡ plain_name func.now }
-{
-    match func {
-        CanonicalFunction::ThreadAvailableParallelism => Some("thread.available-parallelism"),
-        CanonicalFunction::BackpressureInc => Some("backpressure.inc"),
-        CanonicalFunction::BackpressureDec => Some("backpressure.dec"),
-        CanonicalFunction::TaskCancel => Some("task.cancel"),
-        CanonicalFunction::SubtaskDrop => Some("subtask.drop"),
-        CanonicalFunction::ErrorContextDrop => Some("error-context.drop"),
-        CanonicalFunction::WaitableSetNew => Some("waitable-set.new"),
-        CanonicalFunction::WaitableSetDrop => Some("waitable-set.drop"),
-        CanonicalFunction::WaitableJoin => Some("waitable.join"),
-        CanonicalFunction::ThreadIndex => Some("thread.index"),
-        CanonicalFunction::ThreadSuspend => Some("thread.suspend"),
-        CanonicalFunction::ThreadResumeLater => Some("thread.resume-later"),
-        CanonicalFunction::ThreadYield => Some("thread.yield"),
-        CanonicalFunction::ThreadSuspendThenResume => Some("thread.suspend-then-resume"),
-        CanonicalFunction::ThreadYieldThenResume => Some("thread.yield-then-resume"),
-        CanonicalFunction::ThreadSuspendThenPromote => Some("thread.suspend-then-promote"),
-        CanonicalFunction::ThreadYieldThenPromote => Some("thread.yield-then-promote"),
-        _ => None,
-    }
-}
-
-// The name of one of an index alone, and the index with its space.
-#[tactic(auto, unfolding(crate::specs::Canons::lone_index))]
-fn index_of_lone(func: &CanonicalFunction) -> Option<(&'static str, (Space, u32))>
-    ensures { option_map (λ p. (p.0.now, (p.1.0, p.1.1))) result ≡ lone_index func.now }
-{
-    match func {
-        CanonicalFunction::ResourceNew { resource } => Some((
-            "resource.new",
-            (Space::Ty, *resource),
-        )),
-        CanonicalFunction::ResourceDrop { resource } => {
-            Some(("resource.drop", (Space::Ty, *resource)))
-        }
-        CanonicalFunction::ResourceRep { resource } => Some((
-            "resource.rep",
-            (Space::Ty, *resource),
-        )),
-        CanonicalFunction::StreamNew { ty } => Some(("stream.new", (Space::Ty, *ty))),
-        CanonicalFunction::StreamForward { ty } => Some(("stream.forward", (Space::Ty, *ty))),
-        CanonicalFunction::StreamDropReadable { ty } => {
-            Some(("stream.drop-readable", (Space::Ty, *ty)))
-        }
-        CanonicalFunction::StreamDropWritable { ty } => {
-            Some(("stream.drop-writable", (Space::Ty, *ty)))
-        }
-        CanonicalFunction::FutureNew { ty } => Some(("future.new", (Space::Ty, *ty))),
-        CanonicalFunction::FutureForward { ty } => Some(("future.forward", (Space::Ty, *ty))),
-        CanonicalFunction::FutureDropReadable { ty } => {
-            Some(("future.drop-readable", (Space::Ty, *ty)))
-        }
-        CanonicalFunction::FutureDropWritable { ty } => {
-            Some(("future.drop-writable", (Space::Ty, *ty)))
-        }
-        CanonicalFunction::WaitableSetWait { memory } => {
-            Some(("waitable-set.wait", (Space::CoreMemory, *memory)))
-        }
-        CanonicalFunction::WaitableSetPoll { memory } => {
-            Some(("waitable-set.poll", (Space::CoreMemory, *memory)))
-        }
-        _ => None,
-    }
-}
-
 // Writes null under a name.
 fn write_null_under(out: &mut Output, name: &str) -> Result<(), AllocError>
     ensures { OnOk result (out.new ≡ out.old ++ tokens_of (under name.now null)) }
@@ -275,49 +208,32 @@ fn write_core_type_under<I: Indices>(
     out.end_object()
 }
 
-// Writes one of operands by their keys.
-#[tactic(auto, unfolding(crate::specs::Canons::keyed_data))]
-fn write_keyed<I: Indices>(
+// Writes operands under a name.
+fn write_operands_under<I: Indices>(
     out: &mut Output,
     indices: &I,
-    func: &CanonicalFunction,
+    name: &str,
+    operands: CanonicalOperands,
 ) -> Result<(), AllocError>
-    ensures { OnOk result (out.new ≡ out.old ++ tokens_of (keyed_data (I.written indices.now) func.now)) }
+    ensures { OnOk result (out.new ≡ out.old ++ tokens_of (under name.now (operands_data (I.written indices.now) operands))) }
 {
-    match func {
-        CanonicalFunction::ContextGet { ty, slot } => {
-            write_slot_under(out, "context.get", ty, *slot)
+    match operands {
+        CanonicalOperands::None => write_null_under(out, name),
+        CanonicalOperands::Type(index) => {
+            write_index_under(out, indices, name, Space::Ty, index)
         }
-        CanonicalFunction::ContextSet { ty, slot } => {
-            write_slot_under(out, "context.set", ty, *slot)
+        CanonicalOperands::Memory(index) => {
+            write_index_under(out, indices, name, Space::CoreMemory, index)
         }
-        CanonicalFunction::ThreadSpawnRef { func_ty_index } => {
-            write_core_type_under(out, indices, "thread.spawn-ref", *func_ty_index)
+        CanonicalOperands::CoreType(ty) => write_core_type_under(out, indices, name, ty),
+        CanonicalOperands::TypeAndTable(ty, table) => {
+            write_indirect_under(out, indices, name, ty, table)
         }
-        CanonicalFunction::ThreadSpawnIndirect {
-            func_ty_index: ty,
-            table_index: table,
-        } => write_indirect_under(out, indices, "thread.spawn-indirect", *ty, *table),
-        CanonicalFunction::ThreadNewIndirect {
-            func_ty_index: ty,
-            table_index: table,
-        } => write_indirect_under(out, indices, "thread.new-indirect", *ty, *table),
-        CanonicalFunction::SubtaskCancel { async_ } => {
-            write_async_under(out, "subtask.cancel", *async_)
+        CanonicalOperands::TypeAndSlot(ty, slot) => write_slot_under(out, name, &ty, slot),
+        CanonicalOperands::Async(async_) => write_async_under(out, name, async_),
+        CanonicalOperands::TypeAndAsync(ty, async_) => {
+            write_cancel_under(out, indices, name, ty, async_)
         }
-        CanonicalFunction::StreamCancelRead { ty, async_ } => {
-            write_cancel_under(out, indices, "stream.cancel-read", *ty, *async_)
-        }
-        CanonicalFunction::StreamCancelWrite { ty, async_ } => {
-            write_cancel_under(out, indices, "stream.cancel-write", *ty, *async_)
-        }
-        CanonicalFunction::FutureCancelRead { ty, async_ } => {
-            write_cancel_under(out, indices, "future.cancel-read", *ty, *async_)
-        }
-        CanonicalFunction::FutureCancelWrite { ty, async_ } => {
-            write_cancel_under(out, indices, "future.cancel-write", *ty, *async_)
-        }
-        _ => out.null(),
     }
 }
 
@@ -330,13 +246,7 @@ fn write_builtin<I: Indices>(
 ) -> Result<(), AllocError>
     ensures { OnOk result (out.new ≡ out.old ++ tokens_of (builtin_data (I.written indices.now) func.now)) }
 {
-    if let Some(name) = name_of_plain(func) {
-        return write_null_under(out, name);
-    }
-    if let Some((name, (space, index))) = index_of_lone(func) {
-        return write_index_under(out, indices, name, space, index);
-    }
-    write_keyed(out, indices, func)
+    write_operands_under(out, indices, canonical_name(func), operands_of(func))
 }
 
 // Writes the operands of `lift` under its name.

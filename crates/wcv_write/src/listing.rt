@@ -15,8 +15,7 @@ use crate::list::write_list;
 use crate::output::Output;
 use bitflags::Flags;
 use std::alloc::{AllocError, Global};
-use wcv_core::{OutOfMemory, WasmFeatures};
-use wcv_listing::FEATURE_NAMES;
+use wcv_core::{FEATURE_NAMES, OutOfMemory, WasmFeatures};
 use wcv_syntax::Item;
 
 // Writes the name of a feature, where it is in the set.
