@@ -35,11 +35,11 @@ use Rattle.wcv_lower.specs.Trees.{Type_tree, tree_reader}
 use Rattle.wcv_lower.specs.Values.{type_at}
 use Rattle.wcv_flat.specs.Rows as row
 use Rattle.wcv_flat.specs.Rows.{Carrier_sort, of_stream, of_future}
-use Rattle.wcv_state.specs.Contents.{Contents, context_of, id_tree, StateStands}
-use Rattle.wcv_state.specs.Promises.{CausedBy, MemoryOrCausedBy}
-use Rattle.wcv_state.proofs.Calls.{caused_more}
-use Rattle.wcv_state.proofs.CoreItems.{missing_mapped}
-use Rattle.wcv_state.proofs.Found.{get_same, type_is}
+use Rattle.wcv_spaces.specs.Contents.{Contents, context_of, id_tree, StateStands}
+use Rattle.wcv_spaces.specs.Promises.{CausedBy, MemoryOrCausedBy}
+use Rattle.wcv_spaces.proofs.Calls.{caused_more}
+use Rattle.wcv_spaces.proofs.CoreItems.{missing_mapped}
+use Rattle.wcv_spaces.proofs.Found.{get_same, type_is}
 use Rattle.wcv_canon.specs.Operands.{asked}
 use Rattle.wcv_canon.specs.Carriers.{carrier_of, is_of_stream, is_of_future, value_of, IsPayload, Carries, Shows}
 use Rattle.wcv_canon.specs.declared.ask_types.Carrier.{Carrier}

@@ -45,13 +45,13 @@ use Rattle.wcv_lower.specs.Step.{Step, apply}
 use Rattle.wcv_lower.specs.Trees.{Tree_context, Tree_stack, tree_reader}
 use Rattle.wcv_lower.proofs.CanonOptionLaws.{memory_there}
 use Rattle.wcv_lower.proofs.ModulesMade.{said_free}
-use Rattle.wcv_state.specs.Contents.{Contents, context_of, stack_of, sides, names, spent, with_core as with_core_id, StateStands}
-use Rattle.wcv_state.specs.Promises.{MemoryOrCausedBy, Keeps, Grew}
-use Rattle.wcv_state.proofs.Calls.{caused_more}
-use Rattle.wcv_state.proofs.Keeping.{state_stands, keeps_grown, keeps_marked, keeps_trans, keeps_with_core, with_core_context, entries_refl, no_more}
+use Rattle.wcv_spaces.specs.Contents.{Contents, context_of, stack_of, sides, names, spent, with_core as with_core_id, StateStands}
+use Rattle.wcv_spaces.specs.Promises.{MemoryOrCausedBy, Keeps, Grew}
+use Rattle.wcv_spaces.proofs.Calls.{caused_more}
+use Rattle.wcv_spaces.proofs.Keeping.{state_stands, keeps_grown, keeps_marked, keeps_trans, keeps_with_core, with_core_context, entries_refl, no_more}
 use Rattle.wcv_state.proofs.Stacks.{none_made}
 use Rattle.wcv_canon.specs.Facts.{row_facts, with_slots, slots_said, early_checks}
-use Rattle.wcv_canon.specs.Operands.{is_lift}
+use Rattle.wcv_flat.specs.CodeRows.{is_lift}
 use Rattle.wcv_canon.proofs.KnownFacts.{form_plain, row_known}
 use Rattle.wcv_canon.proofs.PlainForms.{IsPlainForm, form_stays, form_free, form_closable}
 use Rattle.wcv_canon.proofs.RowForms.{form_here, checks_here, form_there, found_stands}

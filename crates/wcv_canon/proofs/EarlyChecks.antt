@@ -12,9 +12,9 @@ use Rattle.wcv_lower.specs.Canons.{options_in, appends_found}
 use Rattle.wcv_lower.specs.Checks.{Checks, IsFree, if_found, no_room}
 use Rattle.wcv_lower.specs.Context.{counts}
 use Rattle.wcv_lower.specs.Trees.{Tree_context}
-use Rattle.wcv_state.specs.Contents.{Contents, context_of, stack_of}
-use Rattle.wcv_state.specs.Promises.{MemoryOrCausedBy}
-use Rattle.wcv_state.proofs.Calls.{caused_more}
+use Rattle.wcv_spaces.specs.Contents.{Contents, context_of, stack_of}
+use Rattle.wcv_spaces.specs.Promises.{MemoryOrCausedBy}
+use Rattle.wcv_spaces.proofs.Calls.{caused_more}
 use Rattle.wcv_canon.specs.Facts.{early_checks}
 use Rattle.wcv_canon.specs.Operands.{operand_checks}
 

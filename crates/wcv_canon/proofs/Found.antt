@@ -53,15 +53,16 @@ use Rattle.wcv_lower.specs.Outlines.{outline, is_async_func}
 use Rattle.wcv_lower.specs.Readers.{if_sort}
 use Rattle.wcv_lower.specs.Trees.{Type_tree, Tree_context, tree_reader, referenced}
 use Rattle.wcv_lower.specs.Types.{takes_and_gives}
-use Rattle.wcv_lower.specs.Values.{cm64, type_at, type_of_sort, sort_checks}
-use Rattle.wcv_state.specs.Contents.{Contents, IdStands, context_of, id_tree, defined_resource, core_entries_of, StateStands}
-use Rattle.wcv_state.specs.Looking.{any_sort, any_resource, core_item_in, rep_of, resource_in, local_rep, local_rep_checks}
-use Rattle.wcv_state.specs.Promises.{MemoryOrCausedBy}
-use Rattle.wcv_state.proofs.Calls.{caused_more}
-use Rattle.wcv_state.proofs.CoreItems.{item_tree, item_here, missing_mapped}
+use Rattle.wcv_core.specs.Features.{cm64}
+use Rattle.wcv_lower.specs.Values.{type_at, type_of_sort, sort_checks}
+use Rattle.wcv_spaces.specs.Contents.{Contents, IdStands, context_of, id_tree, defined_resource, core_entries_of, StateStands}
+use Rattle.wcv_spaces.specs.Looking.{any_sort, any_resource, core_item_in, rep_of, resource_in, local_rep, local_rep_checks}
+use Rattle.wcv_spaces.specs.Promises.{MemoryOrCausedBy}
+use Rattle.wcv_spaces.proofs.Calls.{caused_more}
+use Rattle.wcv_spaces.proofs.CoreItems.{item_tree, item_here, missing_mapped}
 use Rattle.wcv_state.proofs.CoreTypes.{entries_same, entries_known}
-use Rattle.wcv_state.proofs.Found.{get_same, stands_at, sorts_same, type_is}
-use Rattle.wcv_state.proofs.Keeping.{all_at}
+use Rattle.wcv_spaces.proofs.Found.{get_same, stands_at, sorts_same, type_is}
+use Rattle.wcv_spaces.proofs.Keeping.{all_at}
 use Rattle.wcv_canon.specs.Operands.{asked}
 use Rattle.wcv_canon.proofs.OptionLists.{or_false}
 

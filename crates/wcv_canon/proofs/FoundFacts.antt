@@ -41,10 +41,10 @@ use Rattle.wcv_lower.specs.CoreInstances.{test_found}
 use Rattle.wcv_lower.specs.Readers.{if_sort}
 use Rattle.wcv_lower.specs.Trees.{Tree_context, tree_reader}
 use Rattle.wcv_lower.specs.Values.{option_entry}
-use Rattle.wcv_state.specs.Contents.{Contents, IdStands, StateStands, context_of, stack_of, core_entry_of, defined_resource, id_tree}
-use Rattle.wcv_state.specs.Looking.{any_sort, any_resource, rep_of, local_rep_checks}
+use Rattle.wcv_spaces.specs.Contents.{Contents, IdStands, StateStands, context_of, stack_of, core_entry_of, defined_resource, id_tree}
+use Rattle.wcv_spaces.specs.Looking.{any_sort, any_resource, rep_of, local_rep_checks}
 use Rattle.wcv_state.proofs.CoreTypes.{entries_same}
-use Rattle.wcv_state.proofs.Found.{get_same, stands_at}
+use Rattle.wcv_spaces.proofs.Found.{get_same, stands_at}
 use Rattle.wcv_canon.specs.Facts.{rep_at, pointers_at, sub_id, id_at, told_in, all_told_in, defined_value, result_at}
 use Rattle.wcv_canon.proofs.Found.{memory_here, table_here}
 use Rattle.wcv_canon.proofs.OptionLists.{or_false}

@@ -46,10 +46,11 @@ use Rattle.wcv_lower.specs.Context.{core_types}
 use Rattle.wcv_lower.specs.CoreInstances.{test_found}
 use Rattle.wcv_lower.specs.Trees.{Tree_context, Tree_stack, Type_tree, tree_reader}
 use Rattle.wcv_lower.specs.Types.{same_vals, form_takes_and_gives}
-use Rattle.wcv_lower.specs.Values.{cm64, cm_threading, has_feature, option_entry}
-use Rattle.wcv_state.specs.Contents.{Contents, CoreIdStands, StateStands, is_number, context_of, stack_of}
-use Rattle.wcv_state.specs.Looking.{any_resource, rep_of}
-use Rattle.wcv_state.proofs.Found.{core_stands_at}
+use Rattle.wcv_core.specs.Features.{cm64, cm_threading}
+use Rattle.wcv_lower.specs.Values.{has_feature, option_entry}
+use Rattle.wcv_spaces.specs.Contents.{Contents, CoreIdStands, StateStands, is_number, context_of, stack_of}
+use Rattle.wcv_spaces.specs.Looking.{any_resource, rep_of}
+use Rattle.wcv_spaces.proofs.Found.{core_stands_at}
 use Rattle.wcv_canon.specs.Facts.{rep_at, id_at, sub_id, param_at, told_in, all_told_in, function_at, row_facts}
 use Rattle.wcv_canon.proofs.FoundFacts.{id_here}
 use Rattle.wcv_canon.proofs.RowForms.{words_here}
@@ -233,7 +234,7 @@ module _ (a : Arena) (s : Contents) (h : StateStands a s) (outer : List Tree_con
       let known : Known n x = facts_known f r in
       (All-map (IsPlain n) (word_type x) (params_of q) (words_plain n x known (params_of q) p.0), All-map (IsPlain n) (word_type x) (results_of q) (words_plain n x known (results_of q) p.1))
 
-  -- so of each function
+  -- the core type of each function has plain values
   by_plain : (f : Canon_form) (q : Appends) → IsPlainForm (total a.core) (words_form (row_facts a s f) q) → (w : CompositeForm) → row_form (stack_of a s outer) f q ≡ Some w → IsPlainForm (total a.core) w
   by_plain f (row.core_func ps rs) p w e = subst (IsPlainForm (total a.core)) (words_here a s h outer f (row.core_func ps rs) ∙ some-inj e) p
   by_plain f (row.shared_func ps rs) p w e = subst (IsPlainForm (total a.core)) (words_here a s h outer f (row.shared_func ps rs) ∙ some-inj e) p

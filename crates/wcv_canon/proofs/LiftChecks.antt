@@ -48,16 +48,17 @@ use Rattle.wcv_lower.specs.Outlines.{is_async_func}
 use Rattle.wcv_lower.specs.Readers.{if_sort}
 use Rattle.wcv_lower.specs.Step.{Step, apply}
 use Rattle.wcv_lower.specs.Trees.{Tree_context, Tree_stack, tree_reader}
-use Rattle.wcv_lower.specs.Values.{cm_async_stackful, type_of_sort, sort_checks}
+use Rattle.wcv_core.specs.Features.{cm_async_stackful}
+use Rattle.wcv_lower.specs.Values.{type_of_sort, sort_checks}
 use Rattle.wcv_lower.proofs.Appended.{func_appended, lifted_outline, lifted_asks_outline}
 use Rattle.wcv_lower.proofs.CanonLaws.{canon_does}
-use Rattle.wcv_state.specs.Contents.{Contents, StateStands, with_id, context_of, stack_of, id_tree}
-use Rattle.wcv_state.specs.Looking.{any_sort}
-use Rattle.wcv_state.specs.Promises.{MemoryOrCausedBy, Keeps, Grew}
-use Rattle.wcv_state.proofs.Calls.{caused_more}
-use Rattle.wcv_state.proofs.CoreItems.{item_tree, item_here, missing_mapped}
-use Rattle.wcv_state.proofs.Found.{get_same, sorts_same, stands_at}
-use Rattle.wcv_state.proofs.Keeping.{keeps_with_id, with_id_context}
+use Rattle.wcv_spaces.specs.Contents.{Contents, StateStands, with_id, context_of, stack_of, id_tree}
+use Rattle.wcv_spaces.specs.Looking.{any_sort}
+use Rattle.wcv_spaces.specs.Promises.{MemoryOrCausedBy, Keeps, Grew}
+use Rattle.wcv_spaces.proofs.Calls.{caused_more}
+use Rattle.wcv_spaces.proofs.CoreItems.{item_tree, item_here, missing_mapped}
+use Rattle.wcv_spaces.proofs.Found.{get_same, sorts_same, stands_at}
+use Rattle.wcv_spaces.proofs.Keeping.{keeps_with_id, with_id_context}
 use Rattle.wcv_state.proofs.Stacks.{none_made}
 use Rattle.wcv_canon.specs.Lifting.{async_checks, post_checks}
 use Rattle.wcv_canon.proofs.CoreJoined.{id_within}

@@ -11,9 +11,9 @@ use Rattle.wcv_types.specs.Arena.{Arena}
 use Rattle.wcv_lower.specs.CanonOptions.{option_found, option_rules, list_rules, pointer_of, options_checks}
 use Rattle.wcv_lower.specs.Checks.{Checks, Cause, IsFree}
 use Rattle.wcv_lower.specs.Trees.{Tree_context}
-use Rattle.wcv_state.specs.Contents.{Contents, context_of, stack_of}
-use Rattle.wcv_state.specs.Promises.{MemoryOrCausedBy}
-use Rattle.wcv_state.proofs.Calls.{caused_more}
+use Rattle.wcv_spaces.specs.Contents.{Contents, context_of, stack_of}
+use Rattle.wcv_spaces.specs.Promises.{MemoryOrCausedBy}
+use Rattle.wcv_spaces.proofs.Calls.{caused_more}
 use Rattle.wcv_canon.specs.Options.{option_asked}
 use Rattle.wcv_canon.proofs.Rows.{free_pairs, cause_pairs, all_same}
 

@@ -7,9 +7,9 @@ use Rattle.wcv_types.specs.Arena.{Arena}
 use Rattle.wcv_lower.specs.Canons.{canon_checks}
 use Rattle.wcv_lower.specs.Given.{none_given}
 use Rattle.wcv_lower.specs.Trees.{Tree_context}
-use Rattle.wcv_state.specs.Contents.{Contents, spent, stack_of}
-use Rattle.wcv_state.specs.Promises.{MemoryOrCausedBy, Keeps, Refuses}
-use Rattle.wcv_state.proofs.Keeping.{keeps_marked, keeps_trans}
+use Rattle.wcv_spaces.specs.Contents.{Contents, spent, stack_of}
+use Rattle.wcv_spaces.specs.Promises.{MemoryOrCausedBy, Keeps, Refuses}
+use Rattle.wcv_spaces.proofs.Keeping.{keeps_marked, keeps_trans}
 use Rattle.wcv_state.proofs.Stacks.{none_made}
 
 pub canon_refused : {M : Type 0} (a b : Arena) (s s' : Contents) (f : Canon_form) (offset : ℕ) (e : Error M) → s'.spent ≡ true → ((outer : List Tree_context) → MemoryOrCausedBy (canon_checks s.features (stack_of a s outer) f) offset e) →

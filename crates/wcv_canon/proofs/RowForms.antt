@@ -34,10 +34,10 @@ use Rattle.wcv_lower.specs.Trees.{Tree_context, Tree_stack, tree_reader}
 use Rattle.wcv_lower.specs.Values.{type_at, option_entry}
 use Rattle.wcv_lower.proofs.Appended.{lowered_outline, returning_outline, lowered_asks_outline, returning_asks_outline}
 use Rattle.wcv_lower.proofs.ValueLaws.{found_there, found_of, mapped}
-use Rattle.wcv_state.specs.Contents.{Contents, IdStands, StateStands, context_of, stack_of, id_tree}
-use Rattle.wcv_state.proofs.Found.{get_same, stands_at}
+use Rattle.wcv_spaces.specs.Contents.{Contents, IdStands, StateStands, context_of, stack_of, id_tree}
+use Rattle.wcv_spaces.proofs.Found.{get_same, stands_at}
 use Rattle.wcv_canon.specs.Facts.{told_in, all_told_in, defined_value, result_at, function_at, row_facts}
-use Rattle.wcv_canon.specs.Operands.{is_lift}
+use Rattle.wcv_flat.specs.CodeRows.{is_lift}
 use Rattle.wcv_canon.proofs.FoundFacts.{all_told_here, result_here}
 
 -- ## Facts without the function
@@ -174,7 +174,7 @@ module _ (a : Arena) (s : Contents) (h : StateStands a s) (outer : List Tree_con
   no_checks f (row.returning r) e = absurd (false≢true e)
   no_checks f (row.lifted t) e = absurd (false≢true e)
 
-  -- so what it asks of the options, where nothing is lifted
+  -- what the function asks of the options, where nothing is lifted
   pub checks_here : (f : Canon_form) → is_lift f ≡ false → SameChecks f (canon_row f).appends
   checks_here (form.lift k t os) e = absurd (false≢true (sym e))
   checks_here (form.lower k os) e = func_checks (options_read Here os) k

@@ -1,24 +1,28 @@
 -- Rows that are looked at one ask after the other: what is asked looks at no context further out.
-use Rattle.std.proofs.Common.{◌≡◌, ◌<◌, ℕ, List, [], ◌∷◌, ◌++◌, map, length, get_or, refl, sym, arith, subst, inl, inr, ⊎_elim}
-use Rattle.std.specs.Prelude.{◌⊎◌}
+use Rattle.std.proofs.Common.{◌≡◌, ◌<◌, ℕ, List, [], ◌∷◌, ◌++◌, length, get_or, refl, ap, ◌∙◌, subst, inl, inr, ⊎_elim, Some, None}
+use Rattle.std.specs.Prelude.{◌⊎◌, Option}
+use Rattle.std.specs.Option.{unwrap_or}
 use Rattle.wcv_core.specs.Checks.{all_checks}
 use Rattle.wcv_core.specs.Refusal.{error_kind}
 use Rattle.wcv_core.specs.declared.error.Error.{Error}
 use Rattle.wcv_core.specs.declared.error.ErrorKind.{ErrorKind}
 use Rattle.wcv_core.proofs.Causes.{cause_left, cause_right, cause_either, free_both, free_left, free_right}
 use Rattle.wcv_core.proofs.Closing.{caused_at}
-use Rattle.wcv_core.proofs.Rowing.{length-map, get_or-map}
 use Rattle.wcv_syntax.specs.Model.{Canon_form}
+use Rattle.wcv_syntax.specs.declared.canonical.CanonicalOption.{CanonicalOption}
 use Rattle.wcv_types.specs.Arena.{Arena}
+use Rattle.wcv_flat.specs.CodeRows.{ask_of, there, row_view}
 use Rattle.wcv_flat.specs.Rows as row
-use Rattle.wcv_flat.specs.Rows.{canon_row}
+use Rattle.wcv_flat.specs.Rows.{canon_row, options_in}
+use Rattle.wcv_flat.specs.declared.canon_rows.Ask.{Ask}
+use Rattle.wcv_flat.specs.declared.canon_rows.Row.{Row}
 use Rattle.wcv_lower.specs.Canons.{ask_found, ask_rules}
 use Rattle.wcv_lower.specs.Checks.{Checks, Cause, IsFree}
 use Rattle.wcv_lower.specs.Trees.{Tree_context}
-use Rattle.wcv_state.specs.Contents.{Contents, stack_of}
-use Rattle.wcv_state.specs.Promises.{MemoryOrCausedBy}
-use Rattle.wcv_state.proofs.Calls.{caused_more}
-use Rattle.wcv_canon.specs.Operands.{operand_checks, asked, row_asked}
+use Rattle.wcv_spaces.specs.Contents.{Contents, stack_of}
+use Rattle.wcv_spaces.specs.Promises.{MemoryOrCausedBy}
+use Rattle.wcv_spaces.proofs.Calls.{caused_more}
+use Rattle.wcv_canon.specs.Operands.{operand_checks, asked, row_asked, asked_option}
 
 -- ## Two lists of checks, over the elements of a list
 
@@ -49,7 +53,7 @@ module _ {A : Type 0} (f g : A → Checks) where
       go rest (inl d) = here (cause_either (f x) (g x) k d)
       go rest (inr d) = behind (rest d)
 
-  -- so of both lists as one
+  -- both lists are free of causes as one
   pub free_joined : (xs : List A) → IsFree (all_checks one xs) → IsFree (all_checks f xs ++ all_checks g xs)
   free_joined xs h = let p = free_pairs xs h in free_both (all_checks f xs) (all_checks g xs) p.0 p.1
 
@@ -74,7 +78,7 @@ module _ (a : Arena) (s : Contents) (outer : List Tree_context) where
   asked_same (row.more_where b) = refl
   asked_same (row.more_without_async os) = refl
   asked_same (row.bars ns os) = refl
-  asked_same (row.needs n w os) = refl
+  asked_same (row.has_to_stand n w os) = refl
   asked_same (row.async_func k os) = refl
   asked_same (row.resource_at k) = refl
   asked_same (row.local_resource_at k) = refl
@@ -100,12 +104,22 @@ module _ (a : Arena) (s : Contents) (outer : List Tree_context) where
       caused_more (row_asked a s f) (operand_checks s.features (stack_of a s outer) f) offset e
       (λ c. cause_joined found rules (canon_row f).asks (error_kind e) (subst (λ (cs : Checks). Cause cs (error_kind e)) (row_same (canon_row f).asks) c)) t
 
+-- ## As the code has them
+
+-- what is asked where something is, and of those that are there alone
+there_checks : (a : Arena) (s : Contents) (os : List CanonicalOption) (qs : List (Option Ask)) → all_checks (asked_option a s os) qs ≡ all_checks (asked a s) (there (ask_of os) qs)
+there_checks a s os [] = refl
+there_checks a s os (None ∷ qs) = there_checks a s os qs
+there_checks a s os (Some q ∷ qs) = ap (λ (cs : Checks). asked a s (ask_of os q) ++ cs) (there_checks a s os qs)
+
+pub asks_row : (a : Arena) (s : Contents) (os : List CanonicalOption) (r : Row) (f : Canon_form) → os ≡ unwrap_or (options_in f) [] → row_view (unwrap_or (options_in f) []) r ≡ canon_row f → all_checks (asked_option a s os) r.asks ≡ row_asked a s f
+asks_row a s os r f e h =
+    there_checks a s os r.asks
+    ∙ ap (λ (opts : List CanonicalOption). all_checks (asked a s) (row_view opts r).asks) e
+    ∙ ap (λ (x : row.Row). all_checks (asked a s) x.asks) h
+
 -- ## One of a list
 
 pub one_caused : {M : Type 0} {A : Type 0} (f : A → Checks) (xs : List A) (i : ℕ) (x : A) (offset : ℕ) (e : Error M) → i < length xs → MemoryOrCausedBy (f (get_or xs i x)) offset e → MemoryOrCausedBy (all_checks f xs) offset e
 one_caused f xs i x offset e h (inl m) = inl m
 one_caused f xs i x offset e h (inr t) = inr (caused_at f xs i x offset e h t)
-
--- so where the elements are views
-pub one_caused_mapped : {M : Type 0} {A B : Type 0} (v : A → B) (f : B → Checks) (xs : List A) (i : ℕ) (x : A) (offset : ℕ) (e : Error M) → i < length xs → MemoryOrCausedBy (f (v (get_or xs i x))) offset e → MemoryOrCausedBy (all_checks f (map v xs)) offset e
-one_caused_mapped v f xs i x offset e h t = one_caused f (map v xs) i (v x) offset e (omega (arith, length-map v xs)) (subst (λ y. MemoryOrCausedBy (f y) offset e) (sym (get_or-map v xs i x)) t)

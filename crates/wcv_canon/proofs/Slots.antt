@@ -17,10 +17,10 @@ use Rattle.wcv_lower.specs.Canons.{slot_type_checks}
 use Rattle.wcv_lower.specs.Checks.{Checks, Cause}
 use Rattle.wcv_lower.specs.CoreInstances.{test_found}
 use Rattle.wcv_lower.specs.CoreItems.{core_entries}
-use Rattle.wcv_lower.specs.Values.{cm_threading}
-use Rattle.wcv_state.specs.Contents.{Contents, context_of}
-use Rattle.wcv_state.specs.Promises.{MemoryOrCausedBy}
-use Rattle.wcv_state.proofs.Calls.{caused_more}
+use Rattle.wcv_core.specs.Features.{cm_threading}
+use Rattle.wcv_spaces.specs.Contents.{Contents, context_of}
+use Rattle.wcv_spaces.specs.Promises.{MemoryOrCausedBy}
+use Rattle.wcv_spaces.proofs.Calls.{caused_more}
 use Rattle.wcv_canon.specs.Operands.{asked}
 
 inside : (xs ys zs more : Checks) (k : ErrorKind) → Cause (xs ++ (ys ++ zs)) k → Cause (xs ++ (ys ++ (zs ++ more))) k

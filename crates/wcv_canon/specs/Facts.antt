@@ -28,8 +28,8 @@ use Rattle.wcv_lower.specs.Checks.{Checks, if_found, no_room}
 use Rattle.wcv_lower.specs.Context.{Stack, counts}
 use Rattle.wcv_lower.specs.CoreInstances.{test_found}
 use Rattle.wcv_lower.specs.Readers.{Reader}
-use Rattle.wcv_state.specs.Contents.{Contents, context_of}
-use Rattle.wcv_state.specs.Looking as looking
+use Rattle.wcv_spaces.specs.Contents.{Contents, context_of}
+use Rattle.wcv_spaces.specs.Looking as looking
 use Rattle.wcv_canon.specs.Operands.{operand_checks}
 
 -- ## What stands at an index

@@ -12,8 +12,8 @@ use Rattle.wcv_flat.specs.Options.{is_async, callback_of}
 use Rattle.wcv_flat.specs.declared.options.Concurrency.{Concurrency}
 use Rattle.wcv_lower.specs.Canons.{is_no_post_return}
 use Rattle.wcv_lower.specs.CoreInstances.{test_found}
-use Rattle.wcv_lower.specs.Values.{cm_async_stackful}
-use Rattle.wcv_state.specs.Contents.{SpaceLists}
+use Rattle.wcv_core.specs.Features.{cm_async_stackful}
+use Rattle.wcv_spaces.specs.Contents.{SpaceLists}
 
 -- `async` stands where a function type is not async, or without `callback` and its feature
 abbrev pub async_checks : WasmFeatures → Concurrency → Bool → Checks

@@ -6,16 +6,7 @@ use Rattle.wcv_types.specs.Arena.{Arena}
 use Rattle.wcv_flat.specs.Rows.{Option_name, memory_option, realloc_option, post_return_option, async_option, callback_option}
 use Rattle.wcv_lower.specs.CanonOptions.{memory_in, realloc_in, post_return_in, callback_in, option_found, option_rules}
 use Rattle.wcv_lower.specs.Checks.{Checks}
-use Rattle.wcv_state.specs.Contents.{Contents, context_of, stack_of}
-use Rattle.wcv_canon.specs.declared.lists.OptionName.{OptionName}
-use Rattle.wcv_canon.specs.declared.lists.OptionName.TheVariants as name
-
-abbrev pub name_of : OptionName → Option_name
-name_of name.Memory = memory_option
-name_of name.Realloc = realloc_option
-name_of name.PostReturn = post_return_option
-name_of name.Async = async_option
-name_of name.Callback = callback_option
+use Rattle.wcv_spaces.specs.Contents.{Contents, context_of, stack_of}
 
 -- the index that an option has under a name
 abbrev pub index_in : Option_name → CanonicalOption → Option ℕ

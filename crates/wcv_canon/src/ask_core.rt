@@ -13,10 +13,10 @@ ghost use Rattle.wcv_lower.specs.Canons.{slot_type_checks};
 ghost use Rattle.wcv_lower.specs.Checks.{IsFree};
 ghost use Rattle.wcv_lower.specs.CoreInstances.{test_found};
 ghost use Rattle.wcv_lower.specs.CoreItems.{core_entries};
-ghost use Rattle.wcv_lower.specs.Values.{cm_threading};
+ghost use Rattle.wcv_core.specs.Features.{cm_threading};
 ghost use Rattle.wcv_flat.specs.Rows as row;
-ghost use Rattle.wcv_state.specs.Contents.{StateStands, context_of};
-ghost use Rattle.wcv_state.specs.Promises.{MemoryOrCausedBy};
+ghost use Rattle.wcv_spaces.specs.Contents.{StateStands, context_of};
+ghost use Rattle.wcv_spaces.specs.Promises.{MemoryOrCausedBy};
 ghost use Rattle.wcv_canon.specs.Operands.{asked};
 
 use crate::items::{require, takes_and_gives};
@@ -47,7 +47,7 @@ fn is_spawned(ty: &SubType) -> bool
     ty.shared && takes_and_gives(ty, &[ValType::I32], &[])
 }
 
-/// So of the one at the index.
+/// Whether the core type at the index is one of functions that are spawned.
 pub fn check_spawn_type(
     index: u32,
     state: &ComponentState,
@@ -78,7 +78,7 @@ fn takes_64_bits(ty: &SubType) -> bool
     takes_and_gives(ty, &[ValType::I64], &[])
 }
 
-/// Whether it is one of functions that start a thread.
+/// Whether a core type is one of functions that start a thread.
 fn is_start(ty: &SubType, features: &WasmFeatures) -> bool
     ensures { result ≡ spec.is_start features.now (sub_form ty.now) }
 {
@@ -86,7 +86,7 @@ fn is_start(ty: &SubType, features: &WasmFeatures) -> bool
         || takes_64_bits(ty) && features.contains(WasmFeatures::CM64)
 }
 
-/// So of the core type at the index.
+/// Whether the core type at the index is one of functions that start a thread.
 pub fn check_start_type(
     index: u32,
     state: &ComponentState,
@@ -102,9 +102,10 @@ pub fn check_start_type(
     if is_start(ty, state.features()) {
         return Ok(());
     }
+    let feature = WasmFeatures::CM64.name();
     Err(other(
         format_args!(
-            "core type {index} has to be a function that takes i32, or i64 with the feature `cm64`, and gives nothing, and is {ty}"
+            "core type {index} has to be a function that takes i32, or i64 with the feature `{feature}`, and gives nothing, and is {ty}"
         ),
         offset,
     ))
@@ -122,14 +123,14 @@ fn is_func_table(shared: bool, ty: &TableType) -> bool
     ty.shared == shared && same_val(ValType::Ref(ty.element_type), ValType::Ref(element))
 }
 
-/// Whether it is one of functions that are spawned.
+/// Whether a table is one of functions that are spawned.
 fn is_spawn_table(ty: &TableType) -> bool
     ensures { result ≡ spec.is_spawn_table ty.now }
 {
     is_func_table(true, ty) && !ty.table64
 }
 
-/// So of the table at the index.
+/// Whether the table at the index is one of functions that are spawned.
 pub fn check_spawn_table(
     index: u32,
     state: &ComponentState,

@@ -12,17 +12,18 @@ ghost use Rattle.wcv_lower.specs.Outlines.{outline, is_async_func};
 ghost use Rattle.wcv_lower.specs.Trees.{Type_tree};
 ghost use Rattle.wcv_lower.specs.Values.{type_at};
 ghost use Rattle.wcv_flat.specs.Rows as row;
-ghost use Rattle.wcv_state.specs.Contents.{StateStands, context_of};
-ghost use Rattle.wcv_state.specs.Promises.{CausedBy, MemoryOrCausedBy};
-ghost use Rattle.wcv_canon.specs.Operands.{asked, carrier_sort, needed};
+ghost use Rattle.wcv_spaces.specs.Contents.{StateStands, context_of};
+ghost use Rattle.wcv_spaces.specs.Promises.{CausedBy, MemoryOrCausedBy};
+ghost use Rattle.wcv_flat.specs.CodeRows.{carrier_sort, needed};
+ghost use Rattle.wcv_canon.specs.Operands.{asked};
 ghost use Rattle.wcv_canon.specs.Carriers as carriers;
 ghost use Rattle.wcv_canon.specs.Carriers.{Carries, Shows};
 
-use crate::ask::{CarrierSort, Needed};
 use crate::items::require;
-use crate::lists::{OptionName, stands};
+use crate::lists::stands;
 use crate::options::refused;
 use wcv_core::{Error, ErrorKind, PrimitiveValType, Refusal, WasmFeatures, Why};
+use wcv_flat::{CarrierSort, Needed, OptionName};
 use wcv_state::ComponentState;
 use wcv_syntax::{CanonicalOption, ComponentValType as Written};
 use wcv_types::{ComponentAnyTypeId, ComponentDefinedType, ComponentValType, TypeAlloc};
@@ -60,7 +61,7 @@ impl Carrier {
     }
 }
 
-/// What a defined type is of these.
+/// Whether a defined type is a stream or a future, and of what.
 fn carrier_of(ty: &ComponentDefinedType) -> Carrier
     ensures { result ≡ carriers.carrier_of ty.now }
 {
@@ -71,7 +72,7 @@ fn carrier_of(ty: &ComponentDefinedType) -> Carrier
     }
 }
 
-/// What a type is of these.
+/// Whether a type is a stream or a future, and of what.
 #[tactic(auto, using(crate::proofs::Carriers::other_shows))]
 fn carrier_of_type(id: ComponentAnyTypeId, types: &TypeAlloc) -> Carrier
     requires stands { Stands types.now (any_part id) }
@@ -83,7 +84,7 @@ fn carrier_of_type(id: ComponentAnyTypeId, types: &TypeAlloc) -> Carrier
     }
 }
 
-/// What the type at the index is of these.
+/// Whether the type at the index is a stream or a future, and of what.
 fn carrier_at(
     index: u32,
     state: &ComponentState,
@@ -226,7 +227,7 @@ pub fn check_resource(
     Ok(())
 }
 
-/// Whether one stands there that the component defines, with a representation.
+/// Whether a resource stands at the index that the component defines, with a representation.
 pub fn check_local_resource(
     index: u32,
     state: &ComponentState,
@@ -271,7 +272,7 @@ fn check_result_type(
     Ok(())
 }
 
-/// Whether none stands in the result of a task.
+/// Whether no borrowed handle stands in the result of a task.
 pub fn check_result(
     ty: Option<Written>,
     state: &ComponentState,

@@ -1,256 +1,188 @@
-// What rows of canonical functions ask of their operands.
-ghost use Rattle.std.specs.Prelude.{◌≡◌, List, false, OnOk, IfErr};
-ghost use Rattle.wcv_syntax.specs.Model.{builtin};
+// What a row asks of the operands of a canonical function.
+ghost use Rattle.std.specs.Prelude.{◌≡◌, ◌∷◌, [], false, List, map, is_some, OnOk, IfErr};
+ghost use Rattle.std.specs.List.{list_any};
+ghost use Rattle.wcv_core.specs.Checks.{all_checks};
+ghost use Rattle.wcv_core.specs.declared.error.ErrorKind.TheVariants as kinds;
 ghost use Rattle.wcv_syntax.specs.View.{canon_view};
+ghost use Rattle.wcv_flat.specs.CodeRows.{name_of, barred, needed, ask_of, is_lift};
+ghost use Rattle.wcv_lower.specs.CanonOptions as spec;
 ghost use Rattle.wcv_lower.specs.Checks.{IsFree};
 ghost use Rattle.wcv_lower.specs.Trees.{Tree_context};
-ghost use Rattle.wcv_state.specs.Contents.{StateStands, stack_of};
-ghost use Rattle.wcv_state.specs.Promises.{MemoryOrCausedBy};
-ghost use Rattle.wcv_canon.specs.Operands.{operand_checks, row_asked, is_lift};
+ghost use Rattle.wcv_spaces.specs.Contents.{StateStands, stack_of};
+ghost use Rattle.wcv_spaces.specs.Promises.{MemoryOrCausedBy};
+ghost use Rattle.wcv_flat.specs.Rows as row;
+ghost use Rattle.wcv_canon.specs.Operands.{asked, asked_option, operand_checks};
 
-use crate::ask::{Ask, Barred, CarrierSort, Needed, check_asks};
-use crate::lists::OptionName;
+use crate::ask_core::{
+    check_slot, check_spawn_table, check_spawn_type, check_start_table, check_start_type,
+};
+use crate::ask_types::{
+    check_async_func, check_future, check_local_resource, check_resource, check_result,
+    check_stream, is_needed,
+};
+use crate::items::{check_memory, require};
+use crate::lists::{listed, name_word, stands};
+use crate::options::refused;
 use wcv_core::{Error, WasmFeatures};
+use wcv_flat::{Ask, Barred, Needed, OptionName, row_of};
 use wcv_state::ComponentState;
-use wcv_syntax::CanonicalFunction;
+use wcv_syntax::{CanonicalFunction, CanonicalOption};
 use wcv_types::TypeAlloc;
 
-const ASYNC: Ask = Ask::Feature(WasmFeatures::CM_ASYNC);
-
-const FORWARD: Ask = Ask::Feature(WasmFeatures::CM_FORWARD);
-
-const THREADING: Ask = Ask::Feature(WasmFeatures::CM_THREADING);
-
-const SHARED: Ask = Ask::Feature(WasmFeatures::SHARED_EVERYTHING_THREADS);
-
-const ERROR_CONTEXT: Ask = Ask::Feature(WasmFeatures::CM_ERROR_CONTEXT);
-
-/// Whether the operands of a function without options are what its row asks for.
-fn check_builtin(
-    func: &CanonicalFunction,
-    state: &ComponentState,
-    types: &TypeAlloc,
-    offset: u64,
-) -> Result<(), Error>
-    requires stands { StateStands types.now state.now }
-    requires kind { canon_view func.now ≡ builtin func.now }
-    ensures ok { OnOk result (IsFree (row_asked types.now state.now (canon_view func.now))) }
-    ensures err { IfErr result (MemoryOrCausedBy (row_asked types.now state.now (canon_view func.now)) offset) }
+/// The first of these names under which an option stands.
+fn first_standing(names: &[OptionName], options: &[CanonicalOption]) -> Option<OptionName>
+    ensures { is_some result ≡ list_any (λ n. spec.stands n options.now) (map name_of names.now) }
 {
-    match func {
-        CanonicalFunction::ResourceNew { resource } | CanonicalFunction::ResourceRep { resource } =>
-            { check_asks(&[Ask::LocalResource(*resource)], &[], state, types, offset) }
-        CanonicalFunction::ResourceDrop { resource } => {
-            check_asks(&[Ask::Resource(*resource)], &[], state, types, offset)
+    for name in names {
+        if stands(*name, options) {
+            return Some(*name);
         }
-        CanonicalFunction::ThreadSpawnRef { func_ty_index } => {
-            let asks = [SHARED, Ask::SpawnType(*func_ty_index)];
-            check_asks(&asks, &[], state, types, offset)
+    }
+    None
+}
+
+/// An option that stands and may not.
+fn first_barred(bars: Barred, options: &[CanonicalOption]) -> Option<OptionName>
+    ensures { is_some result ≡ list_any (λ n. spec.stands n options.now) (barred bars) }
+{
+    match bars {
+        Barred::OfLifting => {
+            first_standing(&[OptionName::PostReturn, OptionName::Callback], options)
         }
-        CanonicalFunction::ThreadSpawnIndirect {
-            func_ty_index,
-            table_index,
-        } => {
-            let asks = [
-                SHARED,
-                Ask::SpawnType(*func_ty_index),
-                Ask::SpawnTable(*table_index),
-            ];
-            check_asks(&asks, &[], state, types, offset)
-        }
-        CanonicalFunction::ThreadAvailableParallelism => {
-            check_asks(&[SHARED], &[], state, types, offset)
-        }
-        CanonicalFunction::BackpressureInc
-        | CanonicalFunction::BackpressureDec
-        | CanonicalFunction::TaskCancel
-        | CanonicalFunction::SubtaskDrop
-        | CanonicalFunction::WaitableSetNew
-        | CanonicalFunction::WaitableSetDrop
-        | CanonicalFunction::WaitableJoin
-        | CanonicalFunction::ThreadYield => { check_asks(&[ASYNC], &[], state, types, offset) }
-        CanonicalFunction::ContextGet { ty, slot } | CanonicalFunction::ContextSet { ty, slot } => {
-            check_asks(&[ASYNC, Ask::Slot(*ty, *slot)], &[], state, types, offset)
-        }
-        CanonicalFunction::SubtaskCancel { async_ } => {
-            check_asks(&[ASYNC, Ask::MoreWhere(*async_)], &[], state, types, offset)
-        }
-        CanonicalFunction::StreamNew { ty }
-        | CanonicalFunction::StreamDropReadable { ty }
-        | CanonicalFunction::StreamDropWritable { ty } => {
-            check_asks(&[ASYNC, Ask::Stream(*ty)], &[], state, types, offset)
-        }
-        CanonicalFunction::FutureNew { ty }
-        | CanonicalFunction::FutureDropReadable { ty }
-        | CanonicalFunction::FutureDropWritable { ty } => {
-            check_asks(&[ASYNC, Ask::Future(*ty)], &[], state, types, offset)
-        }
-        CanonicalFunction::StreamForward { ty } => {
-            check_asks(
-                &[ASYNC, FORWARD, Ask::Stream(*ty)],
-                &[],
-                state,
-                types,
-                offset,
-            )
-        }
-        CanonicalFunction::FutureForward { ty } => {
-            check_asks(
-                &[ASYNC, FORWARD, Ask::Future(*ty)],
-                &[],
-                state,
-                types,
-                offset,
-            )
-        }
-        CanonicalFunction::StreamCancelRead { ty, async_ }
-        | CanonicalFunction::StreamCancelWrite { ty, async_ } => {
-            let asks = [ASYNC, Ask::MoreWhere(*async_), Ask::Stream(*ty)];
-            check_asks(&asks, &[], state, types, offset)
-        }
-        CanonicalFunction::FutureCancelRead { ty, async_ }
-        | CanonicalFunction::FutureCancelWrite { ty, async_ } => {
-            let asks = [ASYNC, Ask::MoreWhere(*async_), Ask::Future(*ty)];
-            check_asks(&asks, &[], state, types, offset)
-        }
-        CanonicalFunction::ErrorContextDrop => {
-            check_asks(&[ERROR_CONTEXT], &[], state, types, offset)
-        }
-        CanonicalFunction::WaitableSetWait { memory }
-        | CanonicalFunction::WaitableSetPoll { memory } => {
-            check_asks(&[ASYNC, Ask::Memory(*memory)], &[], state, types, offset)
-        }
-        CanonicalFunction::ThreadNewIndirect {
-            func_ty_index,
-            table_index,
-        } => {
-            let asks = [
-                THREADING,
-                Ask::StartType(*func_ty_index),
-                Ask::StartTable(*table_index),
-            ];
-            check_asks(&asks, &[], state, types, offset)
-        }
-        CanonicalFunction::ThreadIndex
-        | CanonicalFunction::ThreadResumeLater
-        | CanonicalFunction::ThreadSuspend
-        | CanonicalFunction::ThreadSuspendThenResume
-        | CanonicalFunction::ThreadYieldThenResume
-        | CanonicalFunction::ThreadSuspendThenPromote
-        | CanonicalFunction::ThreadYieldThenPromote => {
-            check_asks(&[THREADING], &[], state, types, offset)
-        }
-        _ => unreachable!(),
+        Barred::Waiting => first_standing(
+            &[
+                OptionName::Async,
+                OptionName::PostReturn,
+                OptionName::Callback,
+            ],
+            options,
+        ),
+        Barred::Returning => first_standing(
+            &[
+                OptionName::Realloc,
+                OptionName::Async,
+                OptionName::PostReturn,
+                OptionName::Callback,
+            ],
+            options,
+        ),
     }
 }
 
-/// So of any function but `lift`.
-fn check_row(
-    func: &CanonicalFunction,
+/// Refuses options that may not stand.
+fn check_barred(bars: Barred, options: &[CanonicalOption], offset: u64) -> Result<(), Error>
+    ensures ok { OnOk result (IsFree ((kinds.Options, list_any (λ n. spec.stands n options.now) (barred bars)) ∷ [])) }
+    ensures err { IfErr result (MemoryOrCausedBy ((kinds.Options, list_any (λ n. spec.stands n options.now) (barred bars)) ∷ []) offset) }
+{
+    match first_barred(bars, options) {
+        None => Ok(()),
+        Some(name) => Err(refused("option `%w` may not stand here", name_word(name), offset)),
+    }
+}
+
+/// Refuses that an option does not stand which has to.
+fn check_needed(
+    name: OptionName,
+    when: Needed,
+    options: &[CanonicalOption],
     state: &ComponentState,
     types: &TypeAlloc,
     offset: u64,
 ) -> Result<(), Error>
     requires stands { StateStands types.now state.now }
-    requires kind { is_lift (canon_view func.now) ≡ false }
-    ensures ok { OnOk result (IsFree (row_asked types.now state.now (canon_view func.now))) }
-    ensures err { IfErr result (MemoryOrCausedBy (row_asked types.now state.now (canon_view func.now)) offset) }
+    ensures ok { OnOk result (IsFree (asked types.now state.now (row.has_to_stand (name_of name) (needed when) options.now))) }
+    ensures err { IfErr result (MemoryOrCausedBy (asked types.now state.now (row.has_to_stand (name_of name) (needed when) options.now)) offset) }
 {
-    match func {
-        CanonicalFunction::Lift { .. } => unreachable!(),
-        CanonicalFunction::Lower {
-            func_index,
-            options,
-        } => {
-            let asks = [Ask::Bars(Barred::OfLifting), Ask::AsyncFunc(*func_index)];
-            check_asks(&asks, options.as_slice(), state, types, offset)
-        }
-        CanonicalFunction::TaskReturn {
-            result: ty,
-            options,
-        } => {
-            let asks = [ASYNC, Ask::NoBorrow(*ty), Ask::Bars(Barred::Returning)];
-            check_asks(&asks, options.as_slice(), state, types, offset)
-        }
-        CanonicalFunction::StreamRead { ty, options } => {
-            let asks = [
-                ASYNC,
-                Ask::MoreWithoutAsync,
-                Ask::Stream(*ty),
-                Ask::Bars(Barred::OfLifting),
-                Ask::Needs(
-                    OptionName::Memory,
-                    Needed::WithPayload(CarrierSort::Stream, *ty),
-                ),
-                Ask::Needs(
-                    OptionName::Realloc,
-                    Needed::WithPointer(CarrierSort::Stream, *ty),
-                ),
-            ];
-            check_asks(&asks, options.as_slice(), state, types, offset)
-        }
-        CanonicalFunction::StreamWrite { ty, options } => {
-            let asks = [
-                ASYNC,
-                Ask::MoreWithoutAsync,
-                Ask::Stream(*ty),
-                Ask::Bars(Barred::OfLifting),
-                Ask::Needs(
-                    OptionName::Memory,
-                    Needed::WithPayload(CarrierSort::Stream, *ty),
-                ),
-            ];
-            check_asks(&asks, options.as_slice(), state, types, offset)
-        }
-        CanonicalFunction::FutureRead { ty, options } => {
-            let asks = [
-                ASYNC,
-                Ask::MoreWithoutAsync,
-                Ask::Future(*ty),
-                Ask::Bars(Barred::OfLifting),
-                Ask::Needs(
-                    OptionName::Memory,
-                    Needed::WithPayload(CarrierSort::Future, *ty),
-                ),
-                Ask::Needs(
-                    OptionName::Realloc,
-                    Needed::WithPointer(CarrierSort::Future, *ty),
-                ),
-            ];
-            check_asks(&asks, options.as_slice(), state, types, offset)
-        }
-        CanonicalFunction::FutureWrite { ty, options } => {
-            let asks = [
-                ASYNC,
-                Ask::MoreWithoutAsync,
-                Ask::Future(*ty),
-                Ask::Bars(Barred::OfLifting),
-                Ask::Needs(
-                    OptionName::Memory,
-                    Needed::WithPayload(CarrierSort::Future, *ty),
-                ),
-            ];
-            check_asks(&asks, options.as_slice(), state, types, offset)
-        }
-        CanonicalFunction::ErrorContextNew { options } => {
-            let asks = [
-                ERROR_CONTEXT,
-                Ask::Bars(Barred::Waiting),
-                Ask::Needs(OptionName::Memory, Needed::InAnyCase),
-            ];
-            check_asks(&asks, options.as_slice(), state, types, offset)
-        }
-        CanonicalFunction::ErrorContextDebugMessage { options } => {
-            let asks = [
-                ERROR_CONTEXT,
-                Ask::Bars(Barred::Waiting),
-                Ask::Needs(OptionName::Memory, Needed::InAnyCase),
-                Ask::Needs(OptionName::Realloc, Needed::InAnyCase),
-            ];
-            check_asks(&asks, options.as_slice(), state, types, offset)
-        }
-        _ => check_builtin(func, state, types, offset),
+    if is_needed(when, state, types, offset) && !stands(name, options) {
+        return Err(refused(
+            "option `%w` is needed and does not stand",
+            name_word(name),
+            offset,
+        ));
     }
+    Ok(())
+}
+
+/// Whether the operands are what is asked once.
+fn check_ask(
+    ask: Ask,
+    options: &[CanonicalOption],
+    state: &ComponentState,
+    types: &TypeAlloc,
+    offset: u64,
+) -> Result<(), Error>
+    requires stands { StateStands types.now state.now }
+    ensures ok { OnOk result (IsFree (asked types.now state.now (ask_of options.now ask))) }
+    ensures err { IfErr result (MemoryOrCausedBy (asked types.now state.now (ask_of options.now ask)) offset) }
+{
+    match ask {
+        Ask::Feature(feature) => require(state.features(), feature, true, "it", offset),
+        Ask::MoreWhere(there) => require(
+            state.features(),
+            WasmFeatures::CM_MORE_ASYNC_BUILTINS,
+            there,
+            "`async`",
+            offset,
+        ),
+        Ask::MoreWithoutAsync => require(
+            state.features(),
+            WasmFeatures::CM_MORE_ASYNC_BUILTINS,
+            !stands(OptionName::Async, options),
+            "a list of options without `async`",
+            offset,
+        ),
+        Ask::Bars(bars) => check_barred(bars, options, offset),
+        Ask::Needs(name, when) => check_needed(name, when, options, state, types, offset),
+        Ask::AsyncFunc(index) => check_async_func(index, options, state, types, offset),
+        Ask::Resource(index) => check_resource(index, state, types, offset),
+        Ask::LocalResource(index) => check_local_resource(index, state, types, offset),
+        Ask::Stream(index) => check_stream(index, state, types, offset),
+        Ask::Future(index) => check_future(index, state, types, offset),
+        Ask::Memory(index) => check_memory(index, state, types, offset),
+        Ask::NoBorrow(ty) => check_result(ty, state, types, offset),
+        Ask::Slot(ty, slot) => check_slot(ty, slot, state, types, offset),
+        Ask::SpawnType(index) => check_spawn_type(index, state, types, offset),
+        Ask::StartType(index) => check_start_type(index, state, types, offset),
+        Ask::SpawnTable(index) => check_spawn_table(index, state, types, offset),
+        Ask::StartTable(index) => check_start_table(index, state, types, offset),
+    }
+}
+
+/// Whether the operands are what is asked once, where something is asked.
+fn check_some(
+    ask: Option<Ask>,
+    options: &[CanonicalOption],
+    state: &ComponentState,
+    types: &TypeAlloc,
+    offset: u64,
+) -> Result<(), Error>
+    requires stands { StateStands types.now state.now }
+    ensures ok { OnOk result (IsFree (asked_option types.now state.now options.now ask)) }
+    ensures err { IfErr result (MemoryOrCausedBy (asked_option types.now state.now options.now ask) offset) }
+{
+    match ask {
+        Some(ask) => check_ask(ask, options, state, types, offset),
+        None => Ok(()),
+    }
+}
+
+/// Whether the operands are all that is asked.
+#[tactic(auto, using(wcv_core::proofs::Closing::free_next))]
+fn check_asks(
+    asks: &[Option<Ask>],
+    options: &[CanonicalOption],
+    state: &ComponentState,
+    types: &TypeAlloc,
+    offset: u64,
+) -> Result<(), Error>
+    requires stands { StateStands types.now state.now }
+    ensures ok { OnOk result (IsFree (all_checks (asked_option types.now state.now options.now) asks.now)) }
+    ensures err { IfErr result (MemoryOrCausedBy (all_checks (asked_option types.now state.now options.now) asks.now) offset) }
+{
+    for ask in asks {
+        check_some(*ask, options, state, types, offset)?;
+    }
+    Ok(())
 }
 
 /// Whether the operands are what the function's row asks for.
@@ -265,5 +197,6 @@ pub fn check_operands(
     ensures ok { OnOk result ((outer : List Tree_context) → IsFree (operand_checks state.now.features (stack_of types.now state.now outer) (canon_view func.now))) }
     ensures err { IfErr result (λ e. (outer : List Tree_context) → MemoryOrCausedBy (operand_checks state.now.features (stack_of types.now state.now outer) (canon_view func.now)) offset e) }
 {
-    check_row(func, state, types, offset)
+    let row = row_of(func);
+    check_asks(&row.asks, listed(func), state, types, offset)
 }

@@ -6,8 +6,8 @@ ghost use Rattle.wcv_syntax.specs.View.{canon_view};
 ghost use Rattle.wcv_lower.specs.CanonOptions.{options_read, options_checks};
 ghost use Rattle.wcv_lower.specs.Checks.{IsFree};
 ghost use Rattle.wcv_lower.specs.Trees.{Tree_context};
-ghost use Rattle.wcv_state.specs.Contents.{StateStands, context_of, stack_of};
-ghost use Rattle.wcv_state.specs.Promises.{MemoryOrCausedBy, Keeps, Grew, Refuses};
+ghost use Rattle.wcv_spaces.specs.Contents.{StateStands, context_of, stack_of};
+ghost use Rattle.wcv_spaces.specs.Promises.{MemoryOrCausedBy, Keeps, Grew, Refuses};
 ghost use Rattle.wcv_state.specs.Stack.{IsOpen};
 
 use crate::functions::add_canonical_function;
@@ -20,7 +20,7 @@ use wcv_types::TypeAlloc;
 
 /// A state to which canonical functions are added.
 pub trait Canon: Sized {
-    ghost use Rattle.wcv_state.specs.Contents.{Contents};
+    ghost use Rattle.wcv_spaces.specs.Contents.{Contents};
 
     /// What the state holds.
     ghost contents: { Self → Contents };
@@ -42,7 +42,7 @@ pub trait Canon: Sized {
         ensures err { IfErr result (λ e. (outer : List Tree_context) → MemoryOrCausedBy (options_checks (contents self.now).features (stack_of types.now (contents self.now) outer) options.now) offset e) };
 
     /// One more canonical function: `lift` appends a function of the type that it names, every other one a core
-    /// function, of the core type that its row in docs/RULES.md has. Refuses an index that is not below the length of its space as
+    /// function, of the core type that its row in docs/REFERENCE.md has. Refuses an index that is not below the length of its space as
     /// `OutOfBounds`, what is of another sort as `WrongSort`, what a feature is missing for as `Feature`, options
     /// that break a rule as `Options`, a core type that is another than is asked for as `Signature`, a resource that
     /// is not defined here with a representation, where one has to be, as `ResourceScope`, a borrowed handle in what
@@ -62,7 +62,7 @@ pub trait Canon: Sized {
 }
 
 impl Canon for ComponentState {
-    ghost use Rattle.wcv_state.specs.Contents.{Contents};
+    ghost use Rattle.wcv_spaces.specs.Contents.{Contents};
 
     ghost contents = { λ s. s };
 

@@ -2,21 +2,22 @@
 ghost use Rattle.std.specs.Prelude.{◌≡◌, false, List, Some, slice_get, OnOk, IfOk, IfErr};
 ghost use Rattle.std.specs.Option.{option_map, option_and_then};
 ghost use Rattle.wcv_syntax.specs.View.{canon_view};
+ghost use Rattle.wcv_flat.specs.CodeRows.{is_lift};
 ghost use Rattle.wcv_flat.specs.RowTypes.{appended};
-ghost use Rattle.wcv_flat.specs.Rows.{returning};
+ghost use Rattle.wcv_flat.specs.Rows.{returning, options_in};
 ghost use Rattle.wcv_lower.specs.CanonOptions as options;
-ghost use Rattle.wcv_lower.specs.Canons.{options_in, memory_alone, appends_found};
+ghost use Rattle.wcv_lower.specs.Canons.{memory_alone, appends_found};
 ghost use Rattle.wcv_lower.specs.Checks.{IsFree, if_found, no_room};
 ghost use Rattle.wcv_lower.specs.Context.{counts};
 ghost use Rattle.wcv_lower.specs.Trees.{Tree_context};
 ghost use Rattle.wcv_lower.specs.Values.{sort_checks};
 ghost use Rattle.wcv_types.specs.Tree.{is_func, is_value};
-ghost use Rattle.wcv_state.specs.Contents.{StateStands, context_of, stack_of};
-ghost use Rattle.wcv_state.specs.Promises.{MemoryOrCausedBy};
+ghost use Rattle.wcv_spaces.specs.Contents.{StateStands, context_of, stack_of};
+ghost use Rattle.wcv_spaces.specs.Promises.{MemoryOrCausedBy};
 ghost use Rattle.wcv_canon.specs.Facts as spec;
-ghost use Rattle.wcv_canon.specs.Operands.{is_lift};
 
 use crate::asks::check_operands;
+use crate::lists::list_of;
 use crate::options::read_options;
 use wcv_core::limits::MAX_ENTRIES;
 use wcv_core::{CompositeInnerType, CoreTypeId, Error, ErrorKind, Refusal, ValType, Why};
@@ -202,24 +203,6 @@ fn function_of(
             Ok(Some(RowFunction::Returned(value)))
         }
         _ => Ok(None),
-    }
-}
-
-/// The list of options of a canonical function that has one.
-fn list_of(func: &CanonicalFunction) -> Option<&Vec<CanonicalOption>>
-    ensures { option_map (λ list. list.now.items) result ≡ options_in (canon_view func.now) }
-{
-    match func {
-        CanonicalFunction::Lift { options, .. }
-        | CanonicalFunction::Lower { options, .. }
-        | CanonicalFunction::TaskReturn { options, .. }
-        | CanonicalFunction::StreamRead { options, .. }
-        | CanonicalFunction::StreamWrite { options, .. }
-        | CanonicalFunction::FutureRead { options, .. }
-        | CanonicalFunction::FutureWrite { options, .. }
-        | CanonicalFunction::ErrorContextNew { options }
-        | CanonicalFunction::ErrorContextDebugMessage { options } => Some(options),
-        _ => None,
     }
 }
 

@@ -4,15 +4,15 @@ ghost use Rattle.wcv_core.specs.Names.{Place};
 ghost use Rattle.wcv_core.specs.Refusal.{error_kind, error_offset};
 ghost use Rattle.wcv_syntax.specs.Model.{canon_item, lift};
 ghost use Rattle.wcv_syntax.specs.View.{canon_view};
+ghost use Rattle.wcv_flat.specs.CodeRows.{is_lift};
 ghost use Rattle.wcv_flat.specs.Rows.{canon_row};
 ghost use Rattle.wcv_lower.specs.Canons.{canon_checks};
 ghost use Rattle.wcv_lower.specs.Checks.{IsFree};
 ghost use Rattle.wcv_lower.specs.Trees.{Tree_context};
-ghost use Rattle.wcv_state.specs.Contents.{stack_of};
-ghost use Rattle.wcv_state.specs.Promises.{Keeps, Grew, Refuses, MemoryOrCausedBy};
+ghost use Rattle.wcv_spaces.specs.Contents.{stack_of};
+ghost use Rattle.wcv_spaces.specs.Promises.{Keeps, Grew, Refuses, MemoryOrCausedBy};
 ghost use Rattle.wcv_state.specs.Stack.{IsOpen};
 ghost use Rattle.wcv_canon.specs.Facts.{row_facts, slots_said, early_checks};
-ghost use Rattle.wcv_canon.specs.Operands.{is_lift};
 
 use crate::facts::find_facts;
 use crate::lift::find_lift;
@@ -58,7 +58,7 @@ fn join_core_func(
     Ok(())
 }
 
-/// So where no operand and no option is refused.
+/// The core function of a canonical function joins the state, where no operand and no option is refused.
 fn add_core_func(
     func: &CanonicalFunction,
     state: &mut ComponentState,

@@ -8,8 +8,8 @@ ghost use Rattle.wcv_lower.specs.CanonOptions.{memory_type_at, memory_rules, cor
 ghost use Rattle.wcv_lower.specs.Checks.{IsFree, if_found, missing};
 ghost use Rattle.wcv_lower.specs.CoreInstances.{core_item_at};
 ghost use Rattle.wcv_lower.specs.Types.{same_vals, form_takes_and_gives};
-ghost use Rattle.wcv_state.specs.Contents.{StateStands, context_of};
-ghost use Rattle.wcv_state.specs.Promises.{MemoryOrCausedBy};
+ghost use Rattle.wcv_spaces.specs.Contents.{StateStands, context_of};
+ghost use Rattle.wcv_spaces.specs.Promises.{MemoryOrCausedBy};
 
 use bitflags::Flags;
 use wcv_core::{
@@ -19,25 +19,6 @@ use wcv_core::{
 use wcv_matching::same_val;
 use wcv_state::ComponentState;
 use wcv_types::TypeAlloc;
-
-/// The name of a feature that canonical functions ask for, as in a listing.
-fn feature_name(feature: WasmFeatures) -> &'static str {
-    if feature == WasmFeatures::SHARED_EVERYTHING_THREADS {
-        "shared-everything-threads"
-    } else if feature == WasmFeatures::CM_ASYNC {
-        "cm-async"
-    } else if feature == WasmFeatures::CM_MORE_ASYNC_BUILTINS {
-        "cm-more-async-builtins"
-    } else if feature == WasmFeatures::CM_FORWARD {
-        "cm-forward"
-    } else if feature == WasmFeatures::CM_THREADING {
-        "cm-threading"
-    } else if feature == WasmFeatures::CM_ERROR_CONTEXT {
-        "cm-error-context"
-    } else {
-        "cm64"
-    }
-}
 
 /// Refuses that a feature is missing which something needs, if it is there.
 pub fn require(
@@ -51,7 +32,7 @@ pub fn require(
     ensures err { IfErr result (MemoryOrCausedBy (needs features.now feature.0 there) offset) }
 {
     if there && !features.contains(feature) {
-        let refusal = missing_feature(by, "", feature_name(feature), offset);
+        let refusal = missing_feature(by, "", feature, offset);
         return Err(Error::from(refusal));
     }
     Ok(())
@@ -113,7 +94,7 @@ fn check_memory_type(
     )
 }
 
-/// So of the memory at the index.
+/// Whether the memory at the index may serve.
 pub fn check_memory(
     index: u32,
     state: &ComponentState,
@@ -128,13 +109,13 @@ pub fn check_memory(
     check_memory_type(ty, index, state.features(), offset)
 }
 
-/// Whether the core function at the index, which an option names, takes these and gives those, as the text says.
+/// Whether the core function at the index, which an option names, takes these and gives those. The text says which
+/// option asks for that.
 pub fn check_core_func(
-    option: &'static str,
+    asked: &'static str,
     index: u32,
     params: &[ValType],
     results: &[ValType],
-    expected: &'static str,
     state: &ComponentState,
     types: &TypeAlloc,
     offset: u64,
@@ -151,6 +132,6 @@ pub fn check_core_func(
     Err(Error::told(
         ErrorKind::Options,
         offset,
-        format_args!("option `{option}` asks for {expected}, and core function {index} is {found}"),
+        format_args!("{asked}, and core function {index} is {found}"),
     ))
 }

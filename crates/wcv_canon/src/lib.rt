@@ -1,7 +1,6 @@
 //! Canonical functions and their options.
 #![tactic(auto)]
 
-mod ask;
 mod ask_core;
 mod ask_types;
 mod asks;

@@ -12,8 +12,8 @@ ghost use Rattle.wcv_types.specs.declared.ids.ComponentAnyTypeId.TheVariants as 
 ghost use Rattle.wcv_lower.specs.Canons.{canon_checks, form_results, has_other_type};
 ghost use Rattle.wcv_lower.specs.Checks.{IsFree};
 ghost use Rattle.wcv_lower.specs.Trees.{Tree_context};
-ghost use Rattle.wcv_state.specs.Contents.{StateStands, stack_of};
-ghost use Rattle.wcv_state.specs.Promises.{MemoryOrCausedBy};
+ghost use Rattle.wcv_spaces.specs.Contents.{StateStands, stack_of};
+ghost use Rattle.wcv_spaces.specs.Promises.{MemoryOrCausedBy};
 ghost use Rattle.wcv_canon.specs.Lifting.{async_checks, post_checks};
 
 use crate::facts::check_room;
@@ -48,7 +48,7 @@ fn check_async(
         Concurrency::Async { callback: None }
             if !features.contains(WasmFeatures::CM_ASYNC_STACKFUL) => {
             let what = "option `async` without `callback`";
-            Err(missing_feature(what, "", "cm-async-stackful", offset))
+            Err(missing_feature(what, "", WasmFeatures::CM_ASYNC_STACKFUL, offset))
         }
         _ => Ok(()),
     }

@@ -1,32 +1,52 @@
 // What stands in a list of options.
-ghost use Rattle.std.specs.Prelude.{◌≡◌, ◌<◌, ◌||◌, map, is_some};
+ghost use Rattle.std.specs.Prelude.{◌≡◌, ◌<◌, ◌||◌, [], map, is_some};
+ghost use Rattle.std.specs.Option.{option_map, unwrap_or};
+ghost use Rattle.wcv_syntax.specs.View.{canon_view};
 ghost use Rattle.wcv_lower.specs.CanonOptions as spec;
 ghost use Rattle.wcv_lower.specs.CanonOptions.{first, encoding_in, repeats};
-ghost use Rattle.wcv_canon.specs.Options.{name_of, index_in};
+ghost use Rattle.wcv_flat.specs.CodeRows.{name_of};
+ghost use Rattle.wcv_flat.specs.Rows.{options_in};
+ghost use Rattle.wcv_canon.specs.Options.{index_in};
 
-use wcv_flat::StringEncoding;
-use wcv_syntax::CanonicalOption;
+use wcv_flat::{OptionName, StringEncoding};
+use wcv_syntax::{CanonicalFunction, CanonicalOption};
 
-/// An option beside the encoding.
-#[derive(Clone, Copy)]
-pub enum OptionName {
-    Memory,
-    Realloc,
-    PostReturn,
-    Async,
-    Callback,
+/// The list of options of a canonical function that has one.
+pub fn list_of(func: &CanonicalFunction) -> Option<&Vec<CanonicalOption>>
+    ensures { option_map (λ list. list.now.items) result ≡ options_in (canon_view func.now) }
+{
+    match func {
+        CanonicalFunction::Lift { options, .. }
+        | CanonicalFunction::Lower { options, .. }
+        | CanonicalFunction::TaskReturn { options, .. }
+        | CanonicalFunction::StreamRead { options, .. }
+        | CanonicalFunction::StreamWrite { options, .. }
+        | CanonicalFunction::FutureRead { options, .. }
+        | CanonicalFunction::FutureWrite { options, .. }
+        | CanonicalFunction::ErrorContextNew { options }
+        | CanonicalFunction::ErrorContextDebugMessage { options } => Some(options),
+        _ => None,
+    }
 }
 
-impl OptionName {
-    /// The name, as in a listing.
-    pub fn word(self) -> &'static str {
-        match self {
-            OptionName::Memory => "memory",
-            OptionName::Realloc => "realloc",
-            OptionName::PostReturn => "post-return",
-            OptionName::Async => "async",
-            OptionName::Callback => "callback",
-        }
+/// The options of a canonical function, none where it has no list of them.
+pub fn listed(func: &CanonicalFunction) -> &[CanonicalOption]
+    ensures { result.now ≡ unwrap_or (options_in (canon_view func.now)) [] }
+{
+    match list_of(func) {
+        Some(list) => list.as_slice(),
+        None => &[],
+    }
+}
+
+/// The word for an option beside the encoding, as in a listing.
+pub fn name_word(name: OptionName) -> &'static str {
+    match name {
+        OptionName::Memory => "memory",
+        OptionName::Realloc => "realloc",
+        OptionName::PostReturn => "post-return",
+        OptionName::Async => "async",
+        OptionName::Callback => "callback",
     }
 }
 

@@ -7,16 +7,14 @@ ghost use Rattle.wcv_lower.specs.CanonOptions as spec;
 ghost use Rattle.wcv_lower.specs.CanonOptions.{first, memory_in, memory_pointers, concurrency_of, list_rules, options_read, options_checks};
 ghost use Rattle.wcv_lower.specs.Checks.{IsFree};
 ghost use Rattle.wcv_lower.specs.Trees.{Tree_context};
-ghost use Rattle.wcv_state.specs.Contents.{StateStands, context_of, stack_of};
-ghost use Rattle.wcv_state.specs.Promises.{MemoryOrCausedBy};
+ghost use Rattle.wcv_spaces.specs.Contents.{StateStands, context_of, stack_of};
+ghost use Rattle.wcv_spaces.specs.Promises.{MemoryOrCausedBy};
 ghost use Rattle.wcv_canon.specs.Options.{option_asked};
 
 use crate::items::{check_core_func, check_memory, require};
-use crate::lists::{
-    OptionName, first_encoding, first_index, is_encoding, option_word, repeated, stands,
-};
+use crate::lists::{first_encoding, first_index, is_encoding, option_word, repeated, stands};
 use wcv_core::{Error, ErrorKind, ValType, WasmFeatures, Why};
-use wcv_flat::{CanonicalOptions, Concurrency, PtrSize, StringEncoding};
+use wcv_flat::{CanonicalOptions, Concurrency, OptionName, PtrSize, StringEncoding};
 use wcv_state::ComponentState;
 use wcv_syntax::CanonicalOption;
 use wcv_types::TypeAlloc;
@@ -133,11 +131,11 @@ fn found_options(
     }
 }
 
-/// The form of a core function that gives memory, where pointers are of that type.
-fn realloc_form(pointer: ValType) -> &'static str {
+/// What `realloc` asks for, where pointers are of that type.
+fn realloc_asked(pointer: ValType) -> &'static str {
     match pointer {
-        ValType::I64 => "(func (param i64 i64 i64 i64) (result i64))",
-        _ => "(func (param i32 i32 i32 i32) (result i32))",
+        ValType::I64 => { "option `realloc` asks for (func (param i64 i64 i64 i64) (result i64))" }
+        _ => "option `realloc` asks for (func (param i32 i32 i32 i32) (result i32))",
     }
 }
 
@@ -166,11 +164,10 @@ fn check_option(
         CanonicalOption::UTF8 | CanonicalOption::UTF16 | CanonicalOption::CompactUTF16 => Ok(()),
         CanonicalOption::Memory(index) => check_memory(index, state, types, offset),
         CanonicalOption::Realloc(index) => check_core_func(
-            "realloc",
+            realloc_asked(pointer),
             index,
             &[pointer, pointer, pointer, pointer],
             &[pointer],
-            realloc_form(pointer),
             state,
             types,
             offset,
@@ -180,11 +177,10 @@ fn check_option(
             Ok(())
         }
         CanonicalOption::Callback(index) => check_core_func(
-            "callback",
+            "option `callback` asks for (func (param i32 i32 i32) (result i32))",
             index,
             &[ValType::I32, ValType::I32, ValType::I32],
             &[ValType::I32],
-            "(func (param i32 i32 i32) (result i32))",
             state,
             types,
             offset,
@@ -200,7 +196,7 @@ fn check_option(
     }
 }
 
-/// So for each option.
+/// What is looked up for each option, and asked of that.
 #[tactic(auto, using(wcv_core::proofs::Closing::free_next))]
 fn check_each(
     options: &[CanonicalOption],

@@ -188,7 +188,7 @@ module _ (s : PtrSize) (a : Abi) (k : Concurrency) (t : Parts Name Name) (ps rs 
       (λ i. use_checks o a (params_exceed (param_limit a k) (limit_within a k) i || any_contains pointer (params_in t)) (result_exceeds (result_limit a k) (result_within a k) i || result_points t) (result_points t)) ∙
       (λ i. use_checks o a (params_use_memory (z i) a (e i) t) (result_uses_memory (z i) a (e i) t) (result_points t))
 
--- so of a function that takes a value and gives none
+-- the core type of a function that takes a value and gives none
 module _ (t : Type_tree) (ps : List FlatType) (params : ps ≡ take 17 (open_flat t)) where
   pub value_alone : ps ≡ take 17 (open_all (params_in (taking t)))
   value_alone = params ∙ ap (take 17) (sym (append-nil (open_flat t)))

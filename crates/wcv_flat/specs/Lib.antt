@@ -4,3 +4,4 @@ pub mod Options
 pub mod Functions
 pub mod Rows
 pub mod RowTypes
+pub mod CodeRows

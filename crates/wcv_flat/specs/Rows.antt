@@ -1,5 +1,6 @@
 -- The rows of canonical functions: what is asked of the operands of each, and what it appends. The names and operands of the same functions are canon_rows of wcv_syntax.
-use Rattle.std.specs.Prelude.{ℕ, List, [], ◌∷◌, Bool, Option}
+use Rattle.std.specs.Prelude.{ℕ, List, [], ◌∷◌, Bool, Option, Some, None}
+use Rattle.wcv_core.specs.Features.{shared_everything_threads, cm_async, cm_forward, cm_threading, cm_error_context}
 use Rattle.wcv_core.specs.declared.core_types.ValType.{ValType}
 use Rattle.wcv_core.specs.declared.core_types.ValType.TheVariants as core
 use Rattle.wcv_syntax.specs.Model.{Canon_form}
@@ -8,23 +9,6 @@ use Rattle.wcv_syntax.specs.declared.canonical.CanonicalFunction.{CanonicalFunct
 use Rattle.wcv_syntax.specs.declared.canonical.CanonicalFunction.TheVariants as canon
 use Rattle.wcv_syntax.specs.declared.canonical.CanonicalOption.{CanonicalOption}
 use Rattle.wcv_syntax.specs.declared.component_type.ComponentValType.{ComponentValType}
-
--- ## Features, by their bits
-
-abbrev pub shared_everything_threads : ℕ
-shared_everything_threads = 128
-
-abbrev pub cm_async : ℕ
-cm_async = 256
-
-abbrev pub cm_forward : ℕ
-cm_forward = 2048
-
-abbrev pub cm_threading : ℕ
-cm_threading = 4096
-
-abbrev pub cm_error_context : ℕ
-cm_error_context = 131072
 
 -- ## What is asked of them
 
@@ -51,7 +35,7 @@ pub data Ask : Type 0 where
   -- none of these options stands in the list
   bars : List Option_name → List CanonicalOption → Ask
   -- the option stands in the list, where it has to
-  needs : Option_name → Needed → List CanonicalOption → Ask
+  has_to_stand : Option_name → Needed → List CanonicalOption → Ask
   -- the function at the index is async, where the options have `async`
   async_func : ℕ → List CanonicalOption → Ask
   -- a resource stands at the index; one that the component defines, with a representation that is known
@@ -143,6 +127,9 @@ waits m = row (feature cm_async ∷ memory_at m ∷ []) (core_func (i32 ∷ poin
 abbrev switches : Row
 switches = plain cm_threading (i32 ∷ []) (i32 ∷ [])
 
+abbrev no_row : Row
+no_row = row [] (core_func [] [])
+
 -- those without options
 abbrev builtin_row : CanonicalFunction → Row
 builtin_row (canon.ResourceNew k) = row (local_resource_at k ∷ []) (core_func (rep_word ∷ []) (i32 ∷ []))
@@ -185,17 +172,38 @@ builtin_row canon.ThreadSuspendThenResume = switches
 builtin_row canon.ThreadYieldThenResume = switches
 builtin_row canon.ThreadSuspendThenPromote = switches
 builtin_row canon.ThreadYieldThenPromote = switches
--- all others have options, and forms of their own
-builtin_row f = row [] (core_func [] [])
+-- those with options have forms of their own
+builtin_row (canon.Lift f t os) = no_row
+builtin_row (canon.Lower f os) = no_row
+builtin_row (canon.TaskReturn r os) = no_row
+builtin_row (canon.StreamRead t os) = no_row
+builtin_row (canon.StreamWrite t os) = no_row
+builtin_row (canon.FutureRead t os) = no_row
+builtin_row (canon.FutureWrite t os) = no_row
+builtin_row (canon.ErrorContextNew os) = no_row
+builtin_row (canon.ErrorContextDebugMessage os) = no_row
 
 abbrev pub canon_row : Canon_form → Row
 canon_row (form.lift f t os) = row (lifts f t os ∷ []) (lifted t)
 canon_row (form.lower f os) = row (bars of_lifting os ∷ async_func f os ∷ []) (lowered f)
 canon_row (form.task_return r os) = row (feature cm_async ∷ no_borrow r ∷ bars (realloc_option ∷ async_option ∷ of_lifting) os ∷ []) (returning r)
-canon_row (form.stream_read t os) = row (copies (stream_at t) (needs memory_option (with_payload of_stream t) os ∷ needs realloc_option (with_pointer of_stream t) os ∷ []) os) (core_func (i32 ∷ pointer_word ∷ pointer_word ∷ []) (pointer_word ∷ []))
-canon_row (form.stream_write t os) = row (copies (stream_at t) (needs memory_option (with_payload of_stream t) os ∷ []) os) (core_func (i32 ∷ pointer_word ∷ pointer_word ∷ []) (pointer_word ∷ []))
-canon_row (form.future_read t os) = row (copies (future_at t) (needs memory_option (with_payload of_future t) os ∷ needs realloc_option (with_pointer of_future t) os ∷ []) os) (core_func (i32 ∷ pointer_word ∷ []) (i32 ∷ []))
-canon_row (form.future_write t os) = row (copies (future_at t) (needs memory_option (with_payload of_future t) os ∷ []) os) (core_func (i32 ∷ pointer_word ∷ []) (i32 ∷ []))
-canon_row (form.error_context_new os) = row (feature cm_error_context ∷ bars (async_option ∷ of_lifting) os ∷ needs memory_option in_any_case os ∷ []) (core_func (pointer_word ∷ pointer_word ∷ []) (i32 ∷ []))
-canon_row (form.error_context_message os) = row (feature cm_error_context ∷ bars (async_option ∷ of_lifting) os ∷ needs memory_option in_any_case os ∷ needs realloc_option in_any_case os ∷ []) (core_func (i32 ∷ pointer_word ∷ []) [])
+canon_row (form.stream_read t os) = row (copies (stream_at t) (has_to_stand memory_option (with_payload of_stream t) os ∷ has_to_stand realloc_option (with_pointer of_stream t) os ∷ []) os) (core_func (i32 ∷ pointer_word ∷ pointer_word ∷ []) (pointer_word ∷ []))
+canon_row (form.stream_write t os) = row (copies (stream_at t) (has_to_stand memory_option (with_payload of_stream t) os ∷ []) os) (core_func (i32 ∷ pointer_word ∷ pointer_word ∷ []) (pointer_word ∷ []))
+canon_row (form.future_read t os) = row (copies (future_at t) (has_to_stand memory_option (with_payload of_future t) os ∷ has_to_stand realloc_option (with_pointer of_future t) os ∷ []) os) (core_func (i32 ∷ pointer_word ∷ []) (i32 ∷ []))
+canon_row (form.future_write t os) = row (copies (future_at t) (has_to_stand memory_option (with_payload of_future t) os ∷ []) os) (core_func (i32 ∷ pointer_word ∷ []) (i32 ∷ []))
+canon_row (form.error_context_new os) = row (feature cm_error_context ∷ bars (async_option ∷ of_lifting) os ∷ has_to_stand memory_option in_any_case os ∷ []) (core_func (pointer_word ∷ pointer_word ∷ []) (i32 ∷ []))
+canon_row (form.error_context_message os) = row (feature cm_error_context ∷ bars (async_option ∷ of_lifting) os ∷ has_to_stand memory_option in_any_case os ∷ has_to_stand realloc_option in_any_case os ∷ []) (core_func (i32 ∷ pointer_word ∷ []) [])
 canon_row (form.builtin f) = builtin_row f
+
+-- the list of options, where one is written
+abbrev pub options_in : Canon_form → Option (List CanonicalOption)
+options_in (form.lift f t os) = Some os
+options_in (form.lower f os) = Some os
+options_in (form.task_return r os) = Some os
+options_in (form.stream_read t os) = Some os
+options_in (form.stream_write t os) = Some os
+options_in (form.future_read t os) = Some os
+options_in (form.future_write t os) = Some os
+options_in (form.error_context_new os) = Some os
+options_in (form.error_context_message os) = Some os
+options_in (form.builtin f) = None

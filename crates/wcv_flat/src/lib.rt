@@ -1,6 +1,7 @@
 //! Flat types of value types, and the core types of functions that are lifted or lowered.
 #![tactic(auto)]
 
+mod canon_rows;
 mod func_types;
 mod lowering;
 mod options;
@@ -20,6 +21,7 @@ ghost use Rattle.wcv_flat.specs.declared.options.CanonicalOptions.{CanonicalOpti
 ghost use Rattle.wcv_flat.specs.declared.options.Concurrency.{Concurrency};
 ghost use Rattle.wcv_flat.specs.declared.options.PtrSize.{PtrSize};
 
+pub use canon_rows::{Appends, Ask, Barred, CarrierSort, Needed, OptionName, Row, Word, row_of};
 pub use lowering::{lower, lower_value};
 pub use options::{Abi, CanonicalOptions, Concurrency, PtrSize, StringEncoding, core_type};
 pub use rows::{RowFacts, RowFunction, row_signature};

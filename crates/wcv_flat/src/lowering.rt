@@ -29,10 +29,10 @@ use wcv_types::{ComponentFuncType, ComponentValType, FlatType, LoweredTypes, Typ
 /// The most flat types of parameters that are passed one by one.
 const MAX_FLAT_FUNC_PARAMS: usize = 16;
 
-/// So where an async function is lowered.
+/// The most flat types of parameters that are passed one by one where an async function is lowered.
 const MAX_FLAT_ASYNC_PARAMS: usize = 4;
 
-/// So many flat types of parameters are passed one by one.
+/// The most flat types of parameters that are passed one by one, by how the function is made.
 fn param_limit(abi: Abi, concurrency: Concurrency) -> usize
     ensures limit { result ≡ spec.param_limit abi concurrency }
     ensures within { result ≤ 16 }
@@ -43,7 +43,7 @@ fn param_limit(abi: Abi, concurrency: Concurrency) -> usize
     }
 }
 
-/// So many of a result.
+/// The most flat types of a result that are given one by one, by how the function is made.
 fn result_limit(abi: Abi, concurrency: Concurrency) -> usize
     ensures limit { result ≡ spec.result_limit abi concurrency }
     ensures within { result ≤ 16 }

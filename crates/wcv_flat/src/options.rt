@@ -163,7 +163,7 @@ impl CanonicalOptions {
         }
     }
 
-    /// Their core type.
+    /// The core type of pointers in the memory.
     pub fn ptr_type(&self) -> ValType
         ensures { result ≡ pointer_type (spec.pointer_size self.now) }
     {

@@ -8,8 +8,10 @@ ghost use Rattle.wcv_types.specs.CoreCalls.{with_core};
 ghost use Rattle.wcv_types.specs.Standing.{Extends, KeepsTrees};
 ghost use Rattle.wcv_flat.specs.Rows as spec;
 ghost use Rattle.wcv_flat.specs.RowTypes as rows;
-ghost use Rattle.wcv_flat.specs.RowTypes.{params_of, results_of, word_type};
+ghost use Rattle.wcv_flat.specs.RowTypes.{word_type};
+ghost use Rattle.wcv_flat.specs.CodeRows.{appends_of, there, word_of};
 
+use crate::canon_rows::{Appends, Word, row_of};
 use crate::lowering::{lower, lower_value};
 use crate::options::{Abi, CanonicalOptions, PtrSize};
 use std::alloc::Global;
@@ -79,117 +81,53 @@ impl RowFacts {
             heap,
         })
     }
-}
 
-/// A list of these types.
-fn list<const N: usize>(alloc: Global, types: [ValType; N]) -> Result<Vec<ValType>, OutOfMemory>
-    ensures { IfOk result (λ list. list.items ≡ types.entry) }
-{
-    Ok(Vec::from_array(alloc, types)?)
-}
-
-/// The parameters of what the row appends.
-fn row_params(
-    alloc: Global,
-    func: &CanonicalFunction,
-    facts: &RowFacts,
-) -> Result<Vec<ValType>, OutOfMemory>
-    ensures { IfOk result (λ list. list.items ≡ map (word_type facts.now) (params_of (rows.appended func.now))) }
-{
-    let (int, pointer) = (ValType::I32, facts.pointer());
-    match func {
-        CanonicalFunction::Lift { .. }
-        | CanonicalFunction::Lower { .. }
-        | CanonicalFunction::TaskReturn { .. }
-        | CanonicalFunction::ThreadAvailableParallelism
-        | CanonicalFunction::BackpressureInc
-        | CanonicalFunction::BackpressureDec
-        | CanonicalFunction::TaskCancel
-        | CanonicalFunction::ContextGet { .. }
-        | CanonicalFunction::StreamNew { .. }
-        | CanonicalFunction::FutureNew { .. }
-        | CanonicalFunction::WaitableSetNew
-        | CanonicalFunction::ThreadIndex
-        | CanonicalFunction::ThreadSuspend
-        | CanonicalFunction::ThreadYield => list(alloc, []),
-        CanonicalFunction::ResourceNew { .. } => list(alloc, [facts.rep.unwrap_or(int)]),
-        CanonicalFunction::ContextSet { ty, .. } => list(alloc, [*ty]),
-        CanonicalFunction::ThreadSpawnRef { .. } => list(alloc, [facts.spawned(), int]),
-        CanonicalFunction::ThreadNewIndirect { .. } => {
-            list(alloc, [facts.element(), facts.start_param.unwrap_or(int)])
+    /// The core type of a word.
+    fn core_type(&self, word: Word) -> ValType
+        ensures { result ≡ word_type self.now (word_of word) }
+    {
+        match word {
+            Word::Type(ty) => ty,
+            Word::Pointer => self.pointer(),
+            Word::Rep => self.rep.unwrap_or(ValType::I32),
+            Word::Element => self.element(),
+            Word::Start => self.start_param.unwrap_or(ValType::I32),
+            Word::Spawned => self.spawned(),
         }
-        CanonicalFunction::ThreadSpawnIndirect { .. }
-        | CanonicalFunction::StreamForward { .. }
-        | CanonicalFunction::FutureForward { .. }
-        | CanonicalFunction::WaitableJoin => list(alloc, [int, int]),
-        CanonicalFunction::StreamRead { .. } | CanonicalFunction::StreamWrite { .. } => {
-            list(alloc, [int, pointer, pointer])
-        }
-        CanonicalFunction::FutureRead { .. }
-        | CanonicalFunction::FutureWrite { .. }
-        | CanonicalFunction::WaitableSetWait { .. }
-        | CanonicalFunction::WaitableSetPoll { .. }
-        | CanonicalFunction::ErrorContextDebugMessage { .. } => list(alloc, [int, pointer]),
-        CanonicalFunction::ErrorContextNew { .. } => list(alloc, [pointer, pointer]),
-        _ => list(alloc, [int]),
     }
 }
 
-/// Its results.
-fn row_results(
+/// The types that are there of a list of words.
+fn core_types(
     alloc: Global,
-    func: &CanonicalFunction,
+    words: &[Option<Word>],
     facts: &RowFacts,
 ) -> Result<Vec<ValType>, OutOfMemory>
-    ensures { IfOk result (λ list. list.items ≡ map (word_type facts.now) (results_of (rows.appended func.now))) }
+    ensures { IfOk result (λ list. list.items ≡ map (word_type facts.now) (there word_of words.now)) }
 {
-    let int = ValType::I32;
-    match func {
-        CanonicalFunction::ResourceNew { .. }
-        | CanonicalFunction::ThreadSpawnRef { .. }
-        | CanonicalFunction::ThreadSpawnIndirect { .. }
-        | CanonicalFunction::ThreadAvailableParallelism
-        | CanonicalFunction::SubtaskCancel { .. }
-        | CanonicalFunction::StreamCancelRead { .. }
-        | CanonicalFunction::StreamCancelWrite { .. }
-        | CanonicalFunction::FutureRead { .. }
-        | CanonicalFunction::FutureWrite { .. }
-        | CanonicalFunction::FutureCancelRead { .. }
-        | CanonicalFunction::FutureCancelWrite { .. }
-        | CanonicalFunction::ErrorContextNew { .. }
-        | CanonicalFunction::WaitableSetNew
-        | CanonicalFunction::WaitableSetWait { .. }
-        | CanonicalFunction::WaitableSetPoll { .. }
-        | CanonicalFunction::ThreadIndex
-        | CanonicalFunction::ThreadNewIndirect { .. }
-        | CanonicalFunction::ThreadSuspend
-        | CanonicalFunction::ThreadYield
-        | CanonicalFunction::ThreadSuspendThenResume
-        | CanonicalFunction::ThreadYieldThenResume
-        | CanonicalFunction::ThreadSuspendThenPromote
-        | CanonicalFunction::ThreadYieldThenPromote => list(alloc, [int]),
-        CanonicalFunction::ResourceRep { .. } => list(alloc, [facts.rep.unwrap_or(int)]),
-        CanonicalFunction::ContextGet { ty, .. } => list(alloc, [*ty]),
-        CanonicalFunction::StreamNew { .. } | CanonicalFunction::FutureNew { .. } => {
-            list(alloc, [ValType::I64])
+    let mut list = Vec::new(alloc);
+    for word in words {
+        if let Some(word) = word {
+            list.push(facts.core_type(*word))?;
         }
-        CanonicalFunction::StreamRead { .. } | CanonicalFunction::StreamWrite { .. } => {
-            list(alloc, [facts.pointer()])
-        }
-        _ => list(alloc, []),
     }
+    Ok(list)
 }
 
-/// Whether it is shared.
-fn is_shared(func: &CanonicalFunction) -> bool
-    ensures { result ≡ rows.is_shared (rows.appended func.now) }
+/// The function type of these words.
+fn words_type(
+    alloc: Global,
+    params: &[Option<Word>],
+    results: &[Option<Word>],
+    facts: &RowFacts,
+) -> Result<FuncType, OutOfMemory>
+    ensures params { IfOk result (λ core. core.params.items ≡ map (word_type facts.now) (there word_of params.now)) }
+    ensures results { IfOk result (λ core. core.results.items ≡ map (word_type facts.now) (there word_of results.now)) }
 {
-    matches!(
-        func,
-        CanonicalFunction::ThreadSpawnRef { .. }
-            | CanonicalFunction::ThreadSpawnIndirect { .. }
-            | CanonicalFunction::ThreadAvailableParallelism
-    )
+    Ok(FuncType {
+        params: core_types(alloc, params, facts)?,
+        results: core_types(alloc, results, facts)?,
+    })
 }
 
 /// The core type of the function that is told.
@@ -215,6 +153,34 @@ fn function_type(
     }
 }
 
+/// The core type that a row appends, and whether it is shared.
+fn appended_type(
+    appends: &Appends,
+    facts: &RowFacts,
+    types: &TypeAlloc,
+    offset: u64,
+) -> Result<(FuncType, bool), Refusal<'static>>
+    requires told { IsSome (rows.row_type types.now facts.now (appends_of appends.now)) }
+    requires stands { IfSome facts.now.function (rows.FunctionStands types.now) }
+    ensures ok { IfOk result (λ core. rows.row_form types.now facts.now (appends_of appends.now) ≡ Some (func_form core.0.params.items core.0.results.items)) }
+    ensures shared { IfOk result (λ core. core.1 ≡ rows.is_shared (appends_of appends.now)) }
+    ensures free { OnOk result (IsFree (rows.row_checks types.now facts.now (appends_of appends.now))) }
+    ensures err { IfErr result (MemoryOrCausedBy (rows.row_checks types.now facts.now (appends_of appends.now)) offset) }
+{
+    let alloc = types.allocator();
+    match appends {
+        Appends::Core { params, results } => {
+            Ok((words_type(alloc, params, results, facts)?, false))
+        }
+        Appends::Shared { params, results } => {
+            Ok((words_type(alloc, params, results, facts)?, true))
+        }
+        Appends::Lowered(_) | Appends::Returning(_) => {
+            Ok((function_type(facts, types, offset)?, false))
+        }
+    }
+}
+
 /// The core type of what is appended.
 fn row_type(
     func: &CanonicalFunction,
@@ -228,20 +194,12 @@ fn row_type(
     ensures free { OnOk result (IsFree (rows.row_checks types.now facts.now (rows.appended func.now))) }
     ensures err { IfErr result (MemoryOrCausedBy (rows.row_checks types.now facts.now (rows.appended func.now)) offset) }
 {
-    let alloc = types.allocator();
-    let core = match func {
-        CanonicalFunction::Lower { .. } | CanonicalFunction::TaskReturn { .. } => {
-            function_type(facts, types, offset)?
-        }
-        _ => FuncType {
-            params: row_params(alloc, func, facts)?,
-            results: row_results(alloc, func, facts)?,
-        },
-    };
+    let row = row_of(func);
+    let (core, shared) = appended_type(&row.appends, facts, types, offset)?;
     Ok(SubType {
         is_final: true,
         supertype: None,
-        shared: is_shared(func),
+        shared,
         inner: CompositeInnerType::Func(core),
     })
 }

@@ -22,7 +22,8 @@ use Rattle.wcv_types.specs.Unfold.{Type_tree}
 use Rattle.wcv_types.proofs.Lists.{some-inj}
 use Rattle.wcv_flat.specs.Options.{pointer_size, type_checks}
 use Rattle.wcv_flat.specs.RowTypes.{taking, sync, is_shared}
-use Rattle.wcv_flat.specs.Rows.{cm_async, Ask, Appends, canon_row}
+use Rattle.wcv_core.specs.Features.{cm_async}
+use Rattle.wcv_flat.specs.Rows.{Ask, Appends, canon_row}
 use Rattle.wcv_flat.specs.Rows as row
 use Rattle.wcv_flat.specs.Signature.{core_type}
 use Rattle.wcv_flat.specs.declared.options.Abi.TheVariants as abi

@@ -52,7 +52,7 @@ module _ (a : Numbers) (s : Tree_stack) (h : IsCalm a s) where
   pub calm_opens : (k : ℕ) (t : Type_tree) → type_at s.top k ≡ Some t → OwnsApart t
   calm_opens k t e = apart_outside t (of_some OwnApart (type_at s.top k) t (type_has own_apart_inherited (λ r. ⊥) s.top (h.apart zero s.top refl) k) e)
 
-  -- so of an instance that stands there
+  -- an instance that stands there owns apart
   pub calm_instance : (k : ℕ) (t : Type_tree) → slice_get (s.top.space in_instances) k ≡ Some t → OwnsApart t
   calm_instance k t e = apart_outside t (of_some OwnApart (slice_get (s.top.space in_instances) k) t (any_at OwnApart (s.top.space in_instances) k ((h.apart zero s.top refl).space in_instances)) e)
 

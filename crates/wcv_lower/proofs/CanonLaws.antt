@@ -45,7 +45,8 @@ use Rattle.wcv_lower.specs.Mapped.{Map, Commutes, IsKnown, map_context, map_stac
 use Rattle.wcv_lower.specs.Outlines.{Outline, is_async_func, is_stream, is_future, carried, has_value}
 use Rattle.wcv_lower.specs.Readers.{Reader}
 use Rattle.wcv_lower.specs.Step.{Step, core_appends, interns, types_slots}
-use Rattle.wcv_lower.specs.Values.{cm_async_stackful, cm64, type_at, type_of_sort, resource_at, option_entry}
+use Rattle.wcv_core.specs.Features.{cm_async_stackful, cm64}
+use Rattle.wcv_lower.specs.Values.{type_at, type_of_sort, resource_at, option_entry}
 use Rattle.wcv_lower.proofs.CanonOptionLaws.{item_missing-mapped, entity-mapped, memory_type-mapped, memory_pointers-mapped, core_type_found-mapped, options_read-mapped, memory_found-mapped, options_checks-mapped, memory_there}
 use Rattle.wcv_lower.proofs.Causes.{free_both, free_left, free_right}
 use Rattle.wcv_lower.proofs.CoreLaws.{core_entries-mapped}
@@ -250,7 +251,7 @@ module _ {X Y : Reader} (m : Map X Y) {Known : X.Entry → Type 0} (law : Commut
       ++ ((error.Options, test_both (is_no_post_return s.groups) (entity-mapped m law s.top kind.Func f j) (option_and_then (λ i. entity-mapped m law s.top kind.Func i j) (first post_return_in os))) ∷ (error.Signature, signed j) ∷ []))
 
   ask_rules-mapped : (fs : WasmFeatures) (s : Stack X) → IsKnown Known s.top → (q : Ask) → ask_rules fs (map_stack m s) q ≡ ask_rules fs s q
-  ask_rules-mapped fs s w (row.needs n u os) = λ j. (error.Options, needed-mapped s.top u j && not (stands n os)) ∷ []
+  ask_rules-mapped fs s w (row.has_to_stand n u os) = λ j. (error.Options, needed-mapped s.top u j && not (stands n os)) ∷ []
   ask_rules-mapped fs s w (row.async_func k os) =
       let e : is_async_alone Y os (func_at (map_context m s.top) k) ≡ is_async_alone X os (func_at s.top k) = ap (is_async_alone Y os) (func_at-mapped s.top k) ∙ async-mapped os (func_at s.top k) in
       λ j. (error.Options, e j) ∷ []

@@ -36,7 +36,7 @@ module _ (v : Name → ℕ) (c : Tree_context) (k : ℕ) where
   others_high : (r : Name) → member r (own_resources c) ≡ false → with_owner v c k r ≡ v r
   others_high r o = ap (λ (b : Bool). cond b k (v r)) o
 
--- so it is of all types, where none owns what the context has
+-- types stay balanced, where none owns what the context has
 module _ (u : Tree_stack) (b : AreBalanced u) (spared : (r : Name) → IsOwn u.top r → Everywhere (OwnsNot r) u) (k : ℕ) where
   abbrev raised : Name → ℕ
   raised = with_owner b.0 u.top k

@@ -2,12 +2,12 @@
 use Rattle.std.proofs.Common.{◌≡◌, ℕ, ◌<◌, List, [], ◌∷◌, ◌++◌, length, refl, ◌∙◌, ap, Bool, true, false}
 use Rattle.std.specs.Prelude.{All, not, ◌&&◌, is_some, eqb}
 use Rattle.wcv_core.specs.Checks.{all_checks}
-use Rattle.wcv_core.specs.CoreFeatures.{simd, function_references, gc, exceptions, shared_everything, needs, is_gc_name, is_exn_name, heap_needs, val_needs, storage_needs, field_needs, form_needs, sub_needs, group_needs}
+use Rattle.wcv_core.specs.CoreFeatures.{needs, is_gc_name, is_exn_name, heap_needs, val_needs, storage_needs, field_needs, form_needs, sub_needs, group_needs}
 use Rattle.wcv_core.specs.CoreForm.{CompositeForm, func_form, struct_form, array_form, SubForm, Group}
 use Rattle.wcv_core.specs.CoreGroups.{total, IsClosed}
 use Rattle.wcv_core.specs.CoreJoining.{is_free, order_checks}
 use Rattle.wcv_core.specs.CoreWritten.{Core_entry, IsKnown, index_checks, closed_group}
-use Rattle.wcv_core.specs.Features.{has_feature}
+use Rattle.wcv_core.specs.Features.{has_feature, simd, function_references, gc, exceptions, shared_everything_threads}
 use Rattle.wcv_core.specs.declared.core_types.FieldType.{FieldType}
 use Rattle.wcv_core.specs.declared.core_types.HeapType.{HeapType}
 use Rattle.wcv_core.specs.declared.core_types.HeapType.TheVariants as heap
@@ -40,8 +40,8 @@ each_free f h (x ∷ xs) = free_both (f x) (all_checks f xs) (h x) (each_free f 
 
 heap_free : (b : Bool) (h : HeapType) → IsFree (heap_needs all b h)
 heap_free b (heap.Abstract a) =
-    free_both (needs all gc (is_gc_name a)) (needs all exceptions (is_exn_name a) ++ needs all shared_everything b) (none_missing gc (is_gc_name a) refl)
-    (free_both (needs all exceptions (is_exn_name a)) (needs all shared_everything b) (none_missing exceptions (is_exn_name a) refl) (none_missing shared_everything b refl))
+    free_both (needs all gc (is_gc_name a)) (needs all exceptions (is_exn_name a) ++ needs all shared_everything_threads b) (none_missing gc (is_gc_name a) refl)
+    (free_both (needs all exceptions (is_exn_name a)) (needs all shared_everything_threads b) (none_missing exceptions (is_exn_name a) refl) (none_missing shared_everything_threads b refl))
 heap_free b (heap.Index k) = none_missing function_references true refl
 heap_free b (heap.Id i) = none_missing function_references true refl
 
@@ -68,10 +68,10 @@ form_free (array_form f) = free_both (needs all gc true) (field_needs all f) (no
 
 sub_free : (s : SubForm) → IsFree (sub_needs all s)
 sub_free s =
-    let shared : Checks = needs all shared_everything s.shared ++ form_needs all s.inner in
+    let shared : Checks = needs all shared_everything_threads s.shared ++ form_needs all s.inner in
     free_both (needs all gc (not s.is_final)) (needs all gc (is_some s.supertype) ++ shared) (none_missing gc (not s.is_final) refl)
     (free_both (needs all gc (is_some s.supertype)) shared (none_missing gc (is_some s.supertype) refl)
-    (free_both (needs all shared_everything s.shared) (form_needs all s.inner) (none_missing shared_everything s.shared refl) (form_free s.inner)))
+    (free_both (needs all shared_everything_threads s.shared) (form_needs all s.inner) (none_missing shared_everything_threads s.shared refl) (form_free s.inner)))
 
 group_free : (w : Group) → IsFree (group_needs all w)
 group_free w = free_both (needs all gc (not (eqb (length w) 1))) (all_checks (sub_needs all) w) (none_missing gc (not (eqb (length w) 1)) refl) (each_free (sub_needs all) sub_free w)

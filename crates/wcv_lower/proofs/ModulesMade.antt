@@ -3,7 +3,8 @@ use Rattle.std.proofs.Common.{◌≡◌, ℕ, List, [], ◌∷◌, ◌++◌, ref
 use Rattle.std.specs.Prelude.{Option, slice_get, not, ◌&&◌, is_some}
 use Rattle.std.proofs.lemmas.Bool.{false≢true}
 use Rattle.wcv_core.specs.Checks.{all_checks}
-use Rattle.wcv_core.specs.CoreFeatures.{needs, exceptions, shared_everything, group_needs, ref_needs, val_needs}
+use Rattle.wcv_core.specs.Features.{exceptions, shared_everything_threads, memory64}
+use Rattle.wcv_core.specs.CoreFeatures.{needs, group_needs, ref_needs, val_needs}
 use Rattle.wcv_core.specs.CoreForm.{Group}
 use Rattle.wcv_core.specs.CoreGroups.{total}
 use Rattle.wcv_core.specs.CoreJoining.{is_free, order_checks, written_checks, table_checks, group_checks, then_checks}
@@ -77,12 +78,12 @@ found fs gs ts (ref.Table t) h =
     let es : List Core_entry = type_entries ts in
     let looked : Checks = then_checks (element_checks fs gs es t.element_type) (sharing_checks gs es t) in
     let rest : Checks = table_sizes t ++ looked in
-    let free : IsFree looked = free_right (table_sizes t) looked (free_right (needs fs shared_everything t.shared) rest (free_right (needs fs core.memory64 t.table64) (needs fs shared_everything t.shared ++ rest) h)) in
+    let free : IsFree looked = free_right (table_sizes t) looked (free_right (needs fs shared_everything_threads t.shared) rest (free_right (needs fs memory64 t.table64) (needs fs shared_everything_threads t.shared ++ rest) h)) in
     said_free (heap_checks (total gs) es 0 t.element_type.heap) (free_right (ref_needs fs t.element_type) (heap_checks (total gs) es 0 t.element_type.heap) (free_first (element_checks fs gs es t.element_type) (sharing_checks gs es t) free))
 found fs gs ts (ref.Memory m) h = refl
 found fs gs ts (ref.Global g) h =
     let vs : Checks = val_checks (total gs) (type_entries ts) 0 g.content_type in
-    said_free vs (free_right (val_needs fs g.content_type) vs (free_right (needs fs shared_everything g.shared) (val_needs fs g.content_type ++ vs) h))
+    said_free vs (free_right (val_needs fs g.content_type) vs (free_right (needs fs shared_everything_threads g.shared) (val_needs fs g.content_type ++ vs) h))
 
 entry_there : (o : Option Core_entry) → IsFree (entry_checks o) → (i : ℕ) × (on_entry o ≡ Some i)
 entry_there None h = absurd (false≢true (sym h.0))

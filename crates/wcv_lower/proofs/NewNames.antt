@@ -48,7 +48,7 @@ formed : (o : Option Form) (b : Bool) → (is_none o || b) ≡ false → (f : Fo
 formed None b h = absurd (false≢true (sym h))
 formed (Some f) b h = (f, refl)
 
--- so of a name that may join entries
+-- a name that may join entries is new
 pub new_name : (ns : Resource_names) (fs : WasmFeatures) (es : Entries) (n : Extern_name) (t : Type_tree) → IsFree (externs.name_checks ns fs es n t) → is_among n.name (entry_names es) ≡ false
 new_name ns fs es n t h =
     let w : (f : Form) × (form_of n.name ≡ Some f) = formed (form_of n.name) _ h.0 in

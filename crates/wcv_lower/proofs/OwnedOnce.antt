@@ -91,7 +91,7 @@ step_grew q s p all b m = record {
     go r (inl o) = inl o
     go r (inr e) = inr (m.made r e)
 
--- so where it is applied
+-- a step that is applied keeps what is owned once
 applied_grew : (q : Place) (s u : Tree_stack) (o : Option (Step tree_reader)) → Everywhere OwnsOnce s → OfAny (AllBring OwnsOnce (λ r. Unit {0})) o → OfAny (λ p. AreMade q (new_names p)) o → applied s o ≡ Some u → Grew q s u
 applied_grew q s u o all b m e =
     let w = map-some (λ p. apply p s) o u e in

@@ -207,7 +207,7 @@ owns_once_inherited = record {
   again = λ m plain t w. owns_once-replaced m t (each_given m OwnsOnce (none_given m plain OwnsOnce) t) w;
 }
 
--- so where nodes are given that have it
+-- a property is kept where nodes are given that have it
 abbrev pub KeptWhereGiven : (Type_tree → Type 0) → Type 0
 KeptWhereGiven P = (m : Replacement) → ((i : Identity) (u : Type_tree) → m.nodes i ≡ Some u → P u) → (t : Type_tree) → P t → P (replaced m t)
 

@@ -17,7 +17,7 @@ use Rattle.wcv_lower.specs.Marks.{value_at, uses_each, use_checks}
 use Rattle.wcv_lower.specs.Readers.{Reader}
 use Rattle.wcv_lower.specs.Start.{result_joins, start_joins, start_step, suits, all_suit, signature_checks, result_room, func_suits, start_checks}
 use Rattle.wcv_lower.specs.Step.{Step, names_start}
-use Rattle.wcv_lower.specs.Values.{cm_values}
+use Rattle.wcv_core.specs.Features.{cm_values}
 use Rattle.wcv_lower.proofs.Causes.{free_left}
 use Rattle.wcv_lower.proofs.CoreInstanceLaws.{all_true, some_there}
 use Rattle.wcv_lower.proofs.EndingLaws.{none-mapped}

@@ -34,7 +34,7 @@ use Rattle.wcv_lower.specs.CoreInstances.{core_item_at, test_found}
 use Rattle.wcv_lower.specs.CoreItems.{core_entries}
 use Rattle.wcv_lower.specs.Readers.{Reader}
 use Rattle.wcv_lower.specs.Types.{takes_and_gives}
-use Rattle.wcv_lower.specs.Values.{cm_async, cm64}
+use Rattle.wcv_core.specs.Features.{cm_async, cm64}
 
 -- ## What stands in a list
 

@@ -34,7 +34,8 @@ use Rattle.wcv_types.specs.Tree.{is_func, is_value, is_resource, parts}
 use Rattle.wcv_matching.specs.ItemTests.{same_ref, same_val}
 use Rattle.wcv_flat.specs.Options.{pointer_size, type_checks}
 use Rattle.wcv_flat.specs.RowTypes.{words_form, taking, sync, is_shared, sole}
-use Rattle.wcv_flat.specs.Rows.{Ask, Needed, Appends, Option_name, async_option, callback_option, canon_row}
+pub use Rattle.wcv_flat.specs.Rows.{options_in}
+use Rattle.wcv_flat.specs.Rows.{Ask, Needed, Appends, async_option, callback_option, canon_row}
 use Rattle.wcv_flat.specs.Rows as row
 use Rattle.wcv_flat.specs.Signature.{core_type}
 use Rattle.wcv_flat.specs.declared.options.Abi.TheVariants as abi
@@ -53,7 +54,8 @@ use Rattle.wcv_lower.specs.Outlines.{Outline, is_async_func, is_stream, is_futur
 use Rattle.wcv_lower.specs.Readers.{Reader}
 use Rattle.wcv_lower.specs.Step.{Step, appends, core_appends, interns, types_slots}
 use Rattle.wcv_lower.specs.Types.{takes_and_gives, form_takes_and_gives}
-use Rattle.wcv_lower.specs.Values.{cm_async_stackful, cm_more_async_builtins, cm_threading, cm64, has_feature, type_at, type_of_sort, sort_checks, resource_at, option_entry, option_checks}
+use Rattle.wcv_core.specs.Features.{cm_async_stackful, cm_more_async_builtins, cm_threading, cm64}
+use Rattle.wcv_lower.specs.Values.{has_feature, type_at, type_of_sort, sort_checks, resource_at, option_entry, option_checks}
 
 -- ## What operands name
 
@@ -95,19 +97,6 @@ abbrev pub start_param : List Group → CoreTypeId → Option ValType
 start_param gs i = first_param (table.type_at gs i.index).inner
 
 -- ## The core type of what is appended
-
--- the list of options, where one is written
-abbrev pub options_in : Canon_form → Option (List CanonicalOption)
-options_in (form.lift f t os) = Some os
-options_in (form.lower f os) = Some os
-options_in (form.task_return r os) = Some os
-options_in (form.stream_read t os) = Some os
-options_in (form.stream_write t os) = Some os
-options_in (form.future_read t os) = Some os
-options_in (form.future_write t os) = Some os
-options_in (form.error_context_new os) = Some os
-options_in (form.error_context_message os) = Some os
-options_in (form.builtin f) = None
 
 abbrev pub canon_options : {X : Reader} → Context X → Canon_form → CanonicalOptions
 canon_options c f = options_read c (unwrap_or (options_in f) [])
@@ -197,7 +186,7 @@ appends_found c (row.returning r) = value_found c r
 appends_found c (row.lifted t) = sort_checks is_func c t
 appends_found c q = []
 
--- so of all operands
+-- all operands are looked up
 abbrev pub operands_found : {X : Reader} → Stack X → Canon_form → Checks
 operands_found s f = all_checks (ask_found s) (canon_row f).asks ++ appends_found s.top (canon_row f).appends
 
@@ -318,7 +307,7 @@ ask_rules fs s (row.feature bit) = lacks fs bit
 ask_rules fs s (row.more_where b) = needs fs cm_more_async_builtins b
 ask_rules fs s (row.more_without_async os) = needs fs cm_more_async_builtins (not (stands async_option os))
 ask_rules fs s (row.bars ns os) = (error.Options, list_any (λ n. stands n os) ns) ∷ []
-ask_rules fs s (row.needs n w os) = (error.Options, is_needed s.top w && not (stands n os)) ∷ []
+ask_rules fs s (row.has_to_stand n w os) = (error.Options, is_needed s.top w && not (stands n os)) ∷ []
 ask_rules {X} fs s (row.async_func k os) = (error.Options, is_async_alone X os (func_at s.top k)) ∷ []
 ask_rules fs s (row.memory_at m) = if_found (memory_rules fs) (memory_type_at s.top m)
 ask_rules {X} fs s (row.no_borrow r) = option_checks fs s.top r ++ if_found (has_borrow X) (option_entry s.top r)

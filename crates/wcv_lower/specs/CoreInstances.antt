@@ -4,7 +4,8 @@ use Rattle.std.specs.List.{list_all}
 use Rattle.std.specs.Map.{lookup}
 use Rattle.std.specs.Option.{option_map, option_map_or, option_and_then}
 use Rattle.wcv_core.specs.Checks.{all_checks}
-use Rattle.wcv_core.specs.CoreFeatures.{exceptions, needs}
+use Rattle.wcv_core.specs.Features.{exceptions}
+use Rattle.wcv_core.specs.CoreFeatures.{needs}
 use Rattle.wcv_core.specs.CoreForm.{Group}
 use Rattle.wcv_core.specs.Limits.{max_entries, max_list, max_size}
 use Rattle.wcv_core.specs.declared.core_types.EntityType.{EntityType}
@@ -86,7 +87,7 @@ test_found test o = option_map_or test o false
 abbrev pub serves : List Group → List (Text × List Core_export) → Core_import → Bool
 serves gs args i = test_found (λ (es : List Core_export). test_found (λ (e : EntityType). item_matches gs e i.1) (lookup (bytes_eq i.0.1) es)) (lookup (bytes_eq i.0.0) args)
 
--- so for each import of a core module
+-- the arguments serve each import of a core module
 abbrev pub all_served : List Group → List (Text × List Core_export) → List Core_import → Bool
 all_served gs args is = list_all (serves gs args) is
 

@@ -73,7 +73,7 @@ is_found gs ts (ref.Table t) = is_free (heap_checks (total gs) (type_entries ts)
 is_found gs ts (ref.Memory m) = true
 is_found gs ts (ref.Global g) = is_free (val_checks (total gs) (type_entries ts) 0 g.content_type)
 
--- so in a declaration, of which a group keeps the rules. What an outer alias names is looked up where it is made
+-- what a declaration names is found, and a group keeps the rules. What an outer alias names is looked up where it is made
 abbrev pub is_declarable : List Group → Module_type → Module_decl → Bool
 is_declarable gs m (module_type w) = may_join gs (module_entries m) w
 is_declarable gs m (module_import i) = is_found gs m.types i.ty

@@ -20,7 +20,7 @@ FromDecl p n q = (j : ℕ) × (n ≤ j) × Under (deeper p j) q
 abbrev pub TypeRead : Bool → WasmFeatures → Place → Tree_stack → Type_form → Tree_stack → Numbers → Numbers → Type 0
 TypeRead limited fs p s t u a b = (n : GivenNames) × GivesAt (Under p) a b n × IsFree (declared_checks limited fs (tree_maker (names_of n)) p s t) × (read_type fs (tree_maker (names_of n)) p s t ≡ Some u)
 
--- so a declaration
+-- a declaration has no cause, and leads from one stack to another
 abbrev pub DeclRead : WasmFeatures → Place → Tree_stack → Decl → Tree_stack → Numbers → Numbers → Type 0
 DeclRead fs p s d u a b = (n : GivenNames) × GivesAt (Under p) a b n × IsFree (decl_checks fs (tree_maker (names_of n)) p s d) × (read_decl fs (tree_maker (names_of n)) p s d ≡ Some u)
 

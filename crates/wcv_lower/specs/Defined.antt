@@ -15,7 +15,8 @@ use Rattle.wcv_types.specs.Tree.{Text, Former, here, label, is_resource}
 use Rattle.wcv_lower.specs.Checks.{Checks, if_found, too_many, each_too_long, label_checks, max_flags}
 use Rattle.wcv_lower.specs.Context.{Context}
 use Rattle.wcv_lower.specs.Readers.{Reader, Made_parts, New_node, defined_node, Maker}
-use Rattle.wcv_lower.specs.Values.{lacks, primitive_checks, cm_async, cm_map, cm_fixed_length_lists, sort_checks, resource_at, value_entry, option_entry, Written_parts, parts_entries, parts_checks}
+use Rattle.wcv_core.specs.Features.{cm_async, cm_map, cm_fixed_length_lists}
+use Rattle.wcv_lower.specs.Values.{lacks, primitive_checks, sort_checks, resource_at, value_entry, option_entry, Written_parts, parts_entries, parts_checks}
 
 -- ## What it is made of
 
@@ -175,7 +176,7 @@ content_checks c x = []
 abbrev pub size_checks : (X : Reader) → X.Entry → Checks
 size_checks X x = too_many max_size (X.size x) ++ (too_many max_depth (X.depth x) ++ (too_many max_abi_size (X.abi_size 4 x) ++ too_many max_abi_size (X.abi_size 8 x)))
 
--- so a node that is made
+-- a node that is made is too large, too deep, or too large in memory
 abbrev pub node_checks : {X : Reader} → Maker X → New_node X → Checks
 node_checks {X} mk n = size_checks X (mk.build n)
 

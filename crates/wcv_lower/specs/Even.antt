@@ -16,7 +16,7 @@ pub record Heights : Type 0 where
 abbrev pub GoesBy : Heights → Head Name Name → Parts Name Name → Type 0
 GoesBy w h ps = ((i : Identity) → identity_at h ≡ Some i → suc (heights ps) ≡ w.node_of i) × ((r : Name) → owns h r ≡ true → suc (heights ps) ≡ w.owner_of r)
 
--- so each node inside the type, in which names differ and which is formed
+-- each node of the type is of the heights that go with its names; names differ in it, and it is formed
 abbrev pub IsEven : Heights → Type_tree → Type 0
 IsEven w t = AllNamesDiffer t × Formed t × EachNode (GoesBy w) t
 
@@ -31,7 +31,7 @@ IsLevel h ps = Unit {0}
 abbrev pub OwnsAt : (Name → ℕ) → Head Name Name → Parts Name Name → Type 0
 OwnsAt v h ps = IsLevel h ps × ((r : Name) → owns h r ≡ true → suc (heights ps) ≡ v r)
 
--- so each node inside the type
+-- each node of the type is of the heights that go with what it owns
 abbrev pub IsBalanced : (Name → ℕ) → Type_tree → Type 0
 IsBalanced v t = EachNode (OwnsAt v) t
 
@@ -41,6 +41,6 @@ IsBalanced v t = EachNode (OwnsAt v) t
 abbrev pub HasHeight : (Identity → ℕ) → Head Name Name → Parts Name Name → Type 0
 HasHeight n h ps = (IsLevel h ps → IsFormed h ps) × ((i : Identity) → identity_at h ≡ Some i → suc (heights ps) ≡ n i)
 
--- so each node inside the type, in which names differ: what is balanced too is even
+-- each node of the type is of the height that goes with its identity, and names differ in it: what is balanced too is even
 abbrev pub IsRegular : (Identity → ℕ) → Type_tree → Type 0
 IsRegular n t = AllNamesDiffer t × EachNode (HasHeight n) t

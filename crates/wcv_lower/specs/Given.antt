@@ -59,7 +59,7 @@ abbrev pub IsNewResource : Numbers → Numbers → Name → Type 0
 IsNewResource a b (number k) = (a.resources ≤ k) × (k < b.resources)
 IsNewResource a b x = ⊥
 
--- so a node or a reference
+-- a node or a reference that was given from the first numbers to the second
 abbrev pub IsNewIdentity : Numbers → Numbers → Name → Type 0
 IsNewIdentity a b (number k) = (a.nodes ≤ k) × (k < b.nodes)
 IsNewIdentity a b (stamp k) = (a.stamps ≤ k) × (k < b.stamps)
@@ -94,7 +94,7 @@ abbrev pub AreGiven : (Name → Type 0) → (Place → Type 0) → Given → Typ
 AreGiven New In [] = Unit {0}
 AreGiven New In (g ∷ gs) = New g.1 × In (place_of g.0) × IsYounger g.0 g.1 × (has_origin g.0 gs ≡ false) × (has_name g.1 gs ≡ false) × AreGiven New In gs
 
--- so at those places, from the first numbers to the second
+-- names are given at those places, from the first numbers to the second
 pub record GivesAt (In : Place → Type 0) (a b : Numbers) (n : GivenNames) : Type 0 where
   pub resources : AreGiven (IsNewResource a b) In n.resources
   pub identities : AreGiven (IsNewIdentity a b) In n.identities

@@ -44,7 +44,7 @@ arguments c (a ∷ rest) = before a.name (argument_at c a) (arguments c rest)
 abbrev pub if_opened : (X : Reader) → List Group → List (Text × X.Entry) → X.Entry → Option (List (Text × X.Entry) × X.Entry)
 if_opened X gs args x = cond (X.opens gs args x) (Some (args, x)) None
 
--- so of the component and the arguments at indices, where something stands at each
+-- the component and the arguments at indices, where something stands at each and these open what it imports
 abbrev pub opened : {X : Reader} → Stack X → ℕ → List ComponentInstantiationArg → Option (List (Text × X.Entry) × X.Entry)
 opened {X} s i args =
     cond (list_all (λ (a : ComponentInstantiationArg). not (is_none (argument_at s.top a))) args) (option_and_then (if_opened X s.groups (arguments s.top args)) (component_at s.top i)) None

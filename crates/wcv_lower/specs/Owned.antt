@@ -31,7 +31,7 @@ abbrev mutual
 abbrev pub OwnsApart : Type_tree → Type 0
 OwnsApart (node h ps) = (r : Name) → owns h r ≡ true → OwnsNotIn r ps
 
--- so each type in it
+-- each type in it owns apart
 abbrev mutual
   pub OwnApart : Type_tree → Type 0
   OwnApart (node h ps) = OwnsApart (node h ps) × OwnApartIn ps
@@ -68,7 +68,7 @@ pub record AllEntries (P : Type_tree → Type 0) (c : Tree_context) : Type 0 whe
   pub space : (k : Space) → All P (c.space k)
   pub side : (d : Side) → All (λ e. P e.1) (c.side d)
 
--- so each entry of each open context, the top first
+-- each entry of each open context has the property, the top first
 abbrev pub Everywhere : (Type_tree → Type 0) → Tree_stack → Type 0
 Everywhere P s = (j : ℕ) (c : Tree_context) → at_distance j s ≡ Some c → AllEntries P c
 

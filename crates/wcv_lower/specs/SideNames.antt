@@ -14,7 +14,7 @@ use Rattle.wcv_lower.specs.Trees.{Tree_context, Tree_stack}
 abbrev pub SidesDiffer : Tree_context → Type 0
 SidesDiffer c = (d : Side) → NamesDiffer (named (c.side d))
 
--- so it is in each open context
+-- names differ on the sides of each open context
 abbrev pub AllSidesDiffer : Tree_stack → Type 0
 AllSidesDiffer s = (j : ℕ) (c : Tree_context) → at_distance j s ≡ Some c → SidesDiffer c
 

@@ -14,7 +14,7 @@ use Rattle.wcv_lower.specs.Context.{Context, Stack, in_values, counts}
 use Rattle.wcv_lower.specs.Marks.{value_at, uses_each, use_checks}
 use Rattle.wcv_lower.specs.Readers.{Reader}
 use Rattle.wcv_lower.specs.Step.{Step, appends, marks_value, names_start}
-use Rattle.wcv_lower.specs.Values.{cm_values}
+use Rattle.wcv_core.specs.Features.{cm_values}
 
 -- what the function gives joins the values, not used yet
 abbrev pub result_joins : {X : Reader} → Option X.Entry → Step X
@@ -35,7 +35,7 @@ abbrev pub suits : (X : Reader) → List Group → X.Entry → Option X.Entry �
 suits X gs p None = true
 suits X gs p (Some v) = X.matches gs v p
 
--- so of the values and the parameters, one by one, as far as both go
+-- the values suit the parameters, one by one, as far as both go
 abbrev pub all_suit : (X : Reader) → List Group → List (Option X.Entry) → List X.Entry → Bool
 all_suit X gs (v ∷ vs) (p ∷ ps) = suits X gs p v && all_suit X gs vs ps
 all_suit X gs _ _ = true

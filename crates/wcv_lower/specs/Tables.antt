@@ -14,6 +14,6 @@ pub record StandsOver (gs : List Group) (ess : List (List Core_entry)) : Type 0 
   pub forms : SupersKeepForm gs
   pub known : All (λ es. All (IsKnown (total gs)) es) ess
 
--- so the groups that were read, and the core types of each open context
+-- the groups that were read are a table, over which the core types of each open context stand
 abbrev pub TableStands : Tree_stack → Type 0
 TableStands s = StandsOver s.groups (outer_entries s)

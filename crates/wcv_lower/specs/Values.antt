@@ -2,6 +2,7 @@
 use Rattle.std.specs.Prelude.{ℕ, List, [], ◌∷◌, ◌++◌, Option, Some, None}
 use Rattle.std.specs.Option.{option_map, option_and_then}
 pub use Rattle.wcv_core.specs.Checks.{lacks}
+use Rattle.wcv_core.specs.Features.{cm_values, cm_error_context}
 pub use Rattle.wcv_core.specs.Features.{has_feature}
 use Rattle.wcv_core.specs.declared.features.WasmFeatures.{WasmFeatures}
 use Rattle.wcv_core.specs.declared.primitive.PrimitiveValType.{PrimitiveValType}
@@ -12,30 +13,9 @@ use Rattle.wcv_syntax.specs.declared.instance.ComponentExternalKind.{ComponentEx
 use Rattle.wcv_syntax.specs.declared.instance.ComponentExternalKind.TheVariants as external
 use Rattle.wcv_types.specs.Tree.{Sort, is_value, is_resource, Role}
 use Rattle.wcv_lower.specs.Checks.{Checks, missing_of}
-pub use Rattle.wcv_flat.specs.Rows.{cm_async, cm_threading, cm_error_context}
 pub use Rattle.wcv_lower.specs.Context.{type_at}
 use Rattle.wcv_lower.specs.Context.{Context}
 use Rattle.wcv_lower.specs.Readers.{Reader, Made_parts, sort_of, if_sort}
-
--- ## Features
-
-abbrev pub cm_async_stackful : ℕ
-cm_async_stackful = 512
-
-abbrev pub cm_more_async_builtins : ℕ
-cm_more_async_builtins = 1024
-
-abbrev pub cm64 : ℕ
-cm64 = 8192
-
-abbrev pub cm_values : ℕ
-cm_values = 16384
-
-abbrev pub cm_map : ℕ
-cm_map = 32768
-
-abbrev pub cm_fixed_length_lists : ℕ
-cm_fixed_length_lists = 65536
 
 -- an item of that sort asks for its feature, if it is a value
 abbrev pub kind_checks : WasmFeatures → ComponentExternalKind → Checks

@@ -79,7 +79,7 @@ with_resource = root_of (type_entry (tree.resource_type resource (stamped (0 ∷
 abbrev pub with_local_resource : ValType → Tree_stack
 with_local_resource rep = record with_resource { top = record with_resource.top { defined = (resource, Some rep) ∷ [] } }
 
--- so many times
+-- a list of one thing, that many times
 abbrev pub times : {A : Type 0} → ℕ → A → List A
 times zero x = []
 times (suc n) x = x ∷ times n x

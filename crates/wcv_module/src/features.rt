@@ -1,17 +1,17 @@
 // The features that core imports and exports need.
 ghost use Rattle.std.specs.Prelude.{◌≡◌, true, false, OnOk, OnErr, IfErr};
 ghost use Rattle.wcv_core.specs.Checks.{IsFree, CausedBy};
-ghost use Rattle.wcv_core.specs.CoreFeatures.{needs, exceptions, shared_everything};
+ghost use Rattle.wcv_core.specs.Features.{exceptions, shared_everything_threads, threads, memory64, custom_page_sizes};
+ghost use Rattle.wcv_core.specs.CoreFeatures.{needs};
 ghost use Rattle.wcv_core.specs.Refusal.{error_kind, error_offset};
-ghost use Rattle.wcv_syntax.specs.CoreItems.{threads, memory64, custom_page_sizes};
 
 use bitflags::Flags;
 use wcv_core::{ErrorKind, Refusal, WasmFeatures, missing_feature};
 
-/// Refuses what needs a feature that is missing, by the feature's name and by what needs it.
+/// Refuses what needs a feature that is missing, by what needs it.
 fn check_feature(
     lacks: bool,
-    name: &'static str,
+    feature: WasmFeatures,
     by: &'static str,
     offset: u64,
 ) -> Result<(), Refusal<'static>>
@@ -20,7 +20,7 @@ fn check_feature(
     ensures err { IfErr result (λ e. (error_kind e ≡ ErrorKind.Feature) × (error_offset e ≡ offset)) }
 {
     if lacks {
-        return Err(missing_feature(by, "", name, offset));
+        return Err(missing_feature(by, "", feature, offset));
     }
     Ok(())
 }
@@ -36,7 +36,7 @@ pub fn check_memory64(
     ensures err { IfErr result (CausedBy (needs features.now memory64 there) offset) }
 {
     let lacks = there && !features.contains(WasmFeatures::MEMORY64);
-    check_feature(lacks, "memory64", by, offset)
+    check_feature(lacks, WasmFeatures::MEMORY64, by, offset)
 }
 
 /// Whether memories may be shared, if one is.
@@ -49,7 +49,7 @@ pub fn check_threads(
     ensures err { IfErr result (CausedBy (needs features.now threads there) offset) }
 {
     let lacks = there && !features.contains(WasmFeatures::THREADS);
-    check_feature(lacks, "threads", "a shared memory", offset)
+    check_feature(lacks, WasmFeatures::THREADS, "a shared memory", offset)
 }
 
 /// Whether pages may have an unusual size, if they have.
@@ -63,7 +63,7 @@ pub fn check_page_sizes(
 {
     let lacks = there && !features.contains(WasmFeatures::CUSTOM_PAGE_SIZES);
     let by = "a memory whose page exponent is not 16";
-    check_feature(lacks, "custom-page-sizes", by, offset)
+    check_feature(lacks, WasmFeatures::CUSTOM_PAGE_SIZES, by, offset)
 }
 
 /// Whether tables and globals may be shared, if one is.
@@ -73,11 +73,11 @@ pub fn check_shared(
     by: &'static str,
     offset: u64,
 ) -> Result<(), Refusal<'static>>
-    ensures ok { OnOk result (IsFree (needs features.now shared_everything there)) }
-    ensures err { IfErr result (CausedBy (needs features.now shared_everything there) offset) }
+    ensures ok { OnOk result (IsFree (needs features.now shared_everything_threads there)) }
+    ensures err { IfErr result (CausedBy (needs features.now shared_everything_threads there) offset) }
 {
     let lacks = there && !features.contains(WasmFeatures::SHARED_EVERYTHING_THREADS);
-    check_feature(lacks, "shared-everything-threads", by, offset)
+    check_feature(lacks, WasmFeatures::SHARED_EVERYTHING_THREADS, by, offset)
 }
 
 /// Whether there may be tags.
@@ -86,5 +86,5 @@ pub fn check_tags(features: &WasmFeatures, offset: u64) -> Result<(), Refusal<'s
     ensures err { IfErr result (CausedBy (needs features.now exceptions true) offset) }
 {
     let lacks = !features.contains(WasmFeatures::EXCEPTIONS);
-    check_feature(lacks, "exceptions", "a tag", offset)
+    check_feature(lacks, WasmFeatures::EXCEPTIONS, "a tag", offset)
 }

@@ -76,7 +76,7 @@ module _ (ts : List Type_tree) (items : List (Text × ComponentItem)) (ns : Reso
   pub by_memory : {M : Type 0} (e : Error M) → error_kind e ≡ kind.OutOfMemory → MemoryOrCausedBy (extern_checks ns fs (entry_trees ts items) info n t) offset e
   by_memory e k = inl k
 
--- so where the arena was handed on between
+-- an entry joins where the arena was handed on between
 pub by_size_later : {M : Type 0} (a b : Arena) (x : ComponentEntityType) (items : List (Text × ComponentItem)) (ns : Resource_names) (fs : WasmFeatures) (info : TypeInfo) (n : Extern_name) (offset : ℕ) (e : Error M) → a ≡ b →
     MemoryOrCausedBy (too_large_with info (entity_tree (trees a.nodes) x)) offset e → MemoryOrCausedBy (extern_checks ns fs (entry_trees (trees b.nodes) items) info n (entity_tree (trees b.nodes) x)) offset e
 by_size_later a b x items ns fs info n offset e h w =

@@ -20,7 +20,7 @@ use Rattle.wcv_types.proofs.Unfolding.{sort_stands}
 use Rattle.wcv_names.specs.Externs.{is_set, is_instance_tree}
 use Rattle.wcv_names.specs.FuncTrees.{IsFunction, func_part, is_instance_id}
 use Rattle.wcv_names.specs.ResourceNames.{Resource_names}
-use Rattle.wcv_names.specs.Rules.{Entries, function_fits, is_free, fits, gotten, taken, getter_in, is_given, is_paired_by, is_paired, follows}
+use Rattle.wcv_names.specs.Rules.{Entries, function_fits, is_for_any_sort, fits, gotten, taken, getter_in, is_given, is_paired_by, is_paired, follows}
 use Rattle.wcv_names.specs.Shapes.{option_tree, param_trees}
 use Rattle.wcv_names.proofs.FuncTrees.{function_looks, function_pairs, other_looks, other_pairs, entity_is_func}
 use Rattle.wcv_types.specs.SameSeen.{alike}
@@ -61,7 +61,7 @@ module _ (a : Arena) (x : ComponentEntityType) (ns : Resource_names) (es : Entri
       let is = entity_is_func a x i s e h in
       d ∙ sym (function_pairs a t s es f is) ∙ sym (ap (λ (c : Bool). c && is_paired es f t) (function_looks a t s ns f is ∙ k))
 
-  pub other_follows : (b : Bool) → EntityStands a x → func_part x ≡ None → b ≡ is_free f → b ≡ follows ns es f (entity_tree (trees a.nodes) x)
+  pub other_follows : (b : Bool) → EntityStands a x → func_part x ≡ None → b ≡ is_for_any_sort f → b ≡ follows ns es f (entity_tree (trees a.nodes) x)
   other_follows b st e k =
       let t : Type_tree = entity_tree (trees a.nodes) x in
       k ∙ sym (ap (λ (c : Bool). fits ns f t && c) (other_pairs a x es f st e) ∙ and_true (fits ns f t) ∙ other_looks a x ns f st e)

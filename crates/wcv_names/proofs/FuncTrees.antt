@@ -19,7 +19,7 @@ use Rattle.wcv_types.specs.declared.shapes.ComponentValType.{ComponentValType}
 use Rattle.wcv_types.specs.declared.shapes.ComponentValType.TheVariants as v
 use Rattle.wcv_types.proofs.Unfolding.{all_left, all_right, sort_stands}
 use Rattle.wcv_names.specs.ResourceNames.{Resource_names}
-use Rattle.wcv_names.specs.Rules.{Params, Entries, params, gives, function_fits, is_free, fits, gotten, if_ok, taken, getter_in, is_paired_by, is_paired}
+use Rattle.wcv_names.specs.Rules.{Params, Entries, params, gives, function_fits, is_for_any_sort, fits, gotten, if_ok, taken, getter_in, is_paired_by, is_paired}
 use Rattle.wcv_names.specs.Shapes.{option_tree, OptionStands, param_trees, ParamsStand, FuncStands, rest_of}
 use Rattle.wcv_names.specs.FuncTrees.{IsFunction, func_part}
 
@@ -94,7 +94,7 @@ abbrev is_of_func : Sort → Bool
 is_of_func is_func = true
 is_of_func _ = false
 
-other_free : (t : Type_tree) (ns : Resource_names) (f : Form) → is_of_func (sort t) ≡ false → fits ns f t ≡ is_free f
+other_free : (t : Type_tree) (ns : Resource_names) (f : Form) → is_of_func (sort t) ≡ false → fits ns f t ≡ is_for_any_sort f
 other_free (node (func i b) ps) ns f h = cc h
 other_free (node nothing ps) ns f h = refl
 other_free (node (primitive q) ps) ns f h = refl
@@ -146,7 +146,7 @@ other_sort a (entity.Ty c r) h e = refl
 other_sort a (entity.Instance i) h e = ap is_of_func (sort_stands a (p.Instance i) h)
 other_sort a (entity.Component i) h e = ap is_of_func (sort_stands a (p.Component i) h)
 
-pub other_looks : (a : Arena) (x : ComponentEntityType) (ns : Resource_names) (f : Form) → EntityStands a x → func_part x ≡ None → fits ns f (entity_tree (trees a.nodes) x) ≡ is_free f
+pub other_looks : (a : Arena) (x : ComponentEntityType) (ns : Resource_names) (f : Form) → EntityStands a x → func_part x ≡ None → fits ns f (entity_tree (trees a.nodes) x) ≡ is_for_any_sort f
 other_looks a x ns f h e = other_free (entity_tree (trees a.nodes) x) ns f (other_sort a x h e)
 
 pub other_gives : (a : Arena) (x : ComponentEntityType) → EntityStands a x → func_part x ≡ None → left_out ≡ gotten (entity_tree (trees a.nodes) x)

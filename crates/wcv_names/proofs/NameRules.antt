@@ -2,15 +2,16 @@
 use Rattle.std.proofs.Common.{◌≡◌, ℕ, Bool, true, false, not, cond, ◌||◌, ◌&&◌, ◌⊎◌, Option, Some, None, inl, inr, refl, sym, ap, ◌∙◌}
 use Rattle.std.specs.Prelude.{is_none, is_some}
 use Rattle.std.proofs.lemmas.Bool.{or_left, or_right}
+use Rattle.wcv_core.specs.Features.{cm_implements, cm_accessors, has_feature}
 use Rattle.wcv_core.specs.Refusal.{error_kind, error_offset}
 use Rattle.wcv_core.specs.declared.error.Error.{Error}
 use Rattle.wcv_core.specs.declared.error.ErrorKind.TheVariants as kind
 use Rattle.wcv_core.specs.declared.features.WasmFeatures.{WasmFeatures}
 use Rattle.wcv_syntax.specs.ExternName.{Form, is_accessor, access_of}
 use Rattle.wcv_syntax.specs.FormOf.{form_of}
-use Rattle.wcv_syntax.specs.NameFaults.{has_accessors, fault_in, name_fault}
+use Rattle.wcv_syntax.specs.NameFaults.{fault_in, name_fault}
 use Rattle.wcv_types.specs.Tree.{Text, Extern_name}
-use Rattle.wcv_names.specs.WholeNames.{on_text, bad_suffix, bad_interface, says_more, has_implements, bad_implements, bad_version, is_bad_name, lacks_accessors, lacks_canon_names, lacks_implements, lacks_feature, NameRefused}
+use Rattle.wcv_names.specs.WholeNames.{on_text, bad_suffix, bad_interface, says_more, bad_implements, bad_version, is_bad_name, lacks_accessors, lacks_canon_names, lacks_implements, lacks_feature, NameRefused}
 
 module _ {M : Type 0} (inst : Bool) (fs : WasmFeatures) (n : Extern_name) (offset : ℕ) (e : Error M) (at : error_offset e ≡ offset) where
   pub by_name : error_kind e ≡ kind.Name → is_bad_name inst n ≡ true → NameRefused inst fs n offset e
@@ -52,9 +53,9 @@ module _ (inst : Bool) (fs : WasmFeatures) (n : Extern_name) (f : Form) (t : Tex
   by_implemented offset e k at h = by_implements inst fs n offset e at k (interface_is ∙ h)
 
 -- what needs the feature that is missing
-module _ (inst : Bool) (fs : WasmFeatures) (n : Extern_name) (lacks : has_implements fs ≡ false) where
+module _ (inst : Bool) (fs : WasmFeatures) (n : Extern_name) (lacks : has_feature fs cm_implements ≡ false) where
   pub lacks_nothing : says_more n ≡ false → lacks_implements fs n ≡ false
-  lacks_nothing h = ap (λ (b : Bool). b && not (has_implements fs)) h
+  lacks_nothing h = ap (λ (b : Bool). b && not (has_feature fs cm_implements)) h
 
   pub says_nothing : says_more n ≡ false → bad_implements inst n ≡ false
   says_nothing h = go n.implements h
@@ -74,14 +75,14 @@ module _ {M : Type 0} (inst : Bool) (fs : WasmFeatures) (n : Extern_name) (offse
       some : {X : Type 0} {x y : X} → Some x ≡ Some y → x ≡ y
       some k = cc k
 
-      lack : (f : Form) (b : Bool) → (is_accessor (access_of f) && not (has_accessors fs)) ≡ b → cond b (Some kind.Feature) None ≡ Some (error_kind e) → (error_kind e ≡ kind.Feature) × (b ≡ true)
+      lack : (f : Form) (b : Bool) → (is_accessor (access_of f) && not (has_feature fs cm_accessors)) ≡ b → cond b (Some kind.Feature) None ≡ Some (error_kind e) → (error_kind e ≡ kind.Feature) × (b ≡ true)
       lack f true q k = (sym (some k), refl)
       lack f false q k = cc k
 
       go : (o : Option Form) → form_of n.name ≡ o → fault_in fs o ≡ Some (error_kind e) → NameRefused inst fs n offset e
       go None q k = by_no_form inst fs n offset e at (sym (some k)) (ap (λ (o : Option Form). is_none o) q)
       go (Some f) q k =
-          let l = lack f (is_accessor (access_of f) && not (has_accessors fs)) refl k in
+          let l = lack f (is_accessor (access_of f) && not (has_feature fs cm_accessors)) refl k in
           by_accessors inst fs n offset e at l.0 (ap (lacks_accessors fs) q ∙ l.1)
 
 -- where the name alone is not refused
@@ -94,7 +95,7 @@ has_accessors_for fs t h = go (form_of t) h
 
     go : (o : Option Form) → fault_in fs o ≡ None → (is_none o ≡ false) × (lacks_accessors fs o ≡ false)
     go None k = cc k
-    go (Some f) k = (refl, lack (is_accessor (access_of f) && not (has_accessors fs)) k)
+    go (Some f) k = (refl, lack (is_accessor (access_of f) && not (has_feature fs cm_accessors)) k)
 
 or_none : (a b : Bool) → a ≡ false → b ≡ false → (a || b) ≡ false
 or_none false b h k = k

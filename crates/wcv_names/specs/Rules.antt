@@ -76,15 +76,15 @@ function_fits ns (static a r f) async ps g = is_among r ns.names && is_used_so a
 function_fits ns (interface n p i v) async ps g = true
 
 -- an item of any sort may have the name
-abbrev pub is_free : Form → Bool
-is_free (item call l) = true
-is_free (interface n p i v) = true
-is_free f = false
+abbrev pub is_for_any_sort : Form → Bool
+is_for_any_sort (item call l) = true
+is_for_any_sort (interface n p i v) = true
+is_for_any_sort f = false
 
 -- what has the name looks as the name says
 abbrev pub fits : Resource_names → Form → Type_tree → Bool
 fits ns f (node (func i async) ps) = function_fits ns f async (params ps) (gives ps)
-fits ns f t = is_free f
+fits ns f t = is_for_any_sort f
 
 -- ## Getters and setters
 

@@ -1,4 +1,4 @@
--- The same over the nodes of an arena.
+-- What names ask of value types, over the nodes of an arena.
 use Rattle.std.specs.Prelude.{ℕ, List, [], ◌∷◌, map, ◌≡◌, Option, Some, None, All}
 use Rattle.wcv_core.specs.Names.{number}
 use Rattle.wcv_types.specs.Arena.{Arena}

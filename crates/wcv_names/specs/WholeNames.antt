@@ -1,12 +1,12 @@
 -- What is asked of a whole name: of the name and of what stands beside it.
-use Rattle.std.specs.Prelude.{ℕ, length, Bool, true, false, not, ◌&&◌, ◌||◌, ◌==◌, ◌≡◌, ◌⊎◌, bit_and, Option, Some, None, is_some, is_none}
+use Rattle.std.specs.Prelude.{ℕ, length, Bool, true, false, not, ◌&&◌, ◌||◌, ◌==◌, ◌≡◌, ◌⊎◌, Option, Some, None, is_some, is_none}
+use Rattle.wcv_core.specs.Features.{cm_canon_names, cm_implements, cm_accessors, has_feature}
 use Rattle.wcv_core.specs.Refusal.{error_kind, error_offset}
 use Rattle.wcv_core.specs.declared.error.Error.{Error}
 use Rattle.wcv_core.specs.declared.error.ErrorKind.TheVariants as kind
 use Rattle.wcv_core.specs.declared.features.WasmFeatures.{WasmFeatures}
 use Rattle.wcv_syntax.specs.ExternName.{Form, item, interface, call, is_accessor, access_of}
 use Rattle.wcv_syntax.specs.FormOf.{form_of}
-use Rattle.wcv_syntax.specs.NameFaults.{has_accessors}
 use Rattle.wcv_syntax.specs.Versions.{is_versioned}
 use Rattle.wcv_syntax.specs.declared.name.ComponentExternName.{ComponentExternName}
 use Rattle.wcv_types.specs.Tree.{Text, Extern_name}
@@ -61,25 +61,19 @@ is_bad_name inst n = is_none (form_of n.name) || (bad_suffix inst n || (bad_impl
 
 -- ## Features
 
-abbrev pub has_canon_names : WasmFeatures → Bool
-has_canon_names fs = bit_and fs.0 262144 == 262144
-
-abbrev pub has_implements : WasmFeatures → Bool
-has_implements fs = bit_and fs.0 524288 == 524288
-
 abbrev pub lacks_accessors : WasmFeatures → Option Form → Bool
 lacks_accessors fs None = false
-lacks_accessors fs (Some f) = is_accessor (access_of f) && not (has_accessors fs)
+lacks_accessors fs (Some f) = is_accessor (access_of f) && not (has_feature fs cm_accessors)
 
 abbrev pub lacks_canon_names : WasmFeatures → Extern_name → Bool
-lacks_canon_names fs n = is_some n.version_suffix && not (has_canon_names fs)
+lacks_canon_names fs n = is_some n.version_suffix && not (has_feature fs cm_canon_names)
 
 -- it says what it implements, or has an id from outside
 abbrev pub says_more : Extern_name → Bool
 says_more n = is_some n.implements || is_some n.external_id
 
 abbrev pub lacks_implements : WasmFeatures → Extern_name → Bool
-lacks_implements fs n = says_more n && not (has_implements fs)
+lacks_implements fs n = says_more n && not (has_feature fs cm_implements)
 
 -- a feature is missing that the name needs
 abbrev pub lacks_feature : WasmFeatures → Extern_name → Bool

@@ -36,8 +36,8 @@ fn is_setter(kind: &ComponentNameKind<'_>) -> bool
 }
 
 /// Whether an item of any sort may have the name.
-fn is_free(kind: &ComponentNameKind<'_>) -> bool
-    ensures { result ≡ rules.is_free (kind_view kind.now) }
+fn is_for_any_sort(kind: &ComponentNameKind<'_>) -> bool
+    ensures { result ≡ rules.is_for_any_sort (kind_view kind.now) }
 {
     match kind {
         ComponentNameKind::Label(_) | ComponentNameKind::Interface(_) => true,
@@ -140,7 +140,7 @@ impl ComponentNameContext {
                 let paired = is_paired(kind, wanted, names, items, types, self.allocator())?;
                 Ok(paired)
             }
-            None => Ok(is_free(kind)),
+            None => Ok(is_for_any_sort(kind)),
         }
     }
 

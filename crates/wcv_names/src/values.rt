@@ -101,7 +101,7 @@ impl ComponentNameContext {
         }
     }
 
-    /// Whether it is one that borrows it.
+    /// Whether the value type is a handle that borrows what has the name.
     #[tactic(auto, using(crate::proofs::Shaping::borrow_tree, crate::proofs::Shaping::no_borrow_tree))]
     pub fn is_borrow(&self, types: &TypeAlloc, ty: Option<ComponentValType>, name: &str) -> bool
         requires { OptionStands types.now ty }

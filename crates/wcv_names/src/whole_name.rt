@@ -45,7 +45,7 @@ where
 }
 
 /// A refusal of what needs a feature that is missing.
-fn missing(feature: &'static str, needed_by: &'static str, offset: u64) -> Error
+fn missing(feature: WasmFeatures, needed_by: &'static str, offset: u64) -> Error
     ensures kind { error_kind result ≡ kinds.Feature }
     ensures offset { error_offset result ≡ offset }
 {
@@ -81,7 +81,7 @@ fn check_suffix(
         None => return Ok(()),
     };
     if !features.contains(WasmFeatures::CM_CANON_NAMES) {
-        return Err(missing("cm-canon-names", "a version suffix", offset));
+        return Err(missing(WasmFeatures::CM_CANON_NAMES, "a version suffix", offset));
     }
     if !is_instance {
         return Err(bad_name(offset, "a version suffix stands at instances alone"));
@@ -104,10 +104,10 @@ fn check_plain(name: &ComponentExternName, offset: u64) -> Result<(), Error>
     ensures err { IfErr result (λ e. (error_kind e ≡ kinds.Feature) × (error_offset e ≡ offset) × (rules.says_more (extern_name name.now) ≡ true)) }
 {
     if name.external_id.is_some() {
-        return Err(missing("cm-implements", "an external id", offset));
+        return Err(missing(WasmFeatures::CM_IMPLEMENTS, "an external id", offset));
     }
     if name.implements.is_some() {
-        return Err(missing("cm-implements", "`implements`", offset));
+        return Err(missing(WasmFeatures::CM_IMPLEMENTS, "`implements`", offset));
     }
     Ok(())
 }

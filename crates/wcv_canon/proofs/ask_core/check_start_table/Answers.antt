@@ -5,8 +5,8 @@ use Rattle.wcv_core.specs.CoreFeatures.{needs}
 use Rattle.wcv_core.specs.declared.features.WasmFeatures.{WasmFeatures}
 use Rattle.wcv_core.proofs.Closing.{caused_same}
 use Rattle.wcv_lower.specs.Checks.{IsFree, missing}
-use Rattle.wcv_lower.specs.Values.{cm64}
-use Rattle.wcv_state.specs.Promises.{MemoryOrCausedBy}
+use Rattle.wcv_core.specs.Features.{cm64}
+use Rattle.wcv_spaces.specs.Promises.{MemoryOrCausedBy}
 use Rattle.wcv_canon.proofs.Found.{start_table_missing, start_table_free, start_table_needs, start_table_other}
 use Rattle.wcv_canon.proofs.ask_core.check_start_table.Goals as goal
 

@@ -6,7 +6,7 @@ use Rattle.wcv_core.specs.CoreGroups.{total}
 use Rattle.wcv_core.specs.CoreWritten.{entry_checks}
 use Rattle.wcv_core.proofs.Closing.{caused_same}
 use Rattle.wcv_lower.specs.Canons.{is_start}
-use Rattle.wcv_state.specs.Contents.{core_entries_of}
+use Rattle.wcv_spaces.specs.Contents.{core_entries_of}
 use Rattle.wcv_canon.proofs.Found.{entry_within, found_form, start_type_missing, start_type_free, start_type_other}
 use Rattle.wcv_canon.proofs.ask_core.check_start_type.Goals as goal
 

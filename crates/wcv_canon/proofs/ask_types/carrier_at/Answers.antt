@@ -1,6 +1,6 @@
 use Rattle.std.proofs.lemmas.Result.{err_from_is_err_and}
 use Rattle.wcv_lower.specs.Context.{in_types}
-use Rattle.wcv_state.proofs.Found.{stands_at}
+use Rattle.wcv_spaces.proofs.Found.{stands_at}
 use Rattle.wcv_canon.proofs.Carriers.{carries, types_missing}
 use Rattle.wcv_canon.proofs.ask_types.carrier_at.Goals as goal
 

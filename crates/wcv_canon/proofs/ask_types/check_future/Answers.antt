@@ -3,7 +3,7 @@ use Rattle.std.proofs.lemmas.Result.{err_from_is_err_and}
 use Rattle.wcv_core.proofs.Closing.{caused_same}
 use Rattle.wcv_lower.specs.Checks.{missing}
 use Rattle.wcv_lower.specs.Values.{type_at}
-use Rattle.wcv_state.specs.Contents.{context_of}
+use Rattle.wcv_spaces.specs.Contents.{context_of}
 use Rattle.wcv_canon.proofs.Carriers.{future_free, future_other, future_missing}
 use Rattle.wcv_canon.proofs.ask_types.check_future.Goals as goal
 

@@ -1,7 +1,7 @@
 use Rattle.std.proofs.Common.{inr}
 use Rattle.std.proofs.lemmas.Result.{err_from_is_err_and}
 use Rattle.wcv_core.proofs.Closing.{caused_same}
-use Rattle.wcv_state.specs.Looking.{local_rep_checks}
+use Rattle.wcv_spaces.specs.Looking.{local_rep_checks}
 use Rattle.wcv_canon.proofs.Found.{local_free, local_caused}
 use Rattle.wcv_canon.proofs.ask_types.check_local_resource.Goals as goal
 

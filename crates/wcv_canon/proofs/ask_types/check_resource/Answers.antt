@@ -5,7 +5,7 @@ use Rattle.std.proofs.lemmas.Result.{err_from_is_err_and}
 use Rattle.wcv_core.proofs.Closing.{caused_same}
 use Rattle.wcv_types.specs.Tree.{is_resource}
 use Rattle.wcv_lower.specs.Checks.{missing_of}
-use Rattle.wcv_state.specs.Looking.{any_sort}
+use Rattle.wcv_spaces.specs.Looking.{any_sort}
 use Rattle.wcv_canon.proofs.Found.{resource_free, resource_caused}
 use Rattle.wcv_canon.proofs.ask_types.check_resource.Goals as goal
 

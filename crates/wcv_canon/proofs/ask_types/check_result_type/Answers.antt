@@ -7,8 +7,8 @@ use Rattle.wcv_types.specs.Tree.{is_value}
 use Rattle.wcv_types.specs.declared.ids.ComponentAnyTypeId.TheVariants as any
 use Rattle.wcv_lower.specs.Checks.{missing_of}
 use Rattle.wcv_lower.specs.Context.{in_types}
-use Rattle.wcv_state.specs.Looking.{any_sort}
-use Rattle.wcv_state.proofs.Found.{stands_at}
+use Rattle.wcv_spaces.specs.Looking.{any_sort}
+use Rattle.wcv_spaces.proofs.Found.{stands_at}
 use Rattle.wcv_canon.proofs.Found.{value_caused, value_free, value_borrows}
 use Rattle.wcv_canon.proofs.ask_types.check_result_type.Goals as goal
 

@@ -2,7 +2,7 @@ use Rattle.std.proofs.Common.{sym}
 use Rattle.std.specs.Prelude.{slice_get}
 use Rattle.wcv_core.specs.Refusal.{error_kind}
 use Rattle.wcv_lower.specs.Context.{in_funcs}
-use Rattle.wcv_state.proofs.Found.{stands_at}
+use Rattle.wcv_spaces.proofs.Found.{stands_at}
 use Rattle.wcv_canon.proofs.Carriers.{is_missing}
 use Rattle.wcv_canon.proofs.Found.{async_looked, no_func}
 use Rattle.wcv_canon.proofs.ask_types.is_sync_at.Goals as goal

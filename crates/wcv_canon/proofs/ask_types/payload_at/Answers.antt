@@ -3,9 +3,9 @@ use Rattle.std.specs.Prelude.{Option}
 use Rattle.wcv_core.specs.Refusal.{error_kind}
 use Rattle.wcv_types.specs.declared.shapes.ComponentValType.{ComponentValType}
 use Rattle.wcv_lower.specs.Values.{type_at}
-use Rattle.wcv_state.specs.Contents.{context_of}
+use Rattle.wcv_spaces.specs.Contents.{context_of}
 use Rattle.wcv_canon.specs.Carriers.{IsPayload}
-use Rattle.wcv_canon.specs.Operands.{carrier_sort}
+use Rattle.wcv_flat.specs.CodeRows.{carrier_sort}
 use Rattle.wcv_canon.proofs.Carriers.{is_missing, nothing_carried}
 use Rattle.wcv_canon.proofs.ask_types.payload_at.Goals as goal
 

@@ -7,7 +7,7 @@ use Rattle.wcv_flat.specs.RowTypes.{appended}
 use Rattle.wcv_lower.specs.Canons.{appends_found}
 use Rattle.wcv_lower.specs.Checks.{no_room}
 use Rattle.wcv_lower.specs.Context.{counts}
-use Rattle.wcv_state.specs.Contents.{context_of}
+use Rattle.wcv_spaces.specs.Contents.{context_of}
 use Rattle.wcv_canon.specs.Facts.{facts_in}
 use Rattle.wcv_canon.proofs.EarlyChecks.{early_free, operands_caused, listed_caused, there_caused, room_caused}
 use Rattle.wcv_canon.proofs.facts.find_facts.Goals as goal

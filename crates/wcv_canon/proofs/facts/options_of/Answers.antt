@@ -7,8 +7,8 @@ use Rattle.wcv_syntax.specs.declared.canonical.CanonicalOption.{CanonicalOption}
 use Rattle.wcv_lower.specs.CanonOptions.{options_checks}
 use Rattle.wcv_lower.specs.Canons.{options_in}
 use Rattle.wcv_lower.specs.Checks.{IsFree, if_found}
-use Rattle.wcv_state.specs.Contents.{stack_of}
-use Rattle.wcv_state.specs.Promises.{MemoryOrCausedBy}
+use Rattle.wcv_spaces.specs.Contents.{stack_of}
+use Rattle.wcv_spaces.specs.Promises.{MemoryOrCausedBy}
 use Rattle.wcv_canon.proofs.facts.options_of.Goals as goal
 
 pub returns-in_err-read_options-in-Some-clause-err : goal.returns-in_err-read_options-in-Some-clause-err

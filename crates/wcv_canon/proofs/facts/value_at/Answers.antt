@@ -4,9 +4,9 @@ use Rattle.std.specs.Option.{option_map}
 use Rattle.std.proofs.lemmas.Result.{err_from_is_err_and}
 use Rattle.wcv_types.specs.Tree.{Sort, is_value}
 use Rattle.wcv_lower.specs.Checks.{IsFree, missing_of}
-use Rattle.wcv_state.specs.Looking.{any_sort}
-use Rattle.wcv_state.specs.Promises.{MemoryOrCausedBy}
-use Rattle.wcv_state.proofs.Found.{sorts_same}
+use Rattle.wcv_spaces.specs.Looking.{any_sort}
+use Rattle.wcv_spaces.specs.Promises.{MemoryOrCausedBy}
+use Rattle.wcv_spaces.proofs.Found.{sorts_same}
 use Rattle.wcv_canon.proofs.facts.value_at.Goals as goal
 
 pub returns-in_err-id-clause-err : goal.returns-in_err-id-clause-err

@@ -2,7 +2,7 @@ use Rattle.std.proofs.Common.{ap}
 use Rattle.wcv_core.proofs.Closing.{caused_same}
 use Rattle.wcv_syntax.specs.View.{canon_view}
 use Rattle.wcv_lower.specs.Canons.{canon_checks}
-use Rattle.wcv_state.specs.Contents.{Contents, stack_of}
+use Rattle.wcv_spaces.specs.Contents.{Contents, stack_of}
 use Rattle.wcv_canon.proofs.Refusals.{canon_refused, marked_keeps}
 use Rattle.wcv_canon.proofs.functions.add_canonical_function.Goals as goal
 

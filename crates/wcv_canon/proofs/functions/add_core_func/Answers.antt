@@ -1,7 +1,7 @@
 use Rattle.std.proofs.lemmas.Result.{err_from_is_err_and}
 use Rattle.wcv_syntax.specs.View.{canon_view}
 use Rattle.wcv_types.proofs.Grown.{extends_refl}
-use Rattle.wcv_state.proofs.Keeping.{keeps_grown}
+use Rattle.wcv_spaces.proofs.Keeping.{keeps_grown}
 use Rattle.wcv_canon.proofs.CoreJoined.{early_caused}
 use Rattle.wcv_canon.proofs.functions.add_core_func.Goals as goal
 

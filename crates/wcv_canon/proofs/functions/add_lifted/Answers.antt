@@ -4,9 +4,9 @@ use Rattle.wcv_syntax.specs.declared.canonical.CanonicalOption.{CanonicalOption}
 use Rattle.wcv_lower.specs.Canons.{canon_checks}
 use Rattle.wcv_lower.specs.Checks.{IsFree}
 use Rattle.wcv_syntax.specs.Model.{lift}
-use Rattle.wcv_state.specs.Contents.{stack_of}
-use Rattle.wcv_state.specs.Promises.{Keeps, MemoryOrCausedBy}
-use Rattle.wcv_state.proofs.Keeping.{keeps_grown, keeps_grown_marked}
+use Rattle.wcv_spaces.specs.Contents.{stack_of}
+use Rattle.wcv_spaces.specs.Promises.{Keeps, MemoryOrCausedBy}
+use Rattle.wcv_spaces.proofs.Keeping.{keeps_grown, keeps_grown_marked}
 use Rattle.wcv_canon.proofs.LiftChecks.{lift_grew, lift_keeps}
 use Rattle.wcv_canon.proofs.functions.add_lifted.Goals as goal
 

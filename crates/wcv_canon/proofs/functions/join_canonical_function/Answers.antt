@@ -3,8 +3,8 @@ use Rattle.wcv_syntax.specs.View.{canon_view}
 use Rattle.wcv_syntax.specs.declared.canonical.CanonicalFunction.{CanonicalFunction}
 use Rattle.wcv_lower.specs.Canons.{canon_checks}
 use Rattle.wcv_lower.specs.Trees.{Tree_context}
-use Rattle.wcv_state.specs.Contents.{stack_of}
-use Rattle.wcv_state.specs.Promises.{MemoryOrCausedBy}
+use Rattle.wcv_spaces.specs.Contents.{stack_of}
+use Rattle.wcv_spaces.specs.Promises.{MemoryOrCausedBy}
 use Rattle.wcv_canon.proofs.functions.join_canonical_function.Goals as goal
 
 pub returns-in-Lift-clause-err : goal.returns-in-Lift-clause-err

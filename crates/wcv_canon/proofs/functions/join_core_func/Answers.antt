@@ -6,9 +6,9 @@ use Rattle.wcv_syntax.specs.View.{canon_view}
 use Rattle.wcv_flat.specs.RowTypes.{appended, row_checks, row_group}
 use Rattle.wcv_flat.specs.Rows.{canon_row}
 use Rattle.wcv_lower.specs.Context.{core_funcs}
-use Rattle.wcv_state.specs.Contents.{Contents, spent, with_core}
-use Rattle.wcv_state.specs.Promises.{Keeps}
-use Rattle.wcv_state.proofs.Keeping.{keeps_grown}
+use Rattle.wcv_spaces.specs.Contents.{Contents, spent, with_core}
+use Rattle.wcv_spaces.specs.Promises.{Keeps}
+use Rattle.wcv_spaces.proofs.Keeping.{keeps_grown}
 use Rattle.wcv_canon.proofs.CoreJoined.{type_made, facts_stand, facts_known, signature_caused, signature_within, core_grew, joined_keeps, spent_keeps, slots_live}
 use Rattle.wcv_canon.proofs.functions.join_core_func.Goals as goal
 

@@ -8,7 +8,7 @@ use Rattle.wcv_core.proofs.Closing.{caused_same}
 use Rattle.wcv_lower.specs.Checks.{missing}
 use Rattle.wcv_lower.specs.Context.{core_funcs}
 use Rattle.wcv_lower.specs.Types.{form_takes_and_gives}
-use Rattle.wcv_state.proofs.Found.{core_stands_at}
+use Rattle.wcv_spaces.proofs.Found.{core_stands_at}
 use Rattle.wcv_canon.proofs.Found.{found_form, func_missing, func_free, func_other}
 use Rattle.wcv_canon.proofs.items.check_core_func.Goals as goal
 

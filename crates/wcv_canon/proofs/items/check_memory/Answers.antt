@@ -5,7 +5,7 @@ use Rattle.wcv_core.specs.declared.features.WasmFeatures.{WasmFeatures}
 use Rattle.wcv_core.proofs.Closing.{caused_same}
 use Rattle.wcv_lower.specs.CanonOptions.{memory_rules}
 use Rattle.wcv_lower.specs.Checks.{IsFree, missing}
-use Rattle.wcv_state.specs.Promises.{MemoryOrCausedBy}
+use Rattle.wcv_spaces.specs.Promises.{MemoryOrCausedBy}
 use Rattle.wcv_canon.proofs.Found.{memory_missing, memory_free, memory_refused}
 use Rattle.wcv_canon.proofs.items.check_memory.Goals as goal
 

@@ -2,7 +2,7 @@ use Rattle.std.proofs.Common.{◌<◌, List, subst, sym}
 use Rattle.wcv_core.specs.CoreForm.{Group}
 use Rattle.wcv_core.specs.CoreGroups.{total}
 use Rattle.wcv_lower.specs.Context.{core_funcs}
-use Rattle.wcv_state.proofs.Found.{core_stands_at}
+use Rattle.wcv_spaces.proofs.Found.{core_stands_at}
 use Rattle.wcv_canon.proofs.lift.check_post_return.Goals as goal
 
 pub get-found-requires : goal.get-found-requires

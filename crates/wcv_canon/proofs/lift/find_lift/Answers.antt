@@ -17,10 +17,10 @@ use Rattle.wcv_lower.specs.CanonOptions.{options_read}
 use Rattle.wcv_lower.specs.Checks.{IsFree, missing, missing_of, no_room}
 use Rattle.wcv_lower.specs.Context.{core_funcs, counts}
 use Rattle.wcv_lower.specs.Outlines.{outline, is_async_func}
-use Rattle.wcv_state.specs.Contents.{context_of}
-use Rattle.wcv_state.specs.Looking.{any_sort}
-use Rattle.wcv_state.specs.Promises.{MemoryOrCausedBy}
-use Rattle.wcv_state.proofs.Found.{core_stands_at}
+use Rattle.wcv_spaces.specs.Contents.{context_of}
+use Rattle.wcv_spaces.specs.Looking.{any_sort}
+use Rattle.wcv_spaces.specs.Promises.{MemoryOrCausedBy}
+use Rattle.wcv_spaces.proofs.Found.{core_stands_at}
 use Rattle.wcv_canon.specs.Lifting.{async_checks, post_checks}
 use Rattle.wcv_canon.proofs.LiftChecks.{func_missing, type_missing, options_caused, room_caused, async_caused, post_caused, type_caused, signature_caused, lift_free, func_stands}
 use Rattle.wcv_canon.proofs.PlainForms.{IsPlainForm, core_type_plain, plain_closed}

@@ -1,6 +1,7 @@
 use Rattle.std.proofs.Common.{◌≡◌, drop}
 use Rattle.wcv_lower.specs.CanonOptions.{first}
-use Rattle.wcv_canon.specs.Options.{name_of, index_in}
+use Rattle.wcv_flat.specs.CodeRows.{name_of}
+use Rattle.wcv_canon.specs.Options.{index_in}
 use Rattle.wcv_canon.proofs.lists.first_index.Given as goal
 
 abbrev pub invariant-loop-option : goal.invariant-loop-option

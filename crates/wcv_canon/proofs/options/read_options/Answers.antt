@@ -6,7 +6,7 @@ use Rattle.wcv_flat.specs.Flat.{pointer_type}
 use Rattle.wcv_flat.specs.Options.{pointer_size}
 use Rattle.wcv_flat.specs.declared.options.CanonicalOptions.{CanonicalOptions}
 use Rattle.wcv_lower.specs.Checks.{IsFree}
-use Rattle.wcv_state.specs.Promises.{MemoryOrCausedBy}
+use Rattle.wcv_spaces.specs.Promises.{MemoryOrCausedBy}
 use Rattle.wcv_canon.specs.Options.{option_asked}
 use Rattle.wcv_canon.proofs.OptionRules.{options_free, each_caused, list_caused}
 use Rattle.wcv_canon.proofs.options.read_options.Goals as goal

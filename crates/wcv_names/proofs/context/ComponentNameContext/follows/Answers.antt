@@ -25,4 +25,4 @@ returns-in_ok-paired-in-Some-clause-follows c =
 pub returns-in-None-clause-follows : goal.returns-in-None-clause-follows
 returns-in-None-clause-follows c =
     other_follows c.args.types.now c.args.ty.now (names_of c.args.self.now) (entry_trees (trees c.args.types.now.nodes) c.args.items.now) (kind_view c.args.kind.now)
-    c.is_free.result c.requires.entity (sym c.func_part.ensures ∙ c.in-None.is) c.is_free.ensures
+    c.is_for_any_sort.result c.requires.entity (sym c.func_part.ensures ∙ c.in-None.is) c.is_for_any_sort.ensures

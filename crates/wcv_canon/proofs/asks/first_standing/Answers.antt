@@ -1,8 +1,8 @@
 use Rattle.std.proofs.Common.{sym, arith}
 use Rattle.wcv_lower.specs.CanonOptions.{stands}
-use Rattle.wcv_canon.specs.Options.{name_of}
+use Rattle.wcv_flat.specs.CodeRows.{name_of}
 use Rattle.wcv_canon.proofs.Names.{any_found, any_next}
-use Rattle.wcv_canon.proofs.ask.first_standing.Goals as goal
+use Rattle.wcv_canon.proofs.asks.first_standing.Goals as goal
 
 pub returns-then-stands : goal.returns-then-stands
 returns-then-stands c = sym (any_found name_of (λ n. stands n c.args.options.now) c.args.names.now c.loop-name.name-index _ (omega arith) (sym c.if-stands.ensures))
