@@ -27,7 +27,7 @@ Exports C n exports item = Found bytes_eq C exports n item
 abbrev pub IsServed : {E : Type 0} → (E → E → Type 0) → List (Text × List (Text × E)) → Text × Text → E → Type 0
 IsServed C args i item = Found bytes_eq (Exports C i.1) args i.0 item
 
--- so for each import of a module
+-- the arguments serve each import of a module
 abbrev pub AllServed : {E : Type 0} → (E → E → Type 0) → List (Text × List (Text × E)) → List ((Text × Text) × E) → Type 0
 AllServed {E} C args imports = (i : Text × Text) (item : E) → Contains imports (i, item) → IsServed C args i item
 

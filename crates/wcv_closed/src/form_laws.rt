@@ -50,7 +50,7 @@ pub fn written_groups_have_the_same_causes()
         → written_checks ws m es w ≡ written_checks ws n fs w }
 {}
 
-/// So of groups that join two tables and have the same closed forms there. Only the limit on types looks at what else a table has.
+/// Groups that join two tables and have the same closed forms there have the same causes. Only the limit on types looks at what else a table has.
 pub fn joining_groups_keep_the_same_rules()
     ensures { (gs hs : List Group) (g h : Group) → IsTable gs → IsTable hs → IsClosed (total gs) g → IsClosed (total hs) h
         → length g ≡ length h → ((k : ℕ) → k < length g → closed_at gs g k ≡ closed_at hs h k)

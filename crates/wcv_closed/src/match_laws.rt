@@ -29,7 +29,7 @@ pub fn heaps_match_as_their_closed_forms()
     ensures from { (gs : List Group) (a b : HeapType) → IsTable gs → IsHeapWithin (total gs) 0 a → IsHeapWithin (total gs) 0 b → HeapMatches (closed_heap gs a) (closed_heap gs b) → heap_matches gs a b ≡ true }
 {}
 
-/// So with value types.
+/// Value types match in a table exactly where their closed forms match.
 #[tactic(auto, using(crate::proofs::MatchingIds::val_to, crate::proofs::MatchingIds::val_from))]
 pub fn values_match_as_their_closed_forms()
     ensures to { (gs : List Group) (a b : ValType) → IsTable gs → IsValWithin (total gs) 0 a → IsValWithin (total gs) 0 b → val_matches gs a b ≡ true → ValMatches (closed_val gs a) (closed_val gs b) }
@@ -65,7 +65,7 @@ pub fn rules_keep_the_form_of_supertypes()
     ensures all { (gs : List Group) → ((i : ℕ) → i < total gs → IsFree (type_checks gs i)) → SupersKeepForm gs }
 {}
 
-/// Then the closed forms are such that matching goes on.
+/// Where supertypes keep the form of their subtypes, the closed forms of a table are such that matching goes on.
 #[tactic(auto, using(crate::proofs::MatchingIds::heap_keeps, crate::proofs::MatchingIds::val_keeps, crate::proofs::MatchingIds::val_closed))]
 pub fn closed_forms_of_a_table_keep_their_form()
     ensures heaps { (gs : List Group) (a : HeapType) → IsTable gs → SupersKeepForm gs → IsHeapWithin (total gs) 0 a → HeapKeepsForm (closed_heap gs a) }
@@ -73,7 +73,7 @@ pub fn closed_forms_of_a_table_keep_their_form()
     ensures closed { (gs : List Group) (a : ValType) → IsTable gs → IsValWithin (total gs) 0 a → IsValClosed (closed_val gs a) }
 {}
 
-/// So matching goes on over the value types of a table, and each matches itself.
+/// Matching goes on over the value types of a table, and each matches itself.
 #[tactic(auto, using(crate::proofs::Transitive::table_itself, crate::proofs::Transitive::table_on))]
 pub fn values_of_a_table_match_on()
     ensures itself { (gs : List Group) (a : ValType) → IsTable gs → IsValWithin (total gs) 0 a → val_matches gs a a ≡ true }

@@ -1,10 +1,10 @@
 -- What matching by one pass asks of trees, as items make them.
-use Rattle.std.specs.Prelude.{ℕ, suc, max, List, Contains}
+use Rattle.std.specs.Prelude.{◌≡◌, ℕ, suc, max, List, Contains}
 use Rattle.wcv_core.specs.Names.{Name}
 use Rattle.wcv_core.specs.declared.core_types.EntityType.{EntityType}
 use Rattle.wcv_types.specs.ByName.{NamesDiffer}
 use Rattle.wcv_types.specs.Led.{HeadLed}
-use Rattle.wcv_types.specs.Tree.{Text, Head, node, Parts, none, part}
+use Rattle.wcv_types.specs.Tree.{Text, Head, type_entity, node, Parts, none, part, first_part, rest_parts, sort}
 use Rattle.wcv_types.specs.Unfold.{Type_tree}
 use Rattle.wcv_closed.specs.CoreModules.{Module_items}
 use Rattle.wcv_matching.specs.Matching.{named_exports_in, named_imports_in}
@@ -20,6 +20,10 @@ abbrev mutual
   pub EachNodeIn : (Head Name Name → Parts Name Name → Type 0) → Parts Name Name → Type 0
   EachNodeIn P none = Unit {0}
   EachNodeIn P (part r t ps) = EachNode P t × EachNodeIn P ps
+
+-- inside the tree, both types of a type entity are of one sort
+abbrev pub EntitiesAlike : Type_tree → Type 0
+EntitiesAlike t = EachNode (λ h ps. h ≡ type_entity → sort (first_part ps) ≡ sort (first_part (rest_parts ps))) t
 
 -- ## Names
 

@@ -35,10 +35,8 @@ pub mod Sets
 pub mod Given
 pub mod Gathering
 pub mod NamedBySet
-pub mod Needing
 pub mod Alike
 pub mod ShapeNumbers
 pub mod CoreCalls
-pub mod ExplicitPaths
 pub mod SameItems
 pub mod SameSeen

@@ -167,7 +167,7 @@ impl TypeAlloc {
     }
 
     /// Whether a reference to a resource stands in the type at that place.
-    pub(crate) fn refers(&self, place: u64) -> bool
+    pub fn refers(&self, place: u64) -> bool
         requires { place < length self.now.nodes }
         ensures { result ≡ mentions (tree_in (trees self.now.nodes) place) }
     {

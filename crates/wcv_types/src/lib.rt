@@ -18,11 +18,8 @@ mod defined_sort;
 mod entries_again;
 mod entry_facts;
 mod entry_parts;
-mod explicit_paths;
 mod facts;
 mod flat_type;
-mod free_sets;
-mod free_variables;
 mod func_facts;
 mod func_sort;
 mod ids;
@@ -34,15 +31,10 @@ mod item_map;
 mod layout;
 mod lowered_types;
 mod module_sort;
-mod named_contents;
 mod named_items;
-mod named_types;
-mod needed_sets;
-mod needs;
 mod nodes;
 mod parts;
 mod paths;
-mod place_set;
 mod reference_sort;
 mod refill;
 mod renew;
@@ -57,7 +49,6 @@ mod sorts;
 mod store;
 mod sum;
 mod type_set;
-mod unowned;
 
 ghost use Rattle.std.specs.Prelude.{◌≡◌, ◌⊎◌, ℕ, List, Contains, true, false, Some, None};
 ghost use Rattle.wcv_core.specs.CoreForm.{Group};
@@ -89,6 +80,7 @@ pub use core_instance_sort::core_instance_of;
 pub use core_maps::{ExportMap, ImportMap};
 pub use core_shapes::{CoreInstanceTypeKind, InstanceType, ModuleType};
 pub use core_sizes::core_items_size;
+pub use entry_parts::{part_of_any, push_entity, push_entries};
 pub use flat_type::FlatType;
 pub use ids::{
     AliasableResourceId, ComponentAnyTypeId, ComponentCoreInstanceTypeId,
@@ -99,10 +91,12 @@ pub use info::TypeInfo;
 pub use instance_type::ComponentInstanceType;
 pub use item_map::{ComponentItem, ItemMap};
 pub use lowered_types::LoweredTypes;
-pub use parts::Parts;
+pub use parts::{Parts, place_of};
 pub use paths::Paths;
 pub use resource_set::ResourceSet;
-pub use shapes::{ComponentDefinedType, ComponentEntityType, ComponentFuncType, ComponentValType};
+pub use shapes::{
+    ComponentDefinedType, ComponentEntityType, ComponentFuncType, ComponentValType, node_of,
+};
 pub use sorts::{NodeSort, TypeSort};
 pub use store::{NodeStore, Steps};
 pub use type_set::TypeSet;

@@ -1,6 +1,6 @@
 // Lists of parts.
-ghost use Rattle.std.specs.Prelude.{◌≡◌, [], ◌∷◌, ◌++◌, length, slice_get, option_copied, OnOk, OnErr};
-ghost use Rattle.wcv_types.specs.Unfold.{parts_in, field_slots, option_slot, slot_refs};
+ghost use Rattle.std.specs.Prelude.{◌≡◌, suc, [], ◌∷◌, ◌++◌, length, slice_get, option_copied, MatchOption, OnOk, OnErr};
+ghost use Rattle.wcv_types.specs.Unfold.{parts_in, field_slots, option_slot, rank, slot_refs};
 
 use crate::ids::Part;
 use crate::shapes::ComponentValType;
@@ -86,4 +86,19 @@ pub fn push_fields(
         push_option(Some(field.1), parts)?;
     }
     Ok(())
+}
+
+/// The place of a node. A resource reference and a core type are none.
+pub fn place_of(part: Part) -> Option<u64>
+    ensures { MatchOption result (rank part ≡ 0) (λ k. rank part ≡ suc k) }
+{
+    match part {
+        Part::Defined(id) => Some(id.index),
+        Part::Func(id) => Some(id.index),
+        Part::Instance(id) => Some(id.index),
+        Part::Component(id) => Some(id.index),
+        Part::Module(id) => Some(id.index),
+        Part::CoreInstance(id) => Some(id.index),
+        Part::Resource(_) | Part::Core(_) => None,
+    }
 }

@@ -1,6 +1,6 @@
 // What nodes of the arena are made of.
 ghost use Rattle.std.specs.Prelude.{◌≡◌};
-ghost use Rattle.wcv_types.specs.NamedBySet.{node_id};
+ghost use Rattle.wcv_types.specs.NamedBySet.{handle_of, names_itself, node_id};
 ghost use Rattle.wcv_types.specs.Unfold.{names_node};
 
 use crate::ids::{
@@ -27,7 +27,7 @@ impl ComponentValType {
 }
 
 /// The node that the value type is, where it is there and is one.
-pub(crate) fn node_of(ty: Option<ComponentValType>) -> Option<ComponentDefinedTypeId>
+pub fn node_of(ty: Option<ComponentValType>) -> Option<ComponentDefinedTypeId>
     ensures { result ≡ node_id ty }
 {
     match ty {
@@ -85,4 +85,29 @@ pub enum ComponentEntityType {
     },
     Instance(ComponentInstanceTypeId),
     Component(ComponentTypeId),
+}
+
+impl ComponentDefinedType {
+    /// Whether it is named by its own identity alone, whatever it is made of.
+    pub fn names_itself(&self) -> bool
+        ensures { result ≡ names_itself self.now }
+    {
+        matches!(
+            self,
+            ComponentDefinedType::Record(_)
+                | ComponentDefinedType::Variant(_)
+                | ComponentDefinedType::Flags(_)
+                | ComponentDefinedType::Enum(_)
+        )
+    }
+
+    /// The reference to the resource of a handle.
+    pub fn handle(&self) -> Option<AliasableResourceId>
+        ensures { result ≡ handle_of self.now }
+    {
+        match self {
+            ComponentDefinedType::Own(id) | ComponentDefinedType::Borrow(id) => Some(*id),
+            _ => None,
+        }
+    }
 }

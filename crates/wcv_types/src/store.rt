@@ -7,9 +7,8 @@ ghost use Rattle.wcv_types.specs.Standing.{Stands, Unfolds};
 ghost use Rattle.wcv_types.specs.Unfold.{place, parts_at, parts_of, tree_at};
 
 use crate::arena::TypeAlloc;
-use crate::free_variables::place_of;
 use crate::ids::Part;
-use crate::parts::Parts;
+use crate::parts::{Parts, place_of};
 use crate::sorts::{NodeSort, TypeSort};
 use std::marker::Model;
 use std::sync::ledger::{Blank, Book, Ledger, Share};

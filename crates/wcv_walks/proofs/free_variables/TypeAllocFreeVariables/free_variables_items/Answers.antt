@@ -1,0 +1,26 @@
+use Rattle.std.proofs.Common.{List, ◌++◌, sym, ◌∙◌, ap, subst}
+use Rattle.std.specs.Prelude.{All}
+use Rattle.std.proofs.lemmas.Result.{on_ok_weaker}
+use Rattle.wcv_types.specs.Gathering.{Gains, FreeInSome}
+use Rattle.wcv_types.specs.Standing.{Stands}
+use Rattle.wcv_types.specs.Entities.{entry_parts}
+use Rattle.wcv_types.specs.Tree.{Text}
+use Rattle.wcv_types.specs.declared.ids.Part.{Part}
+use Rattle.wcv_types.specs.declared.item_map.ComponentItem.{ComponentItem}
+use Rattle.wcv_types.proofs.Gathered.{entries_all, gains_entries}
+use Rattle.wcv_walks.proofs.free_variables.TypeAllocFreeVariables.free_variables_items.Goals as goal
+
+pub free_in_parts-requires : goal.free_in_parts-requires
+free_in_parts-requires c =
+    let e =
+    c.as_slice-2.ensures ∙ c.in_ok-push_entries.ensures ∙ ap (λ (es : List (Text × ComponentItem)). c.new-parts.result ++ entry_parts es) c.as_slice.ensures ∙
+    ap (λ (qs : List Part). qs ++ entry_parts c.args.items.now) c.new-parts.ensures in
+    subst (λ (qs : List Part). All (Stands c.args.self.now) qs) (sym e) (entries_all c.args.self.now c.args.items.now c.requires)
+
+pub returns-clause-ok : goal.returns-clause-ok
+returns-clause-ok c =
+    let e =
+    c.as_slice-2.ensures ∙ c.in_ok-push_entries.ensures ∙ ap (λ (es : List (Text × ComponentItem)). c.new-parts.result ++ entry_parts es) c.as_slice.ensures ∙
+    ap (λ (qs : List Part). qs ++ entry_parts c.args.items.now) c.new-parts.ensures in
+    on_ok_weaker c.free_in_parts.result
+    (λ g. gains_entries c.args.self.now c.args.items.now c.args.free.now c.free_in_parts.new.free (subst (λ (qs : List Part). Gains (λ r. FreeInSome c.args.self.now r qs) c.args.free.now c.free_in_parts.new.free) e g)) c.free_in_parts.ensures.ok

@@ -1,0 +1,2 @@
+pub mod ExplicitPaths
+pub mod Needing
