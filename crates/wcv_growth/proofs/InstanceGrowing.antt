@@ -17,7 +17,7 @@ use Rattle.wcv_types.proofs.Lists.{some-inj}
 use Rattle.wcv_matching.specs.GivenTypes.{given_for}
 use Rattle.wcv_matching.specs.Matching.{named_imports}
 use Rattle.wcv_matching.specs.OnePass.{made_paths}
-use Rattle.wcv_subtype.specs.Hygiene.{Hygienic}
+use Rattle.wcv_remap.specs.Hygiene.{Hygienic}
 use Rattle.wcv_lower.specs.Checks.{is_none}
 use Rattle.wcv_lower.specs.Context.{in_instances, in_components, exporting, is_concrete, unknown}
 use Rattle.wcv_lower.specs.Instances.{component_at, argument_at, arguments, if_opened, opened, listed, bag_made, instance_of_component, instance_of_items, instance_made, instance_joins, instance_values, instance_step}

@@ -17,10 +17,9 @@ use Rattle.wcv_types.specs.Unfold.{Type_tree}
 use Rattle.wcv_types.proofs.Lists.{some-inj}
 use Rattle.wcv_matching.specs.GivenTypes.{given_by, given_in, given_for}
 use Rattle.wcv_matching.specs.Matching.{named, named_imports, named_imports_in}
-use Rattle.wcv_matching.specs.Orderly.{EachNode, EachNodeIn}
+use Rattle.wcv_matching.specs.Orderly.{EachNode, EachNodeIn, EntitiesAlike}
 use Rattle.wcv_matching.specs.SameTypes.{made_at}
-use Rattle.wcv_subtype.specs.Hygiene.{Apart, ApartIn, Hygienic, HygienicIn}
-use Rattle.wcv_subtype.specs.Openings.{EntitiesAlike}
+use Rattle.wcv_remap.specs.Hygiene.{Apart, ApartIn, Hygienic, HygienicIn}
 use Rattle.wcv_lower.specs.Instances.{component_at, arguments}
 use Rattle.wcv_lower.specs.Instantiated.{opening}
 use Rattle.wcv_lower.specs.Names.{names_by_place}

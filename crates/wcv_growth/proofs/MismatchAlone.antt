@@ -31,7 +31,8 @@ use Rattle.wcv_lower.specs.Marks.{use_checks}
 use Rattle.wcv_lower.specs.Readers.{Maker, weight}
 use Rattle.wcv_lower.specs.Step.{Brought}
 use Rattle.wcv_lower.specs.Trees.{Type_tree, Tree_context, Tree_stack, tree_reader}
-use Rattle.wcv_lower.specs.Values.{cm_values, kind_checks, value_checks, primitive_checks}
+use Rattle.wcv_core.specs.Features.{cm_values}
+use Rattle.wcv_lower.specs.Values.{kind_checks, value_checks, primitive_checks}
 
 -- it is none of the causes
 abbrev pub NotMismatch : Checks → Type 0

@@ -51,7 +51,8 @@ use Rattle.wcv_lower.specs.Readers.{Maker}
 use Rattle.wcv_lower.specs.Start.{all_suit, func_suits, result_room, signature_checks, start_checks, suits}
 use Rattle.wcv_lower.specs.Step.{Brought, Step, creates, enters, introduces, joins, lists}
 use Rattle.wcv_lower.specs.Trees.{Tree_stack, labelled, params, tree_maker, tree_reader}
-use Rattle.wcv_lower.specs.Values.{cm_values, type_of_sort}
+use Rattle.wcv_core.specs.Features.{cm_values}
+use Rattle.wcv_lower.specs.Values.{type_of_sort}
 use Rattle.wcv_lower.proofs.Bringing.{Brings, OfAny, all_at, any_at, items_have, of_some, of_sort_has}
 use Rattle.wcv_lower.proofs.EntryLaws.{written_is_matched}
 use Rattle.wcv_lower.proofs.InstancesBring.{opening_spares}

@@ -11,9 +11,9 @@ use Rattle.wcv_types.specs.Replacing.{Replacement, SparesOwn, SparesOwnIn, moves
 use Rattle.wcv_types.specs.Resources.{owns}
 use Rattle.wcv_types.specs.Tree.{Extern_name, Head, Role, here, label, import, export, core_import, core_export, nothing, resource, instance, component, type_entity, node, Parts, none, part, first_part, rest_parts, entries, exports_in, exports, type_of}
 use Rattle.wcv_matching.specs.Orderly.{EachNode, EachNodeIn}
-use Rattle.wcv_subtype.specs.Hygiene.{Hygienic, HygienicIn}
-use Rattle.wcv_subtype.proofs.Leading.{head_led}
-use Rattle.wcv_subtype.proofs.Sparing.{sparing_hygienic}
+use Rattle.wcv_remap.specs.Hygiene.{Hygienic, HygienicIn}
+use Rattle.wcv_remap.proofs.Leading.{head_led}
+use Rattle.wcv_remap.proofs.Sparing.{sparing_hygienic}
 use Rattle.wcv_lower.specs.Names.{Names, again}
 use Rattle.wcv_lower.specs.NewTypes.{renewed, owned_anew, instance_tree}
 use Rattle.wcv_lower.specs.Owned.{OwnsNot, OwnsNotIn, OwnsApart}

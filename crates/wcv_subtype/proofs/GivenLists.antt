@@ -33,16 +33,16 @@ use Rattle.wcv_matching.specs.OnePass.{Atom, found_in, match_as, match_below, sa
 use Rattle.wcv_matching.specs.Orderly.{height}
 use Rattle.wcv_matching.proofs.Entries.{among}
 use Rattle.wcv_matching.proofs.PassSame.{and_left, and_right, passes, sorts-decide}
-use Rattle.wcv_subtype.specs.IdPasses.{named_trees}
-use Rattle.wcv_subtype.specs.Map.{Map, Sent, entry as entry_of, is_type as may_be_sent}
+use Rattle.wcv_atoms.specs.IdPasses.{named_trees}
+use Rattle.wcv_remap.specs.Map.{Map, Sent, entry as entry_of, is_type as may_be_sent}
 use Rattle.wcv_subtype.specs.Openings.{given_under, may_create, Gives, IsGiven, Passes}
-use Rattle.wcv_subtype.specs.Remap.{NotGiven}
-use Rattle.wcv_subtype.proofs.Given.{identity_true, identity_refl}
-use Rattle.wcv_subtype.proofs.Maps.{entry_contains, no_entry}
-use Rattle.wcv_subtype.proofs.Parts.{one_identity, type_identity}
-use Rattle.wcv_subtype.proofs.PassIds.{instance_lower}
-use Rattle.wcv_subtype.proofs.PassSteps.{found_passes, instance_names, tallest_at, tree_at_place}
-use Rattle.wcv_subtype.proofs.Walking.{take_more}
+use Rattle.wcv_remap.specs.Remap.{NotGiven}
+use Rattle.wcv_remap.proofs.Given.{identity_true, identity_refl}
+use Rattle.wcv_remap.proofs.Maps.{entry_contains, no_entry}
+use Rattle.wcv_remap.proofs.Parts.{one_identity, type_identity}
+use Rattle.wcv_atoms.proofs.PassIds.{instance_lower}
+use Rattle.wcv_atoms.proofs.PassSteps.{found_passes, instance_names, tallest_at, tree_at_place}
+use Rattle.wcv_atoms.proofs.Walking.{take_more}
 
 abbrev Given_list : Type 0
 Given_list = List (Identity × Type_tree)

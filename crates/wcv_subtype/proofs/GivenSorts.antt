@@ -24,13 +24,13 @@ use Rattle.wcv_matching.specs.GivenTypes.{given_by, given_in, given_for}
 use Rattle.wcv_matching.specs.Matching.{Reading, named_exports, named_exports_in}
 use Rattle.wcv_matching.specs.NamedPaths.{entry}
 use Rattle.wcv_matching.specs.OnePass.{Atom, each_passes, found_in, enough, match_as, match_below, match_pass, same_below}
-use Rattle.wcv_matching.specs.Orderly.{EachNode, EachNodeIn}
+use Rattle.wcv_matching.specs.Orderly.{EachNode, EachNodeIn, EntitiesAlike}
 use Rattle.wcv_matching.proofs.ArenaTypes.{HoldsOfLeaves, each_type}
 use Rattle.wcv_matching.proofs.NamedLists.{some-inj}
 use Rattle.wcv_matching.proofs.PassSame.{and_left, and_right, sorts-decide}
-use Rattle.wcv_subtype.specs.Map.{Sent, is_type as may_be_sent}
-use Rattle.wcv_subtype.specs.Openings.{EntitiesAlike, IsGiven}
-use Rattle.wcv_subtype.proofs.Given.{identity_true}
+use Rattle.wcv_remap.specs.Map.{Sent, is_type as may_be_sent}
+use Rattle.wcv_subtype.specs.Openings.{IsGiven}
+use Rattle.wcv_remap.proofs.Given.{identity_true}
 
 -- ## Sorts by identities
 

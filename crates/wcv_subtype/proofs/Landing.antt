@@ -29,11 +29,11 @@ use Rattle.wcv_matching.specs.Matching.{Reading, named_exports, named_exports_in
 use Rattle.wcv_matching.specs.NamedPaths.{and_then, entry, follow, resource_at}
 use Rattle.wcv_matching.specs.OnePass.{Atom, given, counterpart}
 use Rattle.wcv_matching.proofs.NamedLists.{map-map}
-use Rattle.wcv_subtype.specs.IdCounterparts.{counterparts_of, lands_on}
-use Rattle.wcv_subtype.specs.IdPasses.{named_trees}
-use Rattle.wcv_subtype.specs.Map.{Map, resources_by}
-use Rattle.wcv_subtype.specs.Readings.{over, read_by, resource_name}
-use Rattle.wcv_subtype.proofs.AtomLists.{over_listed}
+use Rattle.wcv_counterparts.specs.IdCounterparts.{counterparts_of, lands_on}
+use Rattle.wcv_atoms.specs.IdPasses.{named_trees}
+use Rattle.wcv_remap.specs.Map.{Map, resources_by}
+use Rattle.wcv_atoms.specs.Readings.{over, read_by, resource_name}
+use Rattle.wcv_atoms.proofs.AtomLists.{over_listed}
 
 abbrev Landed : Type 0
 Landed = List (ResourceId × ResourceId)

@@ -35,7 +35,7 @@ use Rattle.wcv_matching.specs.AtomTests.{id_tests, same_seen}
 use Rattle.wcv_matching.specs.GivenTypes.{given_by, given_for}
 use Rattle.wcv_matching.specs.Matching.{Reading, named, named_imports}
 use Rattle.wcv_matching.specs.OnePass.{Atom, given, counterpart, each_passes, enough, found_in, imported_paths, match_pass, opens_pass}
-use Rattle.wcv_matching.specs.Orderly.{EachNode, EachOrderly, Orderly}
+use Rattle.wcv_matching.specs.Orderly.{EachNode, EachOrderly, Orderly, EntitiesAlike}
 use Rattle.wcv_matching.specs.Refusals.{MemoryOrMismatch}
 use Rattle.wcv_matching.specs.TableMatching.{CoreWithin, EachCoreWithin, Opens}
 use Rattle.wcv_matching.proofs.AtomTests.{seen-decides}
@@ -44,20 +44,20 @@ use Rattle.wcv_matching.proofs.Entries.{among}
 use Rattle.wcv_matching.proofs.PassSame.{passes}
 use Rattle.wcv_matching.proofs.NamedLists.{map-map}
 use Rattle.wcv_matching.proofs.PassByIds.{opening-by_ids}
-use Rattle.wcv_subtype.specs.Extent.{entries_extent, matched_extent, opening_extent, walks}
-use Rattle.wcv_subtype.specs.IdCounterparts.{counterparts_of, lands_on}
-use Rattle.wcv_subtype.specs.IdPasses.{named_trees, Answers}
-use Rattle.wcv_subtype.specs.Map.{Map, same_part}
-use Rattle.wcv_subtype.specs.Openings.{ArgumentStands, EntitiesAlike, Fits, Gives, IsOpening, Opening, Passes, named_args}
-use Rattle.wcv_subtype.specs.Readings.{resource_name}
-use Rattle.wcv_subtype.proofs.Extents.{imported_walks}
-use Rattle.wcv_subtype.proofs.EntityLaws.{entity_each, entity_orderly, entity_within}
+use Rattle.wcv_atoms.specs.Extent.{entries_extent, matched_extent, opening_extent, walks}
+use Rattle.wcv_counterparts.specs.IdCounterparts.{counterparts_of, lands_on}
+use Rattle.wcv_atoms.specs.IdPasses.{named_trees, Answers}
+use Rattle.wcv_remap.specs.Map.{Map, same_part}
+use Rattle.wcv_subtype.specs.Openings.{ArgumentStands, Fits, Gives, IsOpening, Opening, Passes, named_args}
+use Rattle.wcv_atoms.specs.Readings.{resource_name}
+use Rattle.wcv_atoms.proofs.Extents.{imported_walks}
+use Rattle.wcv_atoms.proofs.EntityLaws.{entity_each, entity_orderly, entity_within}
 use Rattle.wcv_subtype.proofs.GivenSorts.{SortByIdentity, all_sorted, leaves_sorted, opening_sorted}
 use Rattle.wcv_subtype.proofs.Landing.{all_found, entries_named, followed, resources_found}
 use Rattle.wcv_subtype.proofs.GivenLists.{for_next, gives_as, one_under}
-use Rattle.wcv_subtype.proofs.PassIds.{entries_stand, found_stands}
-use Rattle.wcv_subtype.proofs.PassSteps.{answers_at, found_passes, found_tree, no_tree, none_passes, tree_at_place}
-use Rattle.wcv_subtype.proofs.Walking.{each_held, each_holds}
+use Rattle.wcv_atoms.proofs.PassIds.{entries_stand, found_stands}
+use Rattle.wcv_atoms.proofs.PassSteps.{answers_at, found_passes, found_tree, no_tree, none_passes, tree_at_place}
+use Rattle.wcv_atoms.proofs.Walking.{each_held, each_holds}
 
 abbrev Items : Type 0
 Items = List (Text × ComponentItem)

@@ -1,12 +1,1 @@
-pub mod Map
-pub mod Hygiene
-pub mod Remap
-pub mod Entities
-pub mod Readings
-pub mod SeenValues
-pub mod IdPasses
-pub mod Compared
-pub mod IdCounterparts
 pub mod Openings
-pub mod OwnResources
-pub mod Extent

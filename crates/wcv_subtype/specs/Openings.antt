@@ -1,5 +1,5 @@
 -- What opens the imports of a component.
-use Rattle.std.specs.Prelude.{ℕ, List, [], map, Bool, true, false, cond, Option, None, Some, All, Contains, ◌≡◌, ◌<◌}
+use Rattle.std.specs.Prelude.{ℕ, List, [], map, Bool, true, false, cond, None, Some, All, Contains, ◌≡◌, ◌<◌}
 use Rattle.std.specs.List.{IsDistinct}
 use Rattle.std.specs.Map.{keys_of, lookup}
 use Rattle.std.specs.Option.{option_map_or}
@@ -10,7 +10,7 @@ use Rattle.wcv_types.specs.Entities.{entity_tree, EntityStands}
 use Rattle.wcv_types.specs.Identity.{Identity, same_identity}
 use Rattle.wcv_types.specs.Rebuild.{same_sort}
 use Rattle.wcv_types.specs.Standing.{Stands, identity_of}
-use Rattle.wcv_types.specs.Tree.{Text, Head, type_entity, Parts, first_part, rest_parts, head, imported_at, sort}
+use Rattle.wcv_types.specs.Tree.{Text, head, imported_at, sort}
 use Rattle.wcv_types.specs.Unfold.{Type_tree, tree_at, trees}
 use Rattle.wcv_types.specs.declared.ids.ComponentTypeId.{ComponentTypeId}
 use Rattle.wcv_types.specs.declared.ids.Part.{Part}
@@ -23,11 +23,11 @@ use Rattle.wcv_matching.specs.AtomTests.{id_tests}
 use Rattle.wcv_matching.specs.GivenTypes.{given_by, given_for}
 use Rattle.wcv_matching.specs.Matching.{Reading, named_imports}
 use Rattle.wcv_matching.specs.NamedPaths.{entry}
+use Rattle.wcv_matching.specs.Orderly.{EntitiesAlike}
 use Rattle.wcv_matching.specs.OnePass.{Atom, each_passes, given, argument_for, match_below, match_pass}
-use Rattle.wcv_matching.specs.Orderly.{EachNode}
-use Rattle.wcv_subtype.specs.Map.{Map, Sent, is_type, resources_by, same_part}
-use Rattle.wcv_subtype.specs.Readings.{given_as}
-use Rattle.wcv_subtype.specs.Remap.{NotGiven}
+use Rattle.wcv_remap.specs.Map.{Map, Sent, is_type, resources_by, same_part}
+use Rattle.wcv_atoms.specs.Readings.{given_as}
+use Rattle.wcv_remap.specs.Remap.{NotGiven}
 
 -- arguments by name, with their trees
 abbrev pub named_args : Arena → List (Text × ComponentEntityType) → List (Text × Type_tree)
@@ -59,10 +59,6 @@ pub record Fits (a : Arena) (f : Reading Atom) (args : List (Text × Type_tree))
   pub stands : EntityStands a x
   pub found : entry import.0 args ≡ Some (entity_tree (trees a.nodes) x)
   pub passes : match_pass (id_tests a.core) 0 given f (entity_tree (trees a.nodes) x) (entity_tree (trees a.nodes) import.1.ty) ≡ true
-
--- inside the tree, both types of a type entity are of one sort
-abbrev pub EntitiesAlike : Type_tree → Type 0
-EntitiesAlike t = EachNode (λ h ps. h ≡ type_entity → sort (first_part ps) ≡ sort (first_part (rest_parts ps))) t
 
 -- a type goes to the one that the list gives first for its identity
 pub record IsGiven (a : Arena) (ts : List (Identity × Type_tree)) (q : Part) (s : Sent) : Type 0 where

@@ -9,18 +9,16 @@ ghost use Rattle.wcv_types.specs.declared.ids.Part.TheVariants as p;
 ghost use Rattle.wcv_types.specs.Unfold.{slot_tree, tree_at, trees, value_slot};
 ghost use Rattle.wcv_matching.specs.Refusals.{IsRefusal, MemoryOrMismatch};
 ghost use Rattle.wcv_matching.specs.TableMatching.{TypeMatches};
-ghost use Rattle.wcv_subtype.specs.Compared.{ArePassed};
-ghost use Rattle.wcv_subtype.specs.Extent.{entries_extent, extent};
-ghost use Rattle.wcv_subtype.specs.IdPasses.{named_trees};
-ghost use Rattle.wcv_subtype.specs.Readings.{reads};
+ghost use Rattle.wcv_compare.specs.Compared.{ArePassed};
+ghost use Rattle.wcv_atoms.specs.Extent.{entries_extent, extent};
+ghost use Rattle.wcv_atoms.specs.IdPasses.{named_trees};
+ghost use Rattle.wcv_atoms.specs.Readings.{reads};
 
-use crate::compared::Compared;
-use crate::own_resources::{OwnAtoms, opened_atoms, owned_atoms};
-use crate::passes::entity_passes;
-use crate::readings::Readings;
-use crate::visits::visited;
 use std::sync::ledger::Ledger;
+use wcv_atoms::{Readings, visited};
+use wcv_compare::{Compared, entity_passes};
 use wcv_core::{Error, ErrorKind, Excerpt, OutOfMemory, Text};
+use wcv_counterparts::{OwnAtoms, opened_atoms, owned_atoms};
 use wcv_types::{
     ByName, ComponentEntityType, ComponentInstanceTypeId, ComponentItem, ComponentType,
     ComponentTypeId, ComponentValType, ItemMap, Steps, TypeAlloc,

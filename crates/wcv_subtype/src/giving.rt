@@ -9,15 +9,15 @@ ghost use Rattle.wcv_types.specs.declared.ids.Part.TheVariants as p;
 ghost use Rattle.wcv_matching.specs.GivenTypes.{given_by};
 ghost use Rattle.wcv_matching.specs.Matching.{named_exports};
 ghost use Rattle.wcv_matching.specs.NamedPaths.{entry};
-ghost use Rattle.wcv_subtype.specs.Extent.{extent};
-ghost use Rattle.wcv_subtype.specs.IdCounterparts.{AreExports};
+ghost use Rattle.wcv_atoms.specs.Extent.{extent};
+ghost use Rattle.wcv_counterparts.specs.IdCounterparts.{AreExports};
 ghost use Rattle.wcv_subtype.specs.Openings.{given_under, may_create, Gives, Passes};
 
-use crate::counterparts::Exports;
-use crate::map::Remapping;
-use crate::visits::visited;
 use std::sync::ledger::Ledger;
+use wcv_atoms::visited;
 use wcv_core::{OutOfMemory, Text};
+use wcv_counterparts::Exports;
+use wcv_remap::Remapping;
 use wcv_types::{
     ComponentAnyTypeId, ComponentEntityType, ComponentInstanceTypeId, ComponentItem, Steps,
     TypeAlloc,
@@ -59,11 +59,11 @@ pub(crate) fn give<'a, L: Ledger>(
     map: &mut Remapping,
     steps: &mut Steps<L>,
 ) -> Result<(), OutOfMemory>
-    requires seen { AreExports types.now seen.old.maps }
+    requires seen { AreExports types.now seen.old }
     requires argument { EntityStands types.now argument }
     requires import { EntityStands types.now import }
     requires passes { Passes types.now.core (entity_tree (trees types.now.nodes) argument) (entity_tree (trees types.now.nodes) import) }
-    ensures seen { OnOk result (AreExports types.now seen.new.maps) }
+    ensures seen { OnOk result (AreExports types.now seen.new) }
     ensures resources { OnOk result (map.new.resources ≡ map.old.resources) }
     ensures given { OnOk result ((given : List (Identity × Type_tree)) → Gives types.now given map.old → Gives types.now (given ++ given_by (entity_tree (trees types.now.nodes) argument) (entity_tree (trees types.now.nodes) import)) map.new) }
     ensures counted { steps.new ≤ steps.old + 2 * extent (entity_tree (trees types.now.nodes) import) }
@@ -89,11 +89,11 @@ fn give_exports<'a, L: Ledger>(
     map: &mut Remapping,
     steps: &mut Steps<L>,
 ) -> Result<(), OutOfMemory>
-    requires seen { AreExports types.now seen.old.maps }
+    requires seen { AreExports types.now seen.old }
     requires argument { EntityStands types.now argument }
     requires import { Stands types.now (p.Instance import) }
     requires passes { Passes types.now.core (entity_tree (trees types.now.nodes) argument) (tree_at types.now (p.Instance import)) }
-    ensures seen { OnOk result (AreExports types.now seen.new.maps) }
+    ensures seen { OnOk result (AreExports types.now seen.new) }
     ensures resources { OnOk result (map.new.resources ≡ map.old.resources) }
     ensures given { OnOk result ((given : List (Identity × Type_tree)) → Gives types.now given map.old → Gives types.now (given ++ given_by (entity_tree (trees types.now.nodes) argument) (tree_at types.now (p.Instance import))) map.new) }
     ensures counted { steps.new + 1 ≤ steps.old + 2 * extent (tree_at types.now (p.Instance import)) }
@@ -118,11 +118,11 @@ fn give_export<'a, L: Ledger>(
     map: &mut Remapping,
     steps: &mut Steps<L>,
 ) -> Result<(), OutOfMemory>
-    requires seen { AreExports types.now seen.old.maps }
+    requires seen { AreExports types.now seen.old }
     requires argument { EntityStands types.now argument }
     requires export { EntryStands types.now export.now }
     requires passes { (x : Type_tree) → entry export.now.0 (named_exports (entity_tree (trees types.now.nodes) argument)) ≡ Some x → Passes types.now.core x (entity_tree (trees types.now.nodes) export.now.1.ty) }
-    ensures seen { OnOk result (AreExports types.now seen.new.maps) }
+    ensures seen { OnOk result (AreExports types.now seen.new) }
     ensures resources { OnOk result (map.new.resources ≡ map.old.resources) }
     ensures given { OnOk result ((given : List (Identity × Type_tree)) → Gives types.now given map.old → Gives types.now (given ++ given_under (named_exports (entity_tree (trees types.now.nodes) argument)) export.now.0 (entity_tree (trees types.now.nodes) export.now.1.ty)) map.new) }
     ensures counted { steps.new ≤ steps.old + 2 * extent (entity_tree (trees types.now.nodes) export.now.1.ty) }

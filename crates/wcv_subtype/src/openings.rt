@@ -16,25 +16,23 @@ ghost use Rattle.wcv_matching.specs.NamedPaths.{entry};
 ghost use Rattle.wcv_matching.specs.OnePass.{each_passes, found_in, given, match_pass};
 ghost use Rattle.wcv_matching.specs.Refusals.{MemoryOrMismatch};
 ghost use Rattle.wcv_matching.specs.TableMatching.{Opens};
-ghost use Rattle.wcv_subtype.specs.Compared.{ArePassed};
-ghost use Rattle.wcv_subtype.specs.Extent.{entries_extent, extent, found_extent, matched_extent, opening_extent};
-ghost use Rattle.wcv_subtype.specs.IdCounterparts.{AreExports};
-ghost use Rattle.wcv_subtype.specs.IdPasses.{named_trees};
+ghost use Rattle.wcv_compare.specs.Compared.{ArePassed};
+ghost use Rattle.wcv_atoms.specs.Extent.{entries_extent, extent, found_extent, matched_extent, opening_extent};
+ghost use Rattle.wcv_counterparts.specs.IdCounterparts.{AreExports};
+ghost use Rattle.wcv_atoms.specs.IdPasses.{named_trees};
 ghost use Rattle.wcv_subtype.specs.Openings.{named_args, ArgumentStands, Fits, Gives, IsOpening, OpensImports};
-ghost use Rattle.wcv_subtype.specs.Readings.{atoms_of, given_as, reads, resource_name};
+ghost use Rattle.wcv_atoms.specs.Readings.{atoms_of, given_as, reads, resource_name};
 
-use crate::compared::Compared;
 use crate::comparisons::{absent_under, unfit_under};
-use crate::counterparts::{Exports, counterparts_in};
 use crate::giving::give;
-use crate::map::Remapping;
-use crate::passes::entity_passes;
-use crate::readings::{Readings, ResourceAtom};
-use crate::visits::visited;
 use std::alloc::Global;
 use std::marker::Model;
 use std::sync::ledger::Ledger;
+use wcv_atoms::{Readings, ResourceAtom, visited};
+use wcv_compare::{Compared, entity_passes};
 use wcv_core::{Error, ErrorKind, OutOfMemory, Text};
+use wcv_counterparts::{Exports, counterparts_in};
+use wcv_remap::Remapping;
 use wcv_types::{
     ByName, ComponentEntityType, ComponentItem, ComponentTypeId, ItemMap, ResourceId, Steps,
     TypeAlloc,
@@ -220,7 +218,7 @@ fn open_each<'a, L: Ledger>(
 ) -> Result<(), Error>
     requires args { All (EntryStands types.now) args.now }
     requires imports { All (EntryStands types.now) imports.now }
-    requires seen { AreExports types.now seen.old.maps }
+    requires seen { AreExports types.now seen.old }
     requires compared { ArePassed types.now given (reads right.old) compared.old }
     requires none { opening.old.types ≡ [] }
     ensures passes { OnOk result (each_passes (match_pass (id_tests types.now.core) 0 given (reads right.old)) (named_trees (trees types.now.nodes) args.now) (named_trees (trees types.now.nodes) imports.now) ≡ true) }

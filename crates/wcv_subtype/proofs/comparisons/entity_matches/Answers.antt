@@ -3,10 +3,10 @@ use Rattle.wcv_closed.specs.ClosedTable.{IsTable}
 use Rattle.wcv_types.specs.Entities.{entity_tree}
 use Rattle.wcv_types.specs.Unfold.{trees}
 use Rattle.wcv_matching.specs.OnePass.{given}
-use Rattle.wcv_subtype.specs.Readings.{reads}
-use Rattle.wcv_subtype.proofs.EntityLaws.{entities_decided}
-use Rattle.wcv_subtype.proofs.PassIds.{if_ok}
-use Rattle.wcv_subtype.proofs.PassSteps.{answers_at}
+use Rattle.wcv_atoms.specs.Readings.{reads}
+use Rattle.wcv_atoms.proofs.EntityLaws.{entities_decided}
+use Rattle.wcv_atoms.proofs.PassIds.{if_ok}
+use Rattle.wcv_atoms.proofs.PassSteps.{answers_at}
 use Rattle.wcv_subtype.proofs.comparisons.entity_matches.Goals as goal
 
 pub returns-clause-matches : goal.returns-clause-matches

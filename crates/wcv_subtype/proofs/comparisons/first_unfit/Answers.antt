@@ -1,4 +1,4 @@
-use Rattle.wcv_subtype.specs.Readings.{reads}
+use Rattle.wcv_atoms.specs.Readings.{reads}
 use Rattle.wcv_subtype.proofs.comparisons.first_unfit.Goals as goal
 
 pub unfit_among-done-requires-clause-compared : goal.unfit_among-done-requires-clause-compared

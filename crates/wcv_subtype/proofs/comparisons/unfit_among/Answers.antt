@@ -4,11 +4,11 @@ use Rattle.wcv_types.specs.Entities.{EntityStands}
 use Rattle.wcv_types.specs.declared.item_map.ComponentItem.{ComponentItem}
 use Rattle.wcv_types.specs.Unfold.{trees}
 use Rattle.wcv_matching.proofs.Entries.{entry_within, not_past}
-use Rattle.wcv_subtype.specs.IdPasses.{named_trees}
-use Rattle.wcv_subtype.specs.Readings.{reads}
-use Rattle.wcv_subtype.proofs.Comparing.{passed_as}
-use Rattle.wcv_subtype.proofs.Extents.{entries_next, found_is, matched_next, matched_within}
-use Rattle.wcv_subtype.proofs.PassIds.{found_stands}
+use Rattle.wcv_atoms.specs.IdPasses.{named_trees}
+use Rattle.wcv_atoms.specs.Readings.{reads}
+use Rattle.wcv_compare.proofs.Comparing.{passed_as}
+use Rattle.wcv_atoms.proofs.Extents.{entries_next, found_is, matched_next, matched_within}
+use Rattle.wcv_atoms.proofs.PassIds.{found_stands}
 use Rattle.wcv_subtype.proofs.comparisons.unfit_among.Goals as goal
 use Rattle.wcv_subtype.proofs.comparisons.unfit_among.Goals.{in-Some+in-Some-get+in_ok-entity_passes-in-Some-get+else-not-branch, in_default}
 

@@ -1,9 +1,9 @@
 use Rattle.std.proofs.Common.{◌+◌, ◌≤◌, drop}
 use Rattle.wcv_types.specs.Unfold.{trees}
-use Rattle.wcv_subtype.specs.Compared.{ArePassed}
-use Rattle.wcv_subtype.specs.Extent.{entries_extent, matched_extent}
-use Rattle.wcv_subtype.specs.IdPasses.{named_trees}
-use Rattle.wcv_subtype.specs.Readings.{reads}
+use Rattle.wcv_compare.specs.Compared.{ArePassed}
+use Rattle.wcv_atoms.specs.Extent.{entries_extent, matched_extent}
+use Rattle.wcv_atoms.specs.IdPasses.{named_trees}
+use Rattle.wcv_atoms.specs.Readings.{reads}
 use Rattle.wcv_subtype.proofs.comparisons.unfit_among.Given as goal
 
 -- the pairs that are kept pass, and what is left takes no more than is left of the steps

@@ -1,6 +1,6 @@
 use Rattle.std.proofs.Common.{arith}
-use Rattle.wcv_subtype.proofs.Extents.{instance_extent}
-use Rattle.wcv_subtype.proofs.PassIds.{instance_stands}
+use Rattle.wcv_atoms.proofs.Extents.{instance_extent}
+use Rattle.wcv_atoms.proofs.PassIds.{instance_stands}
 use Rattle.wcv_subtype.proofs.comparisons.unfit_export.Goals as goal
 
 pub first_unfit-requires-clause-a : goal.first_unfit-requires-clause-a

@@ -1,7 +1,7 @@
 use Rattle.std.proofs.Common.{arith}
-use Rattle.wcv_subtype.proofs.ComponentIds.{imports_stand}
-use Rattle.wcv_subtype.proofs.Exporting.{component_stands}
-use Rattle.wcv_subtype.proofs.Extents.{component_extent}
+use Rattle.wcv_counterparts.proofs.ComponentIds.{imports_stand}
+use Rattle.wcv_counterparts.proofs.Exporting.{component_stands}
+use Rattle.wcv_atoms.proofs.Extents.{component_extent}
 use Rattle.wcv_subtype.proofs.comparisons.unfit_in_component.Goals as goal
 
 pub unfit_opened-done-requires-clause-left_imports : goal.unfit_opened-done-requires-clause-left_imports

@@ -15,9 +15,10 @@ use Rattle.wcv_matching.specs.Matching.{named_exports}
 use Rattle.wcv_matching.proofs.ByName.{is_there}
 use Rattle.wcv_matching.proofs.Entries.{entry_within}
 use Rattle.wcv_subtype.specs.Openings.{given_under, Gives}
-use Rattle.wcv_subtype.proofs.Extents.{created_counts, entries_next, instance_extent}
+use Rattle.wcv_atoms.proofs.Extents.{entries_next, instance_extent}
+use Rattle.wcv_subtype.proofs.CreatedExtents.{created_counts}
 use Rattle.wcv_subtype.proofs.GivenLists.{all_given, creates_none, export_lower, export_next, export_there, gives_as, nothing_given, nothing_under, of_type, only_types, passes_export, passes_sort}
-use Rattle.wcv_subtype.proofs.PassIds.{instance_stands}
+use Rattle.wcv_atoms.proofs.PassIds.{instance_stands}
 use Rattle.wcv_subtype.proofs.giving.+giving.Goals as goal
 
 -- ## A type

@@ -2,7 +2,7 @@ use Rattle.std.proofs.Common.{◌≡◌, List, [], ◌∷◌, ◌++◌, sym, ◌
 use Rattle.std.proofs.lemmas.Result.{on_ok_weaker}
 use Rattle.wcv_types.specs.Unfold.{any_part, tree_at}
 use Rattle.wcv_types.specs.declared.ids.ResourceId.{ResourceId}
-use Rattle.wcv_subtype.specs.Map.{Map, entry}
+use Rattle.wcv_remap.specs.Map.{Map, entry}
 use Rattle.wcv_subtype.proofs.GivenLists.{gives_new, gives_same, no_sent, some_sent}
 use Rattle.wcv_subtype.proofs.giving.give_type.Goals as goal
 

@@ -1,12 +1,12 @@
 use Rattle.std.proofs.Common.{arith, true, false, refl, sym, inr}
 use Rattle.wcv_types.specs.Entities.{entity_tree}
 use Rattle.wcv_types.specs.Unfold.{trees}
-use Rattle.wcv_subtype.specs.Readings.{reads}
+use Rattle.wcv_atoms.specs.Readings.{reads}
 use Rattle.wcv_matching.specs.OnePass.{given}
-use Rattle.wcv_subtype.proofs.Comparing.{passed_as}
-use Rattle.wcv_subtype.proofs.Extents.{found_is}
+use Rattle.wcv_compare.proofs.Comparing.{passed_as}
+use Rattle.wcv_atoms.proofs.Extents.{found_is}
 use Rattle.wcv_subtype.proofs.Opening.{absent, fits, told, unfit}
-use Rattle.wcv_subtype.proofs.PassIds.{answers_are, found_stands}
+use Rattle.wcv_atoms.proofs.PassIds.{answers_are, found_stands}
 use Rattle.wcv_subtype.proofs.openings.argument_for.Goals as goal
 
 pub entity_passes-requires-clause-a : goal.entity_passes-requires-clause-a

@@ -1,5 +1,5 @@
 use Rattle.std.proofs.Common.{◌∙◌, ap}
-use Rattle.wcv_subtype.specs.Readings.{atoms_of, over}
+use Rattle.wcv_atoms.specs.Readings.{atoms_of, over}
 use Rattle.wcv_subtype.proofs.openings.given_as.Goals as goal
 
 pub returns : goal.returns

@@ -6,10 +6,10 @@ use Rattle.wcv_matching.proofs.ByName.{is_there}
 use Rattle.wcv_matching.proofs.Entries.{entry_within}
 use Rattle.wcv_matching.specs.OnePass.{given}
 use Rattle.wcv_types.specs.Unfold.{trees}
-use Rattle.wcv_subtype.specs.IdPasses.{named_trees}
-use Rattle.wcv_subtype.specs.Readings.{reads}
-use Rattle.wcv_subtype.proofs.Comparing.{passed_as}
-use Rattle.wcv_subtype.proofs.Extents.{entries_next, matched_next}
+use Rattle.wcv_atoms.specs.IdPasses.{named_trees}
+use Rattle.wcv_atoms.specs.Readings.{reads}
+use Rattle.wcv_compare.proofs.Comparing.{passed_as}
+use Rattle.wcv_atoms.proofs.Extents.{entries_next, matched_next}
 use Rattle.wcv_subtype.proofs.Opening.{all_gave, all_pass, fits_as, next_given, next_passes, refused_as, refuses}
 use Rattle.wcv_subtype.proofs.openings.open_each.Goals as goal
 

@@ -5,8 +5,8 @@ use Rattle.wcv_matching.specs.AtomTests.{id_tests}
 use Rattle.wcv_matching.specs.Matching.{Reading}
 use Rattle.wcv_matching.specs.OnePass.{Atom, each_passes, given, match_pass}
 use Rattle.wcv_matching.specs.Refusals.{MemoryOrMismatch}
-use Rattle.wcv_subtype.specs.IdPasses.{named_trees}
-use Rattle.wcv_subtype.specs.Map.{Map}
+use Rattle.wcv_atoms.specs.IdPasses.{named_trees}
+use Rattle.wcv_remap.specs.Map.{Map}
 use Rattle.wcv_subtype.proofs.openings.open_found.Goals as goal
 
 pub returns-in_err-open_imports-clause-err : goal.returns-in_err-open_imports-clause-err

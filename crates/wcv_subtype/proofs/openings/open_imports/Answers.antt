@@ -1,5 +1,5 @@
 use Rattle.wcv_matching.specs.OnePass.{given}
-use Rattle.wcv_subtype.specs.Readings.{reads}
+use Rattle.wcv_atoms.specs.Readings.{reads}
 use Rattle.wcv_subtype.proofs.openings.open_imports.Goals as goal
 
 pub open_each-opened-requires-clause-compared : goal.open_each-opened-requires-clause-compared

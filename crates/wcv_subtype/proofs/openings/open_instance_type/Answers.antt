@@ -14,14 +14,14 @@ use Rattle.wcv_types.specs.declared.shapes.ComponentEntityType.{ComponentEntityT
 use Rattle.wcv_matching.specs.OnePass.{given}
 use Rattle.wcv_matching.specs.Refusals.{MemoryOrMismatch}
 use Rattle.wcv_matching.specs.TableMatching.{Opens}
-use Rattle.wcv_subtype.specs.IdCounterparts.{lands_on}
-use Rattle.wcv_subtype.specs.IdPasses.{named_trees}
+use Rattle.wcv_counterparts.specs.IdCounterparts.{lands_on}
+use Rattle.wcv_atoms.specs.IdPasses.{named_trees}
 use Rattle.wcv_subtype.specs.Openings.{named_args, ArgumentStands, IsOpening}
-use Rattle.wcv_subtype.specs.Readings.{given_as, resource_name}
+use Rattle.wcv_atoms.specs.Readings.{given_as, resource_name}
 use Rattle.wcv_subtype.proofs.Landing.{read_found}
 use Rattle.wcv_subtype.proofs.Opening.{args_stand, as_args, imports_stand, opening, opening_counts, opens, refused}
-use Rattle.wcv_subtype.proofs.OwnPaths.{found_distinct}
-use Rattle.wcv_subtype.proofs.PassIds.{if_ok}
+use Rattle.wcv_counterparts.proofs.OwnPaths.{found_distinct}
+use Rattle.wcv_atoms.proofs.PassIds.{if_ok}
 use Rattle.wcv_subtype.proofs.openings.open_instance_type.Goals as goal
 
 pub counterparts_in-requires-clause-entries : goal.counterparts_in-requires-clause-entries

@@ -1,7 +1,7 @@
 use Rattle.std.proofs.Common.{get_or, ◌∙◌, ap}
 use Rattle.wcv_types.specs.declared.ids.ResourceId.{ResourceId}
-use Rattle.wcv_subtype.specs.Map.{Map, resource_to}
-use Rattle.wcv_subtype.proofs.OwnPaths.{absent_before}
+use Rattle.wcv_remap.specs.Map.{Map, resource_to}
+use Rattle.wcv_counterparts.proofs.OwnPaths.{absent_before}
 use Rattle.wcv_subtype.proofs.openings.replacing.Goals as goal
 
 pub push_resource-requires : goal.push_resource-requires

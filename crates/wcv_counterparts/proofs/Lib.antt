@@ -1,0 +1,5 @@
+pub mod OwnReadings
+pub mod OneToOne
+pub mod Exporting
+pub mod ComponentIds
+pub mod OwnPaths

@@ -1,0 +1,2 @@
+pub mod IdCounterparts
+pub mod OwnResources

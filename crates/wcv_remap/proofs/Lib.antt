@@ -1,0 +1,15 @@
+pub mod Parts
+pub mod Inside
+pub mod Lists
+pub mod Keeping
+pub mod Maps
+pub mod Sending
+pub mod Leading
+pub mod Slots
+pub mod Rebuilding
+pub mod Looping
+pub mod Whole
+pub mod Counting
+pub mod Starting
+pub mod Given
+pub mod Sparing

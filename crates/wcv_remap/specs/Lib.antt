@@ -1,0 +1,4 @@
+pub mod Map
+pub mod Hygiene
+pub mod Remap
+pub mod Entities

@@ -1,4 +1,0 @@
-use Rattle.wcv_subtype.proofs.visits.visited.Goals as goal
-
-pub returns-clause-apart : goal.returns-clause-apart
-returns-clause-apart g c = (c.nodes_fit.ensures.again _ _ c.get.ensures.found).apart

@@ -1,0 +1,3 @@
+pub mod IdPasses
+pub mod SameValues
+pub mod ValueExtents
