@@ -28,9 +28,9 @@ use Rattle.wcv_types.specs.declared.shapes.ComponentFuncType.{ComponentFuncType}
 use Rattle.wcv_types.specs.declared.shapes.ComponentValType.{ComponentValType}
 use Rattle.wcv_types.specs.declared.shapes.ComponentValType.TheVariants as v
 use Rattle.wcv_types.proofs.Grown.{extends_push, more_given, same_tree, stands_more}
-use Rattle.wcv_subtype.specs.Map.{Sent}
-use Rattle.wcv_subtype.specs.Remap.{Reached, itself, below, ReachedFrom}
-use Rattle.wcv_subtype.proofs.Parts.{slots_stay}
+use Rattle.wcv_remap.specs.Map.{Sent}
+use Rattle.wcv_remap.specs.Remap.{Reached, itself, below, ReachedFrom}
+use Rattle.wcv_remap.proofs.Parts.{slots_stay}
 use Rattle.wcv_call_tests.specs.MadeOf.{IsMadeOf}
 
 -- ## Lists

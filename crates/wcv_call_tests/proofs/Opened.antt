@@ -11,11 +11,11 @@ use Rattle.wcv_lower.specs.Context.{empty}
 use Rattle.wcv_lower.specs.Owned.{IsCalm}
 use Rattle.wcv_lower.specs.Trees.{Tree_stack, tree_reader}
 use Rattle.wcv_lower.proofs.Calm.{calm_start}
-use Rattle.wcv_state.specs.Contents.{Contents, empty_state, kind_of, ids, core_ids, id_tree, core_tree, sides, names, stack_of}
-use Rattle.wcv_state.specs.Promises.{numbers_of}
-use Rattle.wcv_state.specs.declared.kind.ComponentKind.{ComponentKind}
-use Rattle.wcv_state.proofs.Keeping.{empty_stands}
-use Rattle.wcv_state.proofs.Sides.{each_side, each_space, each_core}
+use Rattle.wcv_spaces.specs.Contents.{Contents, empty_state, kind_of, ids, core_ids, id_tree, core_tree, sides, names, stack_of}
+use Rattle.wcv_spaces.specs.Promises.{numbers_of}
+use Rattle.wcv_spaces.specs.declared.kind.ComponentKind.{ComponentKind}
+use Rattle.wcv_spaces.proofs.Keeping.{empty_stands}
+use Rattle.wcv_spaces.proofs.Sides.{each_side, each_space, each_core}
 use Rattle.wcv_decls.specs.Declaring.{innermost, AreReady}
 use Rattle.wcv_decls.specs.Stack.{IsOpen, AreCalm, DeclaresOn, KeepsOn}
 use Rattle.wcv_decls.proofs.ChargedStates.{still_ready}

@@ -12,6 +12,7 @@ use wcv_decls::Declare;
 use wcv_state::{ComponentState, Space};
 use wcv_syntax::{ComponentDefinedType, ComponentType};
 use wcv_types::{AbiInfo, ComponentEntityType, ComponentValType, ResourceSet, TypeAlloc};
+use wcv_walks::FreeVariables;
 
 /// A type joins.
 fn add(

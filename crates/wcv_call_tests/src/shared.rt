@@ -12,7 +12,7 @@ use std::alloc::Global;
 use std::marker::Brand;
 use std::sync::ledger::{Blank, Ledger};
 use wcv_core::{OutOfMemory, Text, WasmFeatures};
-use wcv_subtype::{
+use wcv_remap::{
     Remapping, a_map_of_resources_is_sound, a_map_of_resources_replaces_no_node,
     a_rebuilding_reads_at_most_what_is_reached, remap_component_entity,
     what_spares_owned_resources_is_hygienic,
@@ -22,6 +22,7 @@ use wcv_types::{
     ComponentEntityType, ComponentFuncType, ComponentFuncTypeId, ComponentValType, ResourceId,
     ResourceSet, Steps, TypeAlloc, TypeSort,
 };
+use wcv_walks::FreeVariables;
 
 /// The handle that owns a resource.
 fn own(

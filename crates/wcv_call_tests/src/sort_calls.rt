@@ -11,6 +11,7 @@ use wcv_types::{
     ComponentAnyTypeId, ComponentEntityType, ComponentType, ComponentValType, ItemMap, NodeStore,
     Paths, ResourceSet, TypeAlloc, TypeInfo,
 };
+use wcv_walks::FreeVariables;
 
 /// Whether the resources that are free in a type are found.
 fn are_found(types: &TypeAlloc, id: ComponentAnyTypeId) -> bool

@@ -28,9 +28,9 @@ use Rattle.wcv_lower.specs.Types.{func_parts, func_made, func_own_checks, func_c
 use Rattle.wcv_lower.specs.Values.{option_entry, parts_checks}
 use Rattle.wcv_lower.proofs.Causes.{cause_left, cause_right, cause_either, free_both, free_left, free_right}
 use Rattle.wcv_lower.proofs.SlotParts.{slot_parts_are}
-use Rattle.wcv_state.specs.Contents.{Contents, context_of}
-use Rattle.wcv_state.specs.Promises.{MemoryOrCausedBy}
-use Rattle.wcv_state.proofs.Calls.{caused_more}
+use Rattle.wcv_spaces.specs.Contents.{Contents, context_of}
+use Rattle.wcv_spaces.specs.Promises.{MemoryOrCausedBy}
+use Rattle.wcv_spaces.proofs.Calls.{caused_more}
 use Rattle.wcv_decls.specs.Items.{Stored, Added}
 use Rattle.wcv_decls.specs.Resolved.{IsShape, IsFuncShape, resolve_checks, func_resolve_checks}
 

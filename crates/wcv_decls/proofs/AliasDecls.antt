@@ -26,8 +26,8 @@ use Rattle.wcv_lower.specs.Step.{Step, charges, on_outer, apply, joins}
 use Rattle.wcv_lower.specs.Trees.{Tree_context, Tree_stack, tree_reader, tree_maker}
 use Rattle.wcv_lower.proofs.CalmGrowth.{calm_grows}
 use Rattle.wcv_state.specs.Aliasing.{AliasedOn}
-use Rattle.wcv_state.specs.Contents.{Contents, stack_of}
-use Rattle.wcv_state.specs.Promises.{MemoryOrCausedBy, numbers_of, CausedAt}
+use Rattle.wcv_spaces.specs.Contents.{Contents, stack_of}
+use Rattle.wcv_spaces.specs.Promises.{MemoryOrCausedBy, numbers_of, CausedAt}
 use Rattle.wcv_state.proofs.Stacks.{none_made}
 use Rattle.wcv_decls.specs.Declaring.{innermost, features_in, stack_in, AreReady, StayReady, SameAround, IsInstanceBody, DeclaresInstance, MemoryOr, ReadsDecl, RefusesDecl}
 use Rattle.wcv_decls.specs.Stack.{stack_on, contexts_around, RefusedOn, KeepsOn}

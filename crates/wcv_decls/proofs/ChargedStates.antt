@@ -3,8 +3,8 @@ use Rattle.std.proofs.Common.{◌≡◌, ◌<◌, List, [], ◌∷◌, ◌++◌,
 use Rattle.std.proofs.lemmas.List.Elements.{All-nil, All-cons, All-head, All-tail, All-push}
 use Rattle.wcv_types.specs.Arena.{Arena}
 use Rattle.wcv_lower.specs.Owned.{IsCalm}
-use Rattle.wcv_state.specs.Contents.{Contents}
-use Rattle.wcv_state.specs.Promises.{numbers_of, Keeps}
+use Rattle.wcv_spaces.specs.Contents.{Contents}
+use Rattle.wcv_spaces.specs.Promises.{numbers_of, Keeps}
 use Rattle.wcv_state.specs.Stack.{uncharged}
 use Rattle.wcv_decls.specs.Declaring.{innermost, around, stack_in, AreReady, StayReady}
 use Rattle.wcv_decls.specs.Stack.{IsOpen, all_uncharged, KeepsOn}

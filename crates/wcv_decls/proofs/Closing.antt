@@ -35,8 +35,8 @@ use Rattle.wcv_lower.specs.Step.{Step, apply}
 use Rattle.wcv_lower.specs.Trees.{Tree_context, Tree_stack, tree_reader, tree_maker, node_tree}
 use Rattle.wcv_lower.proofs.Calm.{calm_later}
 use Rattle.wcv_lower.proofs.CalmEnds.{calm_ended}
-use Rattle.wcv_state.specs.Contents.{Contents, context_of, stack_of}
-use Rattle.wcv_state.specs.Promises.{numbers_of, Finished}
+use Rattle.wcv_spaces.specs.Contents.{Contents, context_of, stack_of}
+use Rattle.wcv_spaces.specs.Promises.{numbers_of, Finished}
 use Rattle.wcv_decls.specs.Declaring.{innermost, around, stack_in, top_in, AreReady, Ends}
 use Rattle.wcv_decls.specs.Items.{entry_in, Stored}
 use Rattle.wcv_decls.specs.Stack.{IsOpen, stay, ChangesLast, contexts_around}

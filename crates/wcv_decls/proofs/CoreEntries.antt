@@ -7,7 +7,7 @@ use Rattle.wcv_core.specs.CoreGroups.{total}
 use Rattle.wcv_core.specs.CoreWritten.{IsKnown}
 use Rattle.wcv_types.specs.Arena.{Arena}
 use Rattle.wcv_lower.specs.CoreItems.{core_entries, outer_entries}
-use Rattle.wcv_state.specs.Contents.{Contents, context_of, core_entries_of}
+use Rattle.wcv_spaces.specs.Contents.{Contents, context_of, core_entries_of}
 use Rattle.wcv_state.proofs.CoreTypes.{entries_same, entries_known}
 use Rattle.wcv_state.proofs.Stacks.{open_split}
 use Rattle.wcv_decls.specs.Stack.{IsOpen, stack_on}

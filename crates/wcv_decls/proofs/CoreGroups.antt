@@ -25,10 +25,10 @@ use Rattle.wcv_lower.specs.Step.{Step, apply}
 use Rattle.wcv_lower.specs.Trees.{Tree_context, Tree_stack, tree_reader, tree_maker}
 use Rattle.wcv_lower.proofs.Causes.{cause_left, cause_right, free_both}
 use Rattle.wcv_lower.proofs.ModulesMade.{joinable}
-use Rattle.wcv_state.specs.Contents.{Contents, context_of, stack_of, core_entry_of, core_entries_of, with_sub, spent, StateStands}
-use Rattle.wcv_state.specs.Promises.{MemoryOrCausedBy, Keeps, Grew}
-use Rattle.wcv_state.proofs.Calls.{caused_more}
-use Rattle.wcv_state.proofs.Keeping.{state_stands, same_context, keeps_grown, keeps_marked, keeps_trans}
+use Rattle.wcv_spaces.specs.Contents.{Contents, context_of, stack_of, core_entry_of, core_entries_of, with_sub, spent, StateStands}
+use Rattle.wcv_spaces.specs.Promises.{MemoryOrCausedBy, Keeps, Grew}
+use Rattle.wcv_spaces.proofs.Calls.{caused_more}
+use Rattle.wcv_spaces.proofs.Keeping.{state_stands, same_context, keeps_grown, keeps_marked, keeps_trans}
 use Rattle.wcv_state.proofs.CoreTypes.{entries_same, joined_types, keeps_types}
 use Rattle.wcv_state.proofs.Stacks.{none_made}
 

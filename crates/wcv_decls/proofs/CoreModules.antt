@@ -36,12 +36,12 @@ use Rattle.wcv_lower.specs.Step.{Step, apply}
 use Rattle.wcv_lower.specs.Trees.{Type_tree, Tree_context, Tree_stack, tree_reader, tree_maker, module_tree}
 use Rattle.wcv_lower.proofs.Causes.{cause_left, cause_right, free_both, free_left, free_right}
 use Rattle.wcv_lower.proofs.ModulesMade.{made_same}
-use Rattle.wcv_state.specs.Contents as state
-use Rattle.wcv_state.specs.Contents.{Contents, Core_id, context_of, stack_of, core_slot, core_tree, id_tree, core_entries_of, CoreStands, StateStands}
-use Rattle.wcv_state.specs.Promises.{MemoryOrCausedBy, Keeps, Grew, Refuses}
-use Rattle.wcv_state.proofs.Calls.{caused_more}
+use Rattle.wcv_spaces.specs.Contents as state
+use Rattle.wcv_spaces.specs.Contents.{Contents, Core_id, context_of, stack_of, core_slot, core_tree, id_tree, core_entries_of, CoreStands, StateStands}
+use Rattle.wcv_spaces.specs.Promises.{MemoryOrCausedBy, Keeps, Grew, Refuses}
+use Rattle.wcv_spaces.proofs.Calls.{caused_more}
 use Rattle.wcv_state.proofs.CoreRoom.{counts_more}
-use Rattle.wcv_state.proofs.Keeping.{state_stands, same_context, keeps_grown, keeps_trans, keeps_with_core, with_core_context}
+use Rattle.wcv_spaces.proofs.Keeping.{state_stands, same_context, keeps_grown, keeps_trans, keeps_with_core, with_core_context}
 use Rattle.wcv_state.specs.Stack.{innermost, around}
 use Rattle.wcv_state.proofs.Stacks.{none_made, innermost_at, parted}
 use Rattle.wcv_decls.specs.CoreItems.{StoredModule, JoinedCore, JoinedModule, JoinsWith, JoinsMade, JoinsCoreType, core_space, with_module, MadeIn, FreeIn, CausedIn}

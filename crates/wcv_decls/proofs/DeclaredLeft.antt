@@ -13,7 +13,7 @@ use Rattle.wcv_syntax.specs.View.{decls_of, type_view, component_decl_view, inst
 use Rattle.wcv_syntax.proofs.Views.{type_view-Component, type_view-Instance}
 use Rattle.wcv_lower.specs.Checks.{Checks, IsFree, too_many}
 use Rattle.wcv_lower.specs.Declared.{decl_count, declared_left, decl_left, decls_left}
-use Rattle.wcv_state.specs.Promises.{MemoryOrCausedBy}
+use Rattle.wcv_spaces.specs.Promises.{MemoryOrCausedBy}
 
 -- what is left to the caller, of declarations in a list
 abbrev pub list_left : {X : Type 0} → (X → Decl) → List X → Checks

@@ -26,12 +26,12 @@ use Rattle.wcv_lower.specs.Readers.{Maker}
 use Rattle.wcv_lower.specs.Step.{Step, apply, joins_types, defines}
 use Rattle.wcv_lower.specs.Trees.{type_entry, Tree_context, tree_reader, tree_maker}
 use Rattle.wcv_lower.specs.Types.{dtor_stands, rep_checks}
-use Rattle.wcv_state.specs.Contents.{Contents, kind_of, context_of, stack_of, defined_resource, with_defined, with_id, spent, names, sides, is_number, StateStands}
-use Rattle.wcv_state.specs.Looking.{has_resource}
-use Rattle.wcv_state.specs.Promises.{Keeps}
-use Rattle.wcv_state.proofs.Given.{resource_names, resource_given, resource_name, reference_same}
-use Rattle.wcv_state.proofs.Keeping.{no_more, entries_refl, state_stands, same_context, keeps_grown, keeps_trans, keeps_marked, keeps_with_id, with_id_context}
-use Rattle.wcv_state.proofs.Listed.{later_is_new}
+use Rattle.wcv_spaces.specs.Contents.{Contents, kind_of, context_of, stack_of, defined_resource, with_defined, with_id, spent, names, sides, is_number, StateStands}
+use Rattle.wcv_spaces.specs.Looking.{has_resource}
+use Rattle.wcv_spaces.specs.Promises.{Keeps}
+use Rattle.wcv_spaces.proofs.Given.{resource_names, resource_given, resource_name, reference_same}
+use Rattle.wcv_spaces.proofs.Keeping.{no_more, entries_refl, state_stands, same_context, keeps_grown, keeps_trans, keeps_marked, keeps_with_id, with_id_context}
+use Rattle.wcv_spaces.proofs.Listed.{later_is_new}
 use Rattle.wcv_decls.specs.Items.{Declares}
 
 -- a representation that may be written is a number

@@ -20,10 +20,10 @@ use Rattle.wcv_lower.specs.Context.{is_concrete}
 use Rattle.wcv_lower.specs.CoreInstances.{core_item_at, test_found}
 use Rattle.wcv_lower.specs.Trees.{Tree_context, tree_reader}
 use Rattle.wcv_lower.specs.Types.{same_vals, form_takes_and_gives, takes_and_gives, rep_checks, dtor_checks, resource_checks}
-use Rattle.wcv_state.specs.Contents.{Contents, kind_of, context_of, stack_of}
-use Rattle.wcv_state.specs.Promises.{MemoryOrCausedBy}
-use Rattle.wcv_state.proofs.Calls.{caused_more}
-use Rattle.wcv_state.proofs.CoreItems.{item_tree, item_here, missing_mapped}
+use Rattle.wcv_spaces.specs.Contents.{Contents, kind_of, context_of, stack_of}
+use Rattle.wcv_spaces.specs.Promises.{MemoryOrCausedBy}
+use Rattle.wcv_spaces.proofs.Calls.{caused_more}
+use Rattle.wcv_spaces.proofs.CoreItems.{item_tree, item_here, missing_mapped}
 
 -- ## One value and no result
 

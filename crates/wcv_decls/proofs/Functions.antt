@@ -16,8 +16,8 @@ use Rattle.wcv_lower.specs.Trees.{Tree_context}
 use Rattle.wcv_lower.specs.Types.{func_parts}
 use Rattle.wcv_lower.specs.Values.{Written_parts, option_checks, parts_checks}
 use Rattle.wcv_lower.proofs.Causes.{cause_left, cause_right, cause_either}
-use Rattle.wcv_state.specs.Promises.{MemoryOrCausedBy}
-use Rattle.wcv_state.proofs.Calls.{caused_more}
+use Rattle.wcv_spaces.specs.Promises.{MemoryOrCausedBy}
+use Rattle.wcv_spaces.proofs.Calls.{caused_more}
 use Rattle.wcv_decls.specs.Resolved.{IsOption, AreSlots, written_field, field_part}
 use Rattle.wcv_decls.proofs.Looking.{are_slots_push, free_push, cause_in}
 

@@ -19,15 +19,15 @@ use Rattle.wcv_core.specs.Refusal.{error_kind}
 use Rattle.wcv_core.specs.declared.error.Error.{Error}
 use Rattle.wcv_lower.specs.Checks.{Checks, Cause, IsFree, missing_of}
 use Rattle.wcv_lower.proofs.Causes.{cause_left, free_both}
-use Rattle.wcv_state.specs.Promises.{CausedBy, MemoryOrCausedBy}
+use Rattle.wcv_spaces.specs.Promises.{CausedBy, MemoryOrCausedBy}
 use Rattle.wcv_lower.specs.Defined.{written_parts, handle_index, made_of}
 use Rattle.wcv_lower.specs.Mapped.{map_parts}
 use Rattle.wcv_lower.specs.Readers.{if_sort}
 use Rattle.wcv_lower.specs.Trees.{Type_tree, Tree_context, tree_reader}
 use Rattle.wcv_lower.specs.Values.{resource_at, sort_checks}
-use Rattle.wcv_state.specs.Contents.{Contents, context_of, StateStands}
-use Rattle.wcv_state.specs.Looking.{any_sort}
-use Rattle.wcv_state.proofs.Found.{type_is, stands_at, sorts_same}
+use Rattle.wcv_spaces.specs.Contents.{Contents, context_of, StateStands}
+use Rattle.wcv_spaces.specs.Looking.{any_sort}
+use Rattle.wcv_spaces.proofs.Found.{type_is, stands_at, sorts_same}
 use Rattle.wcv_lower.specs.Context.{in_types}
 use Rattle.wcv_decls.specs.Resolved.{IsShape, IsValueShape}
 

@@ -6,13 +6,13 @@ use Rattle.wcv_types.specs.Arena.{Arena}
 use Rattle.wcv_types.specs.Standing.{Extends}
 use Rattle.wcv_lower.specs.Owned.{IsCalm}
 use Rattle.wcv_lower.specs.Trees.{Tree_context, Tree_stack}
-use Rattle.wcv_state.specs.Contents.{Contents, spent, context_of, stack_of}
-use Rattle.wcv_state.specs.Promises.{numbers_of, Keeps}
+use Rattle.wcv_spaces.specs.Contents.{Contents, spent, context_of, stack_of}
+use Rattle.wcv_spaces.specs.Promises.{numbers_of, Keeps}
 pub use Rattle.wcv_state.proofs.Stacks.{innermost_at, around_at, parted, some_at, indexed}
 use Rattle.wcv_state.proofs.Stacks.{open_split, around_kept, around_same, marked}
 use Rattle.wcv_decls.specs.Declaring.{innermost, around, features_in, stack_in, IsInstanceBody, DeclaresInstance, StayReady, SameAround}
 use Rattle.wcv_decls.specs.Stack.{IsOpen, stay, all_spent, all_uncharged, ChangesLast, KeepsOn, AreCalm, contexts_around, stack_on}
-use Rattle.wcv_state.proofs.Keeping.{state_stands}
+use Rattle.wcv_spaces.proofs.Keeping.{state_stands}
 
 -- ## Stacks
 

@@ -26,8 +26,8 @@ use Rattle.wcv_types.proofs.Grown.{length-trees}
 use Rattle.wcv_lower.specs.Context.{exporting}
 use Rattle.wcv_lower.specs.Ending.{end_checks, component_of, component_made, instance_made}
 use Rattle.wcv_lower.specs.Trees.{Entries, Tree_context, node_tree}
-use Rattle.wcv_state.specs.Contents.{Contents, context_of}
-use Rattle.wcv_state.specs.Promises.{Finished, MemoryOrCausedBy}
+use Rattle.wcv_spaces.specs.Contents.{Contents, context_of}
+use Rattle.wcv_spaces.specs.Promises.{Finished, MemoryOrCausedBy}
 use Rattle.wcv_decls.specs.Declaring.{IsInstanceBody}
 use Rattle.wcv_decls.proofs.InstanceEnds.{resources_kept, not_imported, no_end_cause}
 

@@ -20,10 +20,10 @@ use Rattle.wcv_lower.specs.Context.{in_types}
 use Rattle.wcv_lower.specs.Readers.{if_sort}
 use Rattle.wcv_lower.specs.Trees.{Type_tree, Tree_context, tree_reader}
 use Rattle.wcv_lower.specs.Values.{type_at, option_checks}
-use Rattle.wcv_state.specs.Contents.{Contents, context_of, id_tree, StateStands}
-use Rattle.wcv_state.specs.Looking.{any_sort}
-use Rattle.wcv_state.specs.Promises.{CausedBy, MemoryOrCausedBy}
-use Rattle.wcv_state.proofs.Found.{get_same, stands_at, sorts_same}
+use Rattle.wcv_spaces.specs.Contents.{Contents, context_of, id_tree, StateStands}
+use Rattle.wcv_spaces.specs.Looking.{any_sort}
+use Rattle.wcv_spaces.specs.Promises.{CausedBy, MemoryOrCausedBy}
+use Rattle.wcv_spaces.proofs.Found.{get_same, stands_at, sorts_same}
 use Rattle.wcv_decls.specs.Resolved.{IsOption}
 
 pub nothing_is : (a : Arena) (c : Tree_context) → IsOption a c None None

@@ -22,8 +22,8 @@ use Rattle.wcv_lower.specs.Readers.{Made_parts}
 use Rattle.wcv_lower.specs.Trees.{Tree_context, tree_reader}
 use Rattle.wcv_lower.specs.Values.{option_entry, Written_parts, behind, parts_entries, option_checks, parts_checks}
 use Rattle.wcv_lower.proofs.Causes.{cause_left, cause_right, free_both, free_left, free_right}
-use Rattle.wcv_state.specs.Promises.{MemoryOrCausedBy}
-use Rattle.wcv_state.proofs.Calls.{caused_more}
+use Rattle.wcv_spaces.specs.Promises.{MemoryOrCausedBy}
+use Rattle.wcv_spaces.proofs.Calls.{caused_more}
 use Rattle.wcv_decls.specs.Resolved.{IsOption, AreSlots}
 
 -- ## One more part

@@ -15,8 +15,8 @@ use Rattle.wcv_lower.specs.Step.{appends, Step, apply}
 use Rattle.wcv_lower.specs.Trees.{Tree_context, Tree_stack, tree_reader, tree_maker, node_tree}
 use Rattle.wcv_lower.specs.Types.{type_made, added}
 use Rattle.wcv_lower.proofs.Given.{same_origin-refl}
-use Rattle.wcv_state.specs.Contents.{Contents, context_of, stack_of}
-use Rattle.wcv_state.specs.Promises.{numbers_of}
+use Rattle.wcv_spaces.specs.Contents.{Contents, context_of, stack_of}
+use Rattle.wcv_spaces.specs.Promises.{numbers_of}
 use Rattle.wcv_decls.specs.Items.{entry_in, Added, Declares}
 
 -- the identity of the node, at a place

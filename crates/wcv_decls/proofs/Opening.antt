@@ -12,11 +12,11 @@ use Rattle.wcv_lower.specs.Declared.{inside}
 use Rattle.wcv_lower.specs.Owned.{IsCalm}
 use Rattle.wcv_lower.specs.Trees.{tree_reader}
 use Rattle.wcv_lower.proofs.Calm.{calm_inside}
-use Rattle.wcv_state.specs.Contents.{Contents, empty_state, kind_of, ids, core_ids, id_tree, core_tree, sides, names, context_of}
-use Rattle.wcv_state.specs.Promises.{numbers_of}
-use Rattle.wcv_state.specs.declared.kind.ComponentKind.{ComponentKind}
-use Rattle.wcv_state.proofs.Keeping.{empty_stands}
-use Rattle.wcv_state.proofs.Sides.{each_side, each_space, each_core}
+use Rattle.wcv_spaces.specs.Contents.{Contents, empty_state, kind_of, ids, core_ids, id_tree, core_tree, sides, names, context_of}
+use Rattle.wcv_spaces.specs.Promises.{numbers_of}
+use Rattle.wcv_spaces.specs.declared.kind.ComponentKind.{ComponentKind}
+use Rattle.wcv_spaces.proofs.Keeping.{empty_stands}
+use Rattle.wcv_spaces.proofs.Sides.{each_side, each_space, each_core}
 use Rattle.wcv_decls.specs.Declaring.{innermost, around, features_in, stack_in, AreReady, Opened}
 use Rattle.wcv_decls.specs.Stack.{IsOpen, contexts_around}
 use Rattle.wcv_decls.proofs.Closing.{nearest}

@@ -19,10 +19,10 @@ use Rattle.wcv_lower.specs.Names.{Names}
 use Rattle.wcv_lower.specs.Owned.{ItemRegular, IsLed}
 use Rattle.wcv_lower.specs.Trees.{Tree_context, Tree_stack, tree_maker}
 use Rattle.wcv_lower.specs.Types.{is_plain_type, type_checks}
-use Rattle.wcv_state.specs.Contents.{Contents, spent, context_of, stack_of}
-use Rattle.wcv_state.specs.Instances.{MayOpen}
+use Rattle.wcv_spaces.specs.Contents.{Contents, spent, context_of, stack_of}
+use Rattle.wcv_instantiate.specs.Instances.{MayOpen}
 use Rattle.wcv_state.specs.Stack.{uncharged}
-use Rattle.wcv_state.specs.Promises.{MemoryOrCausedBy, numbers_of, Keeps, Grew, CausedAt, ExportDeclared, ExportCaused}
+use Rattle.wcv_spaces.specs.Promises.{MemoryOrCausedBy, numbers_of, Keeps, Grew, CausedAt, ExportDeclared, ExportCaused}
 use Rattle.wcv_decls.specs.Declaring.{innermost, around, features_in, stack_in, AreReady, StayReady, SameAround, DeclaresInstance, MemoryOr, ReadsType, ReadsDecl, RefusesType, RefusesDecl}
 use Rattle.wcv_decls.specs.Items.{Declares}
 use Rattle.wcv_decls.specs.Stack.{stay, all_spent, all_uncharged, ChangesLast, KeepsOn, GrewOn, RefusedOn, contexts_around}

@@ -25,8 +25,8 @@ use Rattle.wcv_lower.specs.Step.{Step, apply, defines, joins_types}
 use Rattle.wcv_lower.specs.Trees.{Entries, Tree_context, Tree_stack, tree_reader, tree_maker}
 use Rattle.wcv_lower.specs.Types.{is_plain_type, added, dtor_stands, type_made, type_checks}
 use Rattle.wcv_lower.proofs.CalmGrowth.{calm_grows}
-use Rattle.wcv_state.specs.Contents.{Contents, defined_resource, context_of, stack_of, StateStands}
-use Rattle.wcv_state.specs.Promises.{numbers_of}
+use Rattle.wcv_spaces.specs.Contents.{Contents, defined_resource, context_of, stack_of, StateStands}
+use Rattle.wcv_spaces.specs.Promises.{numbers_of}
 use Rattle.wcv_state.proofs.Stacks.{none_made}
 use Rattle.wcv_decls.specs.Declaring.{IsInstanceBody}
 use Rattle.wcv_decls.specs.Items.{Declares}

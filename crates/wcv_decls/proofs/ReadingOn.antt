@@ -18,8 +18,8 @@ use Rattle.wcv_lower.specs.DeclaredCalls.{DeclRead, DeclsRead, DeclsRefused}
 use Rattle.wcv_lower.specs.Ending.{declared_end_checks}
 use Rattle.wcv_lower.specs.Given.{names_of, Numbers, AtMost}
 use Rattle.wcv_lower.specs.Trees.{Tree_stack, tree_maker}
-use Rattle.wcv_state.specs.Contents.{Contents}
-use Rattle.wcv_state.specs.Promises.{numbers_of, Keeps}
+use Rattle.wcv_spaces.specs.Contents.{Contents}
+use Rattle.wcv_spaces.specs.Promises.{numbers_of, Keeps}
 pub use Rattle.wcv_state.proofs.Stacks.{kept_both}
 use Rattle.wcv_state.proofs.Stacks.{around_kept}
 use Rattle.wcv_decls.specs.Declaring.{innermost, around, features_in, stack_in, AreReady, StayReady, MemoryOr, ReadsDecl, ReadsDecls, RefusesDecl, RefusesDecls}

@@ -15,9 +15,9 @@ use Rattle.wcv_core.proofs.Among.{bytes_eq-sym}
 use Rattle.wcv_types.specs.Tree.{Text}
 use Rattle.wcv_lower.specs.Checks.{Cause, IsFree, is_among, has_repeat, label_checks, bad_label}
 use Rattle.wcv_lower.proofs.Repeats.{has_repeat-push}
-use Rattle.wcv_state.specs.Inside.{AreKeys}
-use Rattle.wcv_state.specs.Promises.{MemoryOrCausedBy}
-use Rattle.wcv_state.proofs.Calls.{caused_more}
+use Rattle.wcv_spaces.specs.Parts.{AreKeys}
+use Rattle.wcv_spaces.specs.Promises.{MemoryOrCausedBy}
+use Rattle.wcv_spaces.proofs.Calls.{caused_more}
 use Rattle.wcv_decls.proofs.Positions.{take-at, split-at}
 
 -- ## Keys

@@ -13,8 +13,8 @@ use Rattle.wcv_lower.specs.Checks.{Checks, IsFree, if_found}
 use Rattle.wcv_lower.specs.Trees.{Type_tree, Tree_context}
 use Rattle.wcv_lower.specs.Values.{option_checks, parts_checks}
 use Rattle.wcv_lower.proofs.Causes.{cause_left, cause_right, free_both}
-use Rattle.wcv_state.specs.Promises.{MemoryOrCausedBy}
-use Rattle.wcv_state.proofs.Calls.{caused_more}
+use Rattle.wcv_spaces.specs.Promises.{MemoryOrCausedBy}
+use Rattle.wcv_spaces.proofs.Calls.{caused_more}
 use Rattle.wcv_decls.specs.Resolved.{IsOption, AreSlots}
 use Rattle.wcv_decls.proofs.Looking.{are_no_slots, are_slots_push}
 

@@ -40,10 +40,10 @@ use Rattle.wcv_lower.specs.Step.{core_appends, interns, introduces, lists, creat
 use Rattle.wcv_lower.specs.Trees.{Tree_context, Tree_stack, tree_reader, tree_maker}
 use Rattle.wcv_lower.proofs.Calm.{calm_opens, calm_instance}
 use Rattle.wcv_lower.proofs.CalmGrowth.{calm_grows, calm_exports}
-use Rattle.wcv_state.specs.Contents.{Contents, id_tree, context_of, stack_of, StateStands}
-use Rattle.wcv_state.specs.Instances.{MayOpen, MayOpenItem, ItemMayOpen}
-use Rattle.wcv_state.specs.Promises.{MemoryOrCausedBy, numbers_of, Keeps, Grew, CausedAt, ExportDeclared, ExportCaused}
-use Rattle.wcv_state.proofs.Found.{get_same, type_is}
+use Rattle.wcv_spaces.specs.Contents.{Contents, id_tree, context_of, stack_of, StateStands}
+use Rattle.wcv_instantiate.specs.Instances.{MayOpen, MayOpenItem, ItemMayOpen}
+use Rattle.wcv_spaces.specs.Promises.{MemoryOrCausedBy, numbers_of, Keeps, Grew, CausedAt, ExportDeclared, ExportCaused}
+use Rattle.wcv_spaces.proofs.Found.{get_same, type_is}
 use Rattle.wcv_decls.specs.Declaring.{IsInstanceBody}
 use Rattle.wcv_decls.proofs.Plain.{own_given, SameSides}
 use Rattle.wcv_decls.proofs.ReadingOn.{grown_numbers}

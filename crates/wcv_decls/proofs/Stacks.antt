@@ -7,7 +7,7 @@ use Rattle.wcv_syntax.specs.Model.{Form}
 use Rattle.wcv_types.proofs.Lists.{map-id}
 use Rattle.wcv_types.specs.Arena.{Arena}
 use Rattle.wcv_lower.specs.Given.{names_of, none_given}
-use Rattle.wcv_state.specs.Contents.{Contents, spent}
+use Rattle.wcv_spaces.specs.Contents.{Contents, spent}
 use Rattle.wcv_state.proofs.Stacks.{none_made, marked}
 use Rattle.wcv_decls.specs.CoreItems.{CausedIn}
 use Rattle.wcv_decls.specs.Stack.{all_spent, RefusedOn, KeepsOn}

@@ -9,9 +9,9 @@ use Rattle.wcv_types.specs.declared.ids.ComponentAnyTypeId.{ComponentAnyTypeId}
 use Rattle.wcv_types.proofs.Grown.{extends_refl, extends_push}
 use Rattle.wcv_lower.specs.Context.{Space, in_types, push}
 use Rattle.wcv_lower.specs.Trees.{Tree_context, type_entry}
-use Rattle.wcv_state.specs.Contents.{Contents, Id, with_id, id_tree, context_of, IdStands, StateStands}
-use Rattle.wcv_state.specs.Promises.{Keeps}
-use Rattle.wcv_state.proofs.Keeping.{state_stands, same_context, keeps_grown, keeps_marked, keeps_trans, keeps_with_id, push_marked, with_id_context}
+use Rattle.wcv_spaces.specs.Contents.{Contents, Id, with_id, id_tree, context_of, IdStands, StateStands}
+use Rattle.wcv_spaces.specs.Promises.{Keeps}
+use Rattle.wcv_spaces.proofs.Keeping.{state_stands, same_context, keeps_grown, keeps_marked, keeps_trans, keeps_with_id, push_marked, with_id_context}
 use Rattle.wcv_decls.specs.Items.{entry_in, Stored}
 
 -- nothing changed

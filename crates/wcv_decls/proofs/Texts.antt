@@ -7,8 +7,8 @@ use Rattle.wcv_core.specs.declared.error.ErrorKind.{ErrorKind}
 use Rattle.wcv_types.specs.Tree.{Text}
 use Rattle.wcv_lower.specs.Checks.{Cause, IsFree, too_long, each_too_long}
 use Rattle.wcv_lower.proofs.Causes.{cause_left}
-use Rattle.wcv_state.specs.Promises.{MemoryOrCausedBy}
-use Rattle.wcv_state.proofs.Calls.{caused_more}
+use Rattle.wcv_spaces.specs.Promises.{MemoryOrCausedBy}
+use Rattle.wcv_spaces.proofs.Calls.{caused_more}
 use Rattle.wcv_decls.proofs.Positions.{take-at, split-at}
 
 -- the name of an element

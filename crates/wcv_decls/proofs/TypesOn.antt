@@ -10,7 +10,7 @@ use Rattle.wcv_syntax.specs.Model.{Type_form}
 use Rattle.wcv_types.specs.Arena.{Arena}
 use Rattle.wcv_types.proofs.Lists.{map-id}
 use Rattle.wcv_lower.specs.Given.{none_given}
-use Rattle.wcv_state.specs.Contents.{Contents, spent}
+use Rattle.wcv_spaces.specs.Contents.{Contents, spent}
 use Rattle.wcv_state.specs.Stack.{uncharged}
 use Rattle.wcv_state.proofs.Stacks.{none_made}
 use Rattle.wcv_decls.specs.Declaring.{innermost, around, AreReady, StayReady, SameAround, MemoryOr, ReadsType, RefusesType}

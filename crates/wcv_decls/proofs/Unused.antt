@@ -2,7 +2,7 @@
 use Rattle.std.proofs.Common.{◌≡◌, ℕ, suc, [], ◌∷◌, map, refl, Bool, true, false, cond, Some}
 use Rattle.std.specs.List.{list_all}
 use Rattle.std.specs.Prelude.{◌&&◌, not, is_some}
-use Rattle.wcv_state.specs.Values.{Values, first_unused}
+use Rattle.wcv_spaces.specs.Values.{Values, first_unused}
 
 pub unused_is : (n : ℕ) (vs : Values) → not (list_all (λ b. b) (map (λ v. v.1) vs)) ≡ is_some (first_unused n vs)
 unused_is n [] = refl

@@ -22,10 +22,10 @@ use Rattle.wcv_lower.specs.Given.{names_of, none_given, AtMost}
 use Rattle.wcv_lower.specs.Trees.{Tree_context, Tree_stack, tree_maker}
 use Rattle.wcv_lower.proofs.Causes.{cause_left, cause_right, cause_either}
 use Rattle.wcv_lower.proofs.DeclaredGlued.{instance_read, component_read, instance_refused, component_refused}
-use Rattle.wcv_state.specs.Contents.{Contents, spent, context_of}
-use Rattle.wcv_state.specs.Promises.{MemoryOrCausedBy, numbers_of}
+use Rattle.wcv_spaces.specs.Contents.{Contents, spent, context_of}
+use Rattle.wcv_spaces.specs.Promises.{MemoryOrCausedBy, numbers_of}
 use Rattle.wcv_state.specs.Stack.{uncharged}
-use Rattle.wcv_state.proofs.Keeping.{same_context}
+use Rattle.wcv_spaces.proofs.Keeping.{same_context}
 use Rattle.wcv_state.proofs.Stacks.{none_made}
 use Rattle.wcv_decls.specs.Declaring.{innermost, around, features_in, stack_in, top_in, AreReady, StayReady, SameAround, IsInstanceBody, DeclaresInstance, Opened, ReadsType, ReadsDecls, MemoryOr, RefusesType, RefusesDecls, Ends}
 use Rattle.wcv_decls.specs.Stack.{all_spent, all_uncharged, KeepsOn}

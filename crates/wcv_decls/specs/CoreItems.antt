@@ -18,8 +18,8 @@ use Rattle.wcv_lower.specs.CoreItems.{outer_entries, core_type_made}
 use Rattle.wcv_lower.specs.Growth.{call_checks}
 use Rattle.wcv_lower.specs.Names.{Names}
 use Rattle.wcv_lower.specs.Trees.{tree_maker, module_tree}
-use Rattle.wcv_state.specs.Contents.{Contents, Core_id, core_ids, core_slot, with_core, context_of}
-use Rattle.wcv_state.specs.Promises.{MemoryOrCausedBy, Keeps}
+use Rattle.wcv_spaces.specs.Contents.{Contents, Core_id, core_ids, core_slot, with_core, context_of}
+use Rattle.wcv_spaces.specs.Promises.{MemoryOrCausedBy, Keeps}
 use Rattle.wcv_state.specs.Stack.{innermost, around}
 use Rattle.wcv_decls.specs.Stack.{stack_on}
 use Rattle.wcv_decls.specs.declared.core_module.ModuleSpace.{ModuleSpace}

@@ -22,8 +22,8 @@ use Rattle.wcv_lower.specs.Names.{Under, introduced}
 use Rattle.wcv_lower.specs.Owned.{IsCalm, IsLed}
 use Rattle.wcv_lower.specs.Readers.{Reader}
 use Rattle.wcv_lower.specs.Trees.{Tree_context, Tree_stack, tree_reader, tree_maker}
-use Rattle.wcv_state.specs.Contents.{Contents}
-use Rattle.wcv_state.specs.Promises.{numbers_of, AddsComponent, Finished}
+use Rattle.wcv_spaces.specs.Contents.{Contents}
+use Rattle.wcv_spaces.specs.Promises.{numbers_of, AddsComponent, Finished}
 pub use Rattle.wcv_state.specs.Stack.{innermost, around}
 use Rattle.wcv_decls.specs.Stack.{IsOpen, stack_on, all_spent, all_uncharged}
 

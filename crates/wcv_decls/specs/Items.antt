@@ -15,8 +15,8 @@ use Rattle.wcv_lower.specs.Names.{Under}
 use Rattle.wcv_lower.specs.Readers.{New_node}
 use Rattle.wcv_lower.specs.Trees.{Tree_context, tree_reader, tree_maker, node_tree, type_entry}
 use Rattle.wcv_lower.specs.Types.{type_made}
-use Rattle.wcv_state.specs.Contents.{Contents, context_of, stack_of}
-use Rattle.wcv_state.specs.Promises.{MemoryOrCausedBy, numbers_of, Keeps}
+use Rattle.wcv_spaces.specs.Contents.{Contents, context_of, stack_of}
+use Rattle.wcv_spaces.specs.Promises.{MemoryOrCausedBy, numbers_of, Keeps}
 
 -- a type as an entry of a space: among types it stands for what it creates and for what it refers to
 abbrev pub entry_in : Space → Type_tree → Type_tree

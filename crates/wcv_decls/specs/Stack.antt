@@ -5,8 +5,8 @@ use Rattle.wcv_core.specs.declared.error.Error.{Error}
 use Rattle.wcv_syntax.specs.Model.{Type_form}
 use Rattle.wcv_types.specs.Arena.{Arena}
 use Rattle.wcv_lower.specs.Owned.{IsCalm}
-use Rattle.wcv_state.specs.Contents.{Contents}
-use Rattle.wcv_state.specs.Promises.{numbers_of}
+use Rattle.wcv_spaces.specs.Contents.{Contents}
+use Rattle.wcv_spaces.specs.Promises.{numbers_of}
 pub use Rattle.wcv_state.specs.Stack.{IsOpen, contexts_around, stack_on, stay, all_spent, all_uncharged, ChangesLast, GrewOn, RefusedOn, KeepsOn}
 use Rattle.wcv_decls.specs.Items.{Declared, TypeCaused}
 

@@ -7,10 +7,11 @@ ghost use Rattle.wcv_lower.specs.Checks.{IsFree};
 ghost use Rattle.wcv_lower.specs.Defined.{own_checks, defined_checks};
 ghost use Rattle.wcv_lower.specs.Names.{Names};
 ghost use Rattle.wcv_lower.specs.Trees.{Tree_context, tree_maker};
-ghost use Rattle.wcv_lower.specs.Values.{lacks, cm_async};
+ghost use Rattle.wcv_core.specs.Features.{cm_async};
+ghost use Rattle.wcv_lower.specs.Values.{lacks};
 ghost use Rattle.wcv_lower.specs.Types.{is_plain_type, func_own_checks, func_checks, tree_checks};
-ghost use Rattle.wcv_state.specs.Contents.{context_of, stack_of, StateStands};
-ghost use Rattle.wcv_state.specs.Promises.{MemoryOrCausedBy, Keeps};
+ghost use Rattle.wcv_spaces.specs.Contents.{context_of, stack_of, StateStands};
+ghost use Rattle.wcv_spaces.specs.Promises.{MemoryOrCausedBy, Keeps};
 ghost use Rattle.wcv_decls.specs.Items.{Added, Declares};
 
 use crate::defined::resolve_defined;

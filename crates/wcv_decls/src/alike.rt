@@ -3,7 +3,7 @@ ghost use Rattle.std.specs.Prelude.{◌≡◌, true, map, IfOk};
 ghost use Rattle.std.specs.List.{list_all};
 ghost use Rattle.wcv_core.specs.Label as label;
 ghost use Rattle.wcv_lower.specs.Checks.{IsFree, label_checks};
-ghost use Rattle.wcv_state.specs.NameLists.{list_names};
+ghost use Rattle.wcv_spaces.specs.NameLists.{list_names};
 ghost use Rattle.wcv_decls.specs.Numbers.{number_of, Ascend};
 
 use crate::lower::is_any_label;

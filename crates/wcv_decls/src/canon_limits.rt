@@ -4,7 +4,7 @@ ghost use Rattle.std.specs.Option.{option_map};
 ghost use Rattle.wcv_syntax.specs.View.{canon_view};
 ghost use Rattle.wcv_lower.specs.Canons.{options_in, canon_left};
 ghost use Rattle.wcv_lower.specs.Checks.{IsFree};
-ghost use Rattle.wcv_state.specs.Promises.{MemoryOrCausedBy};
+ghost use Rattle.wcv_spaces.specs.Promises.{MemoryOrCausedBy};
 
 use crate::limits::check_count;
 use wcv_core::Refusal;

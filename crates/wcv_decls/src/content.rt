@@ -4,7 +4,7 @@ ghost use Rattle.wcv_core.specs.Refusal.{error_kind, error_offset};
 ghost use Rattle.wcv_lower.specs.Checks.{IsFree};
 ghost use Rattle.wcv_lower.specs.Defined.{bad_key, bad_map_value, bad_element, has_borrow};
 ghost use Rattle.wcv_lower.specs.Trees.{tree_reader, primitive_of};
-ghost use Rattle.wcv_state.specs.Promises.{MemoryOrCausedBy};
+ghost use Rattle.wcv_spaces.specs.Promises.{MemoryOrCausedBy};
 ghost use Rattle.wcv_types.specs.Entities.{SlotStands};
 ghost use Rattle.wcv_types.specs.Unfold.{value_slot, option_slot, slot_tree, trees};
 ghost use Rattle.wcv_decls.specs.Resolved.{shape_primitive};

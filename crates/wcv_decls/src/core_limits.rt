@@ -7,8 +7,8 @@ ghost use Rattle.wcv_lower.specs.Checks.{IsFree, full, each_too_long};
 ghost use Rattle.wcv_lower.specs.Context.{core_modules};
 ghost use Rattle.wcv_lower.specs.CoreInstances.{arg_names, listed_names, core_instance_left};
 ghost use Rattle.wcv_lower.specs.CoreItems.{core_type_left, core_module_left};
-ghost use Rattle.wcv_state.specs.Contents.{context_of};
-ghost use Rattle.wcv_state.specs.Promises.{MemoryOrCausedBy};
+ghost use Rattle.wcv_spaces.specs.Contents.{context_of};
+ghost use Rattle.wcv_spaces.specs.Promises.{MemoryOrCausedBy};
 
 use crate::limits::check_count;
 use crate::name_texts::check_text;

@@ -14,8 +14,8 @@ ghost use Rattle.wcv_lower.specs.Checks.{IsFree};
 ghost use Rattle.wcv_lower.specs.Context.{core_modules};
 ghost use Rattle.wcv_lower.specs.CoreItems.{core_module_made};
 ghost use Rattle.wcv_lower.specs.Trees.{Tree_context};
-ghost use Rattle.wcv_state.specs.Contents.{stack_of, StateStands, spent};
-ghost use Rattle.wcv_state.specs.Promises.{MemoryOrCausedBy, Keeps, Grew, Refuses};
+ghost use Rattle.wcv_spaces.specs.Contents.{stack_of, StateStands, spent};
+ghost use Rattle.wcv_spaces.specs.Promises.{MemoryOrCausedBy, Keeps, Grew, Refuses};
 ghost use Rattle.wcv_decls.specs.CoreItems.{StoredModule, JoinedModule, JoinsWith, JoinsMade, core_space, with_module};
 
 use wcv_core::{Error, ErrorKind, OutOfMemory};

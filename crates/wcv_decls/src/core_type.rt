@@ -12,8 +12,8 @@ ghost use Rattle.wcv_types.specs.Standing.{Extends, entity_sizes};
 ghost use Rattle.wcv_lower.specs.Growth.{call_checks};
 ghost use Rattle.wcv_lower.specs.Names.{Names};
 ghost use Rattle.wcv_lower.specs.Trees.{Tree_context, tree_maker};
-ghost use Rattle.wcv_state.specs.Contents.{Contents, stack_of, StateStands};
-ghost use Rattle.wcv_state.specs.Promises.{MemoryOrCausedBy, Keeps, Grew};
+ghost use Rattle.wcv_spaces.specs.Contents.{Contents, stack_of, StateStands};
+ghost use Rattle.wcv_spaces.specs.Promises.{MemoryOrCausedBy, Keeps, Grew};
 ghost use Rattle.wcv_decls.specs.CoreItems.{JoinsCoreType, MadeIn, FreeIn, CausedIn};
 ghost use Rattle.wcv_decls.specs.Stack.{IsOpen, GrewOn, RefusedOn, KeepsOn};
 

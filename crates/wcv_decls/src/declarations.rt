@@ -5,9 +5,9 @@ ghost use Rattle.wcv_syntax.specs.Model.{core_type_decl, alias_decl, export_decl
 ghost use Rattle.wcv_syntax.specs.View.{core_type_view};
 ghost use Rattle.wcv_lower.specs.Owned.{IsLed};
 ghost use Rattle.wcv_lower.specs.Trees.{Tree_context};
-ghost use Rattle.wcv_state.specs.Contents.{context_of, StateStands};
-ghost use Rattle.wcv_state.specs.Instances.{MayOpen};
-ghost use Rattle.wcv_state.specs.Promises.{Keeps, ExportDeclared, ExportCaused};
+ghost use Rattle.wcv_spaces.specs.Contents.{context_of, StateStands};
+ghost use Rattle.wcv_instantiate.specs.Instances.{MayOpen};
+ghost use Rattle.wcv_spaces.specs.Promises.{Keeps, ExportDeclared, ExportCaused};
 ghost use Rattle.wcv_decls.specs.Declaring.{AreReady, StayReady, DeclaresInstance, MemoryOr, SameAround, ReadsDecl, RefusesDecl};
 ghost use Rattle.wcv_decls.specs.Stack.{KeepsOn};
 

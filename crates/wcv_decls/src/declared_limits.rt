@@ -6,7 +6,7 @@ ghost use Rattle.wcv_syntax.specs.View.{type_view, component_decl_view, instance
 ghost use Rattle.wcv_lower.specs.Aliases.{alias_left};
 ghost use Rattle.wcv_lower.specs.Checks.{IsFree, too_many};
 ghost use Rattle.wcv_lower.specs.Declared.{declared_left, decl_left};
-ghost use Rattle.wcv_state.specs.Promises.{MemoryOrCausedBy};
+ghost use Rattle.wcv_spaces.specs.Promises.{MemoryOrCausedBy};
 
 use crate::core_limits::check_core_limits;
 use crate::limits::{check_count, check_limits};

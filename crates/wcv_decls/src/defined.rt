@@ -5,8 +5,8 @@ ghost use Rattle.wcv_syntax.specs.View.{defined_view};
 ghost use Rattle.wcv_syntax.specs.declared.component_type.ComponentDefinedType.TheVariants as written;
 ghost use Rattle.wcv_lower.specs.Checks.{IsFree};
 ghost use Rattle.wcv_lower.specs.Defined.{handle_index};
-ghost use Rattle.wcv_state.specs.Contents.{context_of, StateStands};
-ghost use Rattle.wcv_state.specs.Promises.{MemoryOrCausedBy};
+ghost use Rattle.wcv_spaces.specs.Contents.{context_of, StateStands};
+ghost use Rattle.wcv_spaces.specs.Promises.{MemoryOrCausedBy};
 ghost use Rattle.wcv_decls.specs.Resolved.{IsShape, IsValueShape, holds_no_list, resolve_checks};
 
 use crate::content::{check_borrow, check_element, check_key, check_map_value};

@@ -3,8 +3,9 @@ ghost use Rattle.std.specs.Prelude.{◌≡◌, true, false, OnOk, IfErr};
 ghost use Rattle.wcv_syntax.specs.View.{defined_view};
 ghost use Rattle.wcv_lower.specs.Checks.{IsFree};
 ghost use Rattle.wcv_lower.specs.Defined.{feature_checks};
-ghost use Rattle.wcv_lower.specs.Values.{has_feature, lacks, cm64, cm_async, cm_map, cm_fixed_length_lists, primitive_checks};
-ghost use Rattle.wcv_state.specs.Promises.{MemoryOrCausedBy};
+ghost use Rattle.wcv_core.specs.Features.{cm64, cm_async, cm_map, cm_fixed_length_lists};
+ghost use Rattle.wcv_lower.specs.Values.{has_feature, lacks, primitive_checks};
+ghost use Rattle.wcv_spaces.specs.Promises.{MemoryOrCausedBy};
 
 use bitflags::Flags;
 use wcv_core::{Refusal, WasmFeatures};
@@ -22,7 +23,7 @@ pub fn check_async(
 {
     check_feature(
         features.contains(WasmFeatures::CM_ASYNC),
-        "cm-async",
+        WasmFeatures::CM_ASYNC,
         needed_by,
         offset,
     )
@@ -35,7 +36,7 @@ pub fn check_cm64(features: &WasmFeatures, offset: u64) -> Result<(), Refusal<'s
 {
     check_feature(
         features.contains(WasmFeatures::CM64),
-        "cm64",
+        WasmFeatures::CM64,
         "a resource that `i64` represents",
         offset,
     )
@@ -56,13 +57,13 @@ pub fn check_features(
         }
         ComponentDefinedType::Map(_, _) => check_feature(
             features.contains(WasmFeatures::CM_MAP),
-            "cm-map",
+            WasmFeatures::CM_MAP,
             "a map",
             offset,
         ),
         ComponentDefinedType::FixedLengthList(_, _) => check_feature(
             features.contains(WasmFeatures::CM_FIXED_LENGTH_LISTS),
-            "cm-fixed-length-lists",
+            WasmFeatures::CM_FIXED_LENGTH_LISTS,
             "a list of a fixed length",
             offset,
         ),

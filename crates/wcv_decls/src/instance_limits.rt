@@ -5,7 +5,7 @@ ghost use Rattle.wcv_syntax.specs.View.{instance_view};
 ghost use Rattle.wcv_lower.specs.Checks.{IsFree, each_too_long, texts_of};
 ghost use Rattle.wcv_lower.specs.Entries.{extern_name};
 ghost use Rattle.wcv_lower.specs.Instances.{argument_names, instance_left};
-ghost use Rattle.wcv_state.specs.Promises.{MemoryOrCausedBy};
+ghost use Rattle.wcv_spaces.specs.Promises.{MemoryOrCausedBy};
 
 use crate::limits::check_count;
 use crate::name_texts::{check_name, check_text};

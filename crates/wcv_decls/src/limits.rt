@@ -4,8 +4,8 @@ ghost use Rattle.wcv_syntax.specs.View.{defined_view, func_view, type_view};
 ghost use Rattle.wcv_lower.specs.Checks.{IsFree, too_long, too_many, each_too_long};
 ghost use Rattle.wcv_lower.specs.Defined.{defined_left};
 ghost use Rattle.wcv_lower.specs.Types.{func_left, type_left};
-ghost use Rattle.wcv_state.specs.NameLists.{list_names};
-ghost use Rattle.wcv_state.specs.Promises.{MemoryOrCausedBy};
+ghost use Rattle.wcv_spaces.specs.NameLists.{list_names};
+ghost use Rattle.wcv_spaces.specs.Promises.{MemoryOrCausedBy};
 
 use wcv_core::limits::{MAX_LIST, MAX_PARAMS, MAX_TEXT};
 use wcv_core::{Error, ErrorKind, Refusal, Text, Why};

@@ -2,8 +2,8 @@
 ghost use Rattle.std.specs.Prelude.{◌≡◌, map, OnOk, IfOk, IfErr};
 ghost use Rattle.wcv_lower.specs.Checks.{IsFree};
 ghost use Rattle.wcv_lower.specs.Values.{parts_checks};
-ghost use Rattle.wcv_state.specs.Contents.{context_of, StateStands};
-ghost use Rattle.wcv_state.specs.Promises.{MemoryOrCausedBy};
+ghost use Rattle.wcv_spaces.specs.Contents.{context_of, StateStands};
+ghost use Rattle.wcv_spaces.specs.Promises.{MemoryOrCausedBy};
 ghost use Rattle.wcv_types.specs.Unfold.{value_slots};
 ghost use Rattle.wcv_decls.specs.Resolved.{AreSlots, written_field, field_part, written_case, case_part, written_item, item_part};
 

@@ -2,7 +2,7 @@
 ghost use Rattle.std.specs.Prelude.{OnOk, IfErr, option_to_list};
 ghost use Rattle.wcv_lower.specs.Checks.{IsFree, texts_of, too_long, each_too_long};
 ghost use Rattle.wcv_lower.specs.Entries.{extern_name};
-ghost use Rattle.wcv_state.specs.Promises.{MemoryOrCausedBy};
+ghost use Rattle.wcv_spaces.specs.Promises.{MemoryOrCausedBy};
 
 use wcv_core::limits::MAX_TEXT;
 use wcv_core::{Error, ErrorKind, Refusal, Text, Why};

@@ -3,8 +3,8 @@ ghost use Rattle.std.specs.Prelude.{OnOk, IfErr};
 ghost use Rattle.wcv_syntax.specs.View.{defined_view};
 ghost use Rattle.wcv_lower.specs.Checks.{IsFree, label_checks};
 ghost use Rattle.wcv_lower.specs.Defined.{names_in};
-ghost use Rattle.wcv_state.specs.NameLists.{list_names};
-ghost use Rattle.wcv_state.specs.Promises.{MemoryOrCausedBy};
+ghost use Rattle.wcv_spaces.specs.NameLists.{list_names};
+ghost use Rattle.wcv_spaces.specs.Promises.{MemoryOrCausedBy};
 
 use crate::alike::are_seen_to_differ;
 use std::alloc::Global;

@@ -5,8 +5,8 @@ ghost use Rattle.wcv_core.specs.Limits.{max_open};
 ghost use Rattle.wcv_lower.specs.Checks.{IsFree, no_type_room, too_many};
 ghost use Rattle.wcv_lower.specs.Context.{counts};
 ghost use Rattle.wcv_lower.specs.Declared.{full_stack};
-ghost use Rattle.wcv_state.specs.Contents.{kind_of};
-ghost use Rattle.wcv_state.specs.Promises.{MemoryOrCausedBy};
+ghost use Rattle.wcv_spaces.specs.Contents.{kind_of};
+ghost use Rattle.wcv_spaces.specs.Promises.{MemoryOrCausedBy};
 ghost use Rattle.wcv_decls.specs.Declaring.{stack_in, top_in, AreReady, Opened};
 
 use crate::core_type::innermost;

@@ -10,8 +10,8 @@ ghost use Rattle.wcv_lower.specs.Context.{is_concrete};
 ghost use Rattle.wcv_lower.specs.Names.{Names};
 ghost use Rattle.wcv_lower.specs.Trees.{Tree_context, tree_maker};
 ghost use Rattle.wcv_lower.specs.Types.{form_takes_and_gives, takes_and_gives, rep_checks, dtor_checks, tree_checks};
-ghost use Rattle.wcv_state.specs.Contents.{kind_of, stack_of, StateStands};
-ghost use Rattle.wcv_state.specs.Promises.{MemoryOrCausedBy, Keeps};
+ghost use Rattle.wcv_spaces.specs.Contents.{kind_of, stack_of, StateStands};
+ghost use Rattle.wcv_spaces.specs.Promises.{MemoryOrCausedBy, Keeps};
 ghost use Rattle.wcv_decls.specs.Items.{Declares};
 
 use crate::features::check_cm64;

@@ -3,8 +3,8 @@ ghost use Rattle.std.specs.Prelude.{OnOk, IfErr};
 ghost use Rattle.wcv_types.specs.Tree.{is_component};
 ghost use Rattle.wcv_lower.specs.Checks.{IsFree, no_room, no_type_room, no_core_type_room};
 ghost use Rattle.wcv_lower.specs.Context.{counts};
-ghost use Rattle.wcv_state.specs.Contents.{context_of};
-ghost use Rattle.wcv_state.specs.Promises.{MemoryOrCausedBy};
+ghost use Rattle.wcv_spaces.specs.Contents.{context_of};
+ghost use Rattle.wcv_spaces.specs.Promises.{MemoryOrCausedBy};
 
 use wcv_core::limits::{MAX_ENTRIES, MAX_INSTANCES};
 use wcv_core::{Error, ErrorKind, Refusal, Why};

@@ -5,7 +5,7 @@ ghost use Rattle.wcv_syntax.specs.Model.{flags_of};
 ghost use Rattle.wcv_syntax.specs.View.{defined_view};
 ghost use Rattle.wcv_lower.specs.Checks.{IsFree, too_many};
 ghost use Rattle.wcv_lower.specs.Defined.{no_entry, shape_checks};
-ghost use Rattle.wcv_state.specs.Promises.{MemoryOrCausedBy};
+ghost use Rattle.wcv_spaces.specs.Promises.{MemoryOrCausedBy};
 
 use wcv_core::limits::MAX_ELEMENTS;
 use wcv_core::{Error, ErrorKind, Refusal, Text, Why};

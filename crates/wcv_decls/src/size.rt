@@ -2,7 +2,7 @@
 ghost use Rattle.std.specs.Prelude.{◌≡◌, OnOk, IfErr};
 ghost use Rattle.wcv_core.specs.Refusal.{error_kind, error_offset};
 ghost use Rattle.wcv_lower.specs.Checks.{IsFree};
-ghost use Rattle.wcv_state.specs.Promises.{MemoryOrCausedBy};
+ghost use Rattle.wcv_spaces.specs.Promises.{MemoryOrCausedBy};
 ghost use Rattle.wcv_decls.specs.Resolved.{kept_checks};
 
 use wcv_core::limits::{MAX_ABI_SIZE, MAX_DEPTH, MAX_SIZE};

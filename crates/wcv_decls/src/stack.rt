@@ -10,7 +10,7 @@ ghost use Rattle.wcv_syntax.specs.View.{type_view, core_type_view};
 ghost use Rattle.wcv_types.specs.Standing.{entity_sizes};
 ghost use Rattle.wcv_lower.specs.Checks.{IsFree};
 ghost use Rattle.wcv_lower.specs.Context.{core_modules};
-ghost use Rattle.wcv_state.specs.Promises.{MemoryOrCausedBy, Keeps};
+ghost use Rattle.wcv_spaces.specs.Promises.{MemoryOrCausedBy, Keeps};
 ghost use Rattle.wcv_decls.specs.CoreItems.{JoinedModule, JoinsWith, JoinsCoreType};
 ghost use Rattle.wcv_decls.specs.Stack.{IsOpen, AreCalm, DeclaresOn, RefusesOn, GrewOn, RefusedOn, KeepsOn};
 
@@ -25,7 +25,7 @@ use wcv_types::TypeAlloc;
 
 /// A state to which items that declare something are added. Those that are open around it stand before it.
 pub trait Declare: Sized {
-    ghost use Rattle.wcv_state.specs.Contents.{Contents};
+    ghost use Rattle.wcv_spaces.specs.Contents.{Contents};
 
     /// What the state holds.
     ghost contents: { Self → Contents };
@@ -82,7 +82,7 @@ pub trait Declare: Sized {
 }
 
 impl Declare for ComponentState {
-    ghost use Rattle.wcv_state.specs.Contents.{Contents};
+    ghost use Rattle.wcv_spaces.specs.Contents.{Contents};
 
     ghost contents = { λ s. s };
 

@@ -7,8 +7,8 @@ ghost use Rattle.wcv_lower.specs.Checks.{IsFree};
 ghost use Rattle.wcv_lower.specs.Context.{in_types};
 ghost use Rattle.wcv_lower.specs.Defined.{size_checks};
 ghost use Rattle.wcv_lower.specs.Trees.{tree_reader};
-ghost use Rattle.wcv_state.specs.Contents.{StateStands};
-ghost use Rattle.wcv_state.specs.Promises.{MemoryOrCausedBy, Keeps};
+ghost use Rattle.wcv_spaces.specs.Contents.{StateStands};
+ghost use Rattle.wcv_spaces.specs.Promises.{MemoryOrCausedBy, Keeps};
 ghost use Rattle.wcv_decls.specs.Items.{Stored};
 
 use crate::size::check_size;

@@ -2,8 +2,8 @@
 ghost use Rattle.std.specs.Prelude.{OnOk, IfErr};
 ghost use Rattle.wcv_lower.specs.Checks.{IsFree};
 ghost use Rattle.wcv_lower.specs.Marks.{unused_checks};
-ghost use Rattle.wcv_state.specs.Contents.{context_of};
-ghost use Rattle.wcv_state.specs.Promises.{MemoryOrCausedBy};
+ghost use Rattle.wcv_spaces.specs.Contents.{context_of};
+ghost use Rattle.wcv_spaces.specs.Promises.{MemoryOrCausedBy};
 
 use wcv_core::{Error, ErrorKind, Refusal, Why};
 use wcv_state::ComponentState;

@@ -2,8 +2,8 @@
 ghost use Rattle.std.specs.Prelude.{◌≡◌, Some, OnOk, IfOk, IfErr};
 ghost use Rattle.wcv_lower.specs.Checks.{IsFree};
 ghost use Rattle.wcv_lower.specs.Values.{option_checks};
-ghost use Rattle.wcv_state.specs.Contents.{context_of, StateStands};
-ghost use Rattle.wcv_state.specs.Promises.{MemoryOrCausedBy};
+ghost use Rattle.wcv_spaces.specs.Contents.{context_of, StateStands};
+ghost use Rattle.wcv_spaces.specs.Promises.{MemoryOrCausedBy};
 ghost use Rattle.wcv_decls.specs.Resolved.{IsOption};
 
 use wcv_core::Refusal;

@@ -51,12 +51,12 @@ use Rattle.wcv_lower.specs.Readers.{Maker, New_node, core_exports_node}
 use Rattle.wcv_lower.specs.Step.{Step, apply}
 use Rattle.wcv_lower.specs.Trees.{Tree_context, tree_reader, tree_maker, node_tree}
 use Rattle.wcv_types.specs.Tree.{is_instance}
-use Rattle.wcv_state.specs.Contents.{Contents, core_tree, context_of, stack_of, with_core, StateStands}
-use Rattle.wcv_state.specs.Looking.{core_item_in}
-use Rattle.wcv_state.specs.Promises.{MemoryOrCausedBy, Grew, Refuses}
-use Rattle.wcv_state.proofs.Calls.{caused_more}
-use Rattle.wcv_state.proofs.CoreItems.{item_tree, item_here, item_within, missing_mapped}
-use Rattle.wcv_state.proofs.Found.{core_same, core_stands_at}
+use Rattle.wcv_spaces.specs.Contents.{Contents, core_tree, context_of, stack_of, with_core, StateStands}
+use Rattle.wcv_spaces.specs.Looking.{core_item_in}
+use Rattle.wcv_spaces.specs.Promises.{MemoryOrCausedBy, Grew, Refuses}
+use Rattle.wcv_spaces.proofs.Calls.{caused_more}
+use Rattle.wcv_spaces.proofs.CoreItems.{item_tree, item_here, item_within, missing_mapped}
+use Rattle.wcv_spaces.proofs.Found.{core_same, core_stands_at}
 use Rattle.wcv_state.proofs.Stacks.{none_made}
 use Rattle.wcv_decls.specs.CoreItems.{JoinedCore}
 use Rattle.wcv_decls.proofs.CoreModules.{joined_as}

@@ -31,7 +31,7 @@ use Rattle.wcv_matching.specs.Refusals.{MemoryOrMismatch}
 use Rattle.wcv_matching.specs.TableMatching.{CoreWithin, Opens}
 use Rattle.wcv_matching.proofs.AtomTests.{seen-decides}
 use Rattle.wcv_matching.proofs.PassByIds.{opening-by_ids}
-use Rattle.wcv_subtype.proofs.EntityLaws.{entity_orderly, entity_within}
+use Rattle.wcv_atoms.proofs.EntityLaws.{entity_orderly, entity_within}
 use Rattle.wcv_subtype.specs.Openings.{named_args, ArgumentStands}
 use Rattle.wcv_lower.specs.Checks.{if_found, is_none, missing, has_repeat, no_room}
 use Rattle.wcv_lower.specs.Context.{in_components, counts}
@@ -41,13 +41,13 @@ use Rattle.wcv_lower.specs.Instances.{argument_at, argument_names, argument_chec
 use Rattle.wcv_lower.specs.Readers.{Brought}
 use Rattle.wcv_lower.specs.Trees.{Tree_context, tree_maker, tree_reader}
 use Rattle.wcv_lower.specs.Values.{kind_checks}
-use Rattle.wcv_state.specs.Contents.{Contents, context_of, id_tree, stack_of, StateStands}
-use Rattle.wcv_state.specs.Instantiations.{ComponentInstanceMade, MayInstantiate, brought_of}
-use Rattle.wcv_state.specs.Promises.{MemoryOrCausedBy}
-use Rattle.wcv_state.specs.declared.instances.NewInstance.{NewInstance}
-use Rattle.wcv_state.proofs.Ascribed.{mismatch_caused}
-use Rattle.wcv_state.proofs.Calls.{caused_more}
-use Rattle.wcv_state.proofs.Found.{get_same, stands_at}
+use Rattle.wcv_spaces.specs.Contents.{Contents, context_of, id_tree, stack_of, StateStands}
+use Rattle.wcv_instantiate.specs.Instantiations.{ComponentInstanceMade, MayInstantiate, brought_of}
+use Rattle.wcv_spaces.specs.Promises.{MemoryOrCausedBy}
+use Rattle.wcv_instantiate.specs.declared.instances.NewInstance.{NewInstance}
+use Rattle.wcv_instantiate.proofs.Ascribed.{mismatch_caused}
+use Rattle.wcv_spaces.proofs.Calls.{caused_more}
+use Rattle.wcv_spaces.proofs.Found.{get_same, stands_at}
 use Rattle.wcv_state.proofs.ItemsAt.{item_stands, item_there, items_missing}
 use Rattle.wcv_state.proofs.Stacks.{none_made}
 use Rattle.wcv_instances.proofs.CoreInstances.{same_names}

@@ -39,14 +39,14 @@ use Rattle.wcv_lower.specs.Trees.{Entries, tree_maker, tree_reader}
 use Rattle.wcv_lower.specs.Values.{kind_checks}
 use Rattle.wcv_lower.proofs.ComponentInstanceLaws.{bag_there}
 use Rattle.wcv_lower.proofs.NewNames.{trees_tell}
-use Rattle.wcv_state.specs.Contents.{Contents, context_of, StateStands}
-use Rattle.wcv_state.specs.Instantiations.{brought_of}
-use Rattle.wcv_state.specs.Looking.{item_id, item_id_checks}
-use Rattle.wcv_state.specs.Opening.{InstancePushed, Paths}
-use Rattle.wcv_state.specs.Promises.{MemoryOrCausedBy}
-use Rattle.wcv_state.specs.declared.instances.NewInstance.{NewInstance}
-use Rattle.wcv_state.proofs.Calls.{caused_more}
-use Rattle.wcv_state.proofs.Given.{node_given, node_name, node_names}
+use Rattle.wcv_spaces.specs.Contents.{Contents, context_of, StateStands}
+use Rattle.wcv_instantiate.specs.Instantiations.{brought_of}
+use Rattle.wcv_spaces.specs.Looking.{item_id, item_id_checks}
+use Rattle.wcv_instantiate.specs.Opening.{InstancePushed, Paths}
+use Rattle.wcv_spaces.specs.Promises.{MemoryOrCausedBy}
+use Rattle.wcv_instantiate.specs.declared.instances.NewInstance.{NewInstance}
+use Rattle.wcv_spaces.proofs.Calls.{caused_more}
+use Rattle.wcv_spaces.proofs.Given.{node_given, node_name, node_names}
 use Rattle.wcv_state.proofs.ItemsAt.{item_stands, item_there, items_missing, items_same}
 use Rattle.wcv_state.proofs.Stacks.{none_made}
 use Rattle.wcv_instances.specs.ComponentInstances.{as_entries, item_checks, lending_checks, list_checks, size_checks, CausedInstance, IsListed, MadeInstance}

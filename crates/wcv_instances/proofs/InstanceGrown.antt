@@ -25,17 +25,18 @@ use Rattle.wcv_lower.specs.Step.{Step, apply}
 use Rattle.wcv_lower.specs.Trees.{Tree_context, Tree_stack, tree_maker, tree_reader}
 use Rattle.wcv_lower.specs.Values.{kind_checks}
 use Rattle.wcv_lower.proofs.MarkLaws.{apply-append}
-use Rattle.wcv_state.specs.Bringing.{AreNewIn}
-use Rattle.wcv_state.specs.Contents.{Contents, context_of, spent, stack_of, with_uses, StateStands}
-use Rattle.wcv_state.specs.Instantiations.{InstanceJoined, brought_of}
-use Rattle.wcv_state.specs.Promises.{Grew, Keeps, MemoryOrCausedBy, Refuses}
-use Rattle.wcv_state.specs.Values.{use_id_checks, uses_id_checks}
-use Rattle.wcv_state.specs.declared.instances.NewInstance.{NewInstance}
-use Rattle.wcv_state.proofs.Calls.{caused_more}
+use Rattle.wcv_spaces.specs.Bringing.{AreNewIn}
+use Rattle.wcv_spaces.specs.Contents.{Contents, context_of, spent, stack_of, with_uses, StateStands}
+use Rattle.wcv_state.specs.Joining.{InstanceJoined}
+use Rattle.wcv_instantiate.specs.Instantiations.{brought_of}
+use Rattle.wcv_spaces.specs.Promises.{Grew, Keeps, MemoryOrCausedBy, Refuses}
+use Rattle.wcv_spaces.specs.Values.{use_id_checks, uses_id_checks}
+use Rattle.wcv_instantiate.specs.declared.instances.NewInstance.{NewInstance}
+use Rattle.wcv_spaces.proofs.Calls.{caused_more}
 use Rattle.wcv_state.proofs.ItemCalls.{later_new}
 use Rattle.wcv_state.proofs.ItemsAt.{items_missing}
-use Rattle.wcv_state.proofs.Keeping.{keeps_grown, keeps_marked, keeps_trans, same_context, state_stands}
-use Rattle.wcv_state.proofs.UsedValues.{keeps_uses, use_checks_same, uses_stack, uses_stand}
+use Rattle.wcv_spaces.proofs.Keeping.{keeps_grown, keeps_marked, keeps_trans, same_context, state_stands}
+use Rattle.wcv_spaces.proofs.UsedValues.{keeps_uses, use_checks_same, uses_stack, uses_stand}
 use Rattle.wcv_state.proofs.Stacks.{none_made}
 use Rattle.wcv_instances.specs.ComponentInstances.{CausedInstance, MadeInstance}
 

@@ -6,8 +6,8 @@ use Rattle.wcv_syntax.specs.declared.instance.ComponentExternalKind.{ComponentEx
 use Rattle.wcv_syntax.specs.declared.instance.ComponentExternalKind.TheVariants as kind
 use Rattle.wcv_types.specs.declared.shapes.ComponentEntityType.{ComponentEntityType}
 use Rattle.wcv_types.specs.declared.shapes.ComponentEntityType.TheVariants as entity
-use Rattle.wcv_state.specs.Contents.{SpaceLists}
-use Rattle.wcv_state.specs.Looking.{item_id, item_id_checks}
+use Rattle.wcv_spaces.specs.Contents.{SpaceLists}
+use Rattle.wcv_spaces.specs.Looking.{item_id, item_id_checks}
 
 there : {I : Type 0} (to : I → ComponentEntityType) (o : Option I) (x : ComponentEntityType) → option_map to o ≡ Some x → IsFree (missing o)
 there to None x e = cc

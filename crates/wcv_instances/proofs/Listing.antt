@@ -33,9 +33,9 @@ use Rattle.wcv_lower.specs.EntryNames.{bare_name_checks}
 use Rattle.wcv_lower.specs.Entries.{extern_name}
 use Rattle.wcv_lower.specs.Instances.{names_checks}
 use Rattle.wcv_lower.specs.Trees.{Entries, tree_reader}
-use Rattle.wcv_state.specs.Promises.{MemoryOrCausedBy}
-use Rattle.wcv_state.proofs.Calls.{caused_more}
-use Rattle.wcv_state.proofs.NamesApart.{joined_apart, may_join}
+use Rattle.wcv_spaces.specs.Promises.{MemoryOrCausedBy}
+use Rattle.wcv_spaces.proofs.Calls.{caused_more}
+use Rattle.wcv_spaces.proofs.NamesApart.{joined_apart, may_join}
 use Rattle.wcv_instances.proofs.FromItems.{Found, entries_stand}
 use Rattle.wcv_instances.specs.ComponentInstances.{as_entries, list_checks, size_checks}
 

@@ -7,7 +7,7 @@ use Rattle.wcv_core.specs.Refusal.{error_kind}
 use Rattle.wcv_core.specs.declared.error.Error.{Error}
 use Rattle.wcv_core.specs.declared.error.ErrorKind.{ErrorKind}
 use Rattle.wcv_core.proofs.Causes.{cause_left, cause_right, free_both, free_left, free_right}
-use Rattle.wcv_state.proofs.Calls.{caused_more}
+use Rattle.wcv_spaces.proofs.Calls.{caused_more}
 
 module _ {A : Type 0} (checks : A → Checks) where
   -- a cause of one is a cause of all

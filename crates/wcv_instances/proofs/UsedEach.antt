@@ -8,9 +8,9 @@ use Rattle.wcv_syntax.specs.declared.instance.ComponentInstantiationArg.{Compone
 use Rattle.wcv_syntax.specs.declared.name.ComponentExport.{ComponentExport}
 use Rattle.wcv_lower.specs.Instances.{argument_values, listed_values}
 use Rattle.wcv_lower.specs.Marks.{value_index}
-use Rattle.wcv_state.specs.Contents.{Contents, with_uses}
-use Rattle.wcv_state.specs.Values.{Values, uses_id_checks}
-use Rattle.wcv_state.proofs.Uses.{uses_both, uses_free, uses_first, uses_then}
+use Rattle.wcv_spaces.specs.Contents.{Contents, with_uses}
+use Rattle.wcv_spaces.specs.Values.{Values, uses_id_checks}
+use Rattle.wcv_spaces.proofs.Uses.{uses_both, uses_free, uses_first, uses_then}
 
 -- ## One after another
 

@@ -27,11 +27,11 @@ use Rattle.wcv_lower.specs.Instances.{arguments, borrow_checks, component_at, in
 use Rattle.wcv_lower.specs.Names.{Under}
 use Rattle.wcv_lower.specs.Trees.{Entries, Tree_context, tree_maker, tree_reader}
 use Rattle.wcv_lower.specs.Values.{kind_checks}
-use Rattle.wcv_state.specs.Contents.{Contents, SpaceLists, context_of, stack_of}
-use Rattle.wcv_state.specs.Instantiations.{MayInstantiate, brought_of}
-use Rattle.wcv_state.specs.Looking.{item_id, item_id_checks}
-use Rattle.wcv_state.specs.Promises.{MemoryOrCausedBy, numbers_of}
-use Rattle.wcv_state.specs.declared.instances.NewInstance.{NewInstance}
+use Rattle.wcv_spaces.specs.Contents.{Contents, SpaceLists, context_of, stack_of}
+use Rattle.wcv_instantiate.specs.Instantiations.{MayInstantiate, brought_of}
+use Rattle.wcv_spaces.specs.Looking.{item_id, item_id_checks}
+use Rattle.wcv_spaces.specs.Promises.{MemoryOrCausedBy, numbers_of}
+use Rattle.wcv_instantiate.specs.declared.instances.NewInstance.{NewInstance}
 
 -- ## What is looked up
 

@@ -22,9 +22,9 @@ use Rattle.wcv_lower.specs.Checks.{Checks, IsFree, missing}
 use Rattle.wcv_lower.specs.CoreInstances.{all_served, sort_needs, core_instance_made, core_instance_checks}
 use Rattle.wcv_lower.specs.Readers.{New_node}
 use Rattle.wcv_lower.specs.Trees.{Tree_context, tree_reader, node_tree}
-use Rattle.wcv_state.specs.Contents.{Contents, SpaceLists, stack_of}
-use Rattle.wcv_state.specs.Looking.{core_item_in}
-use Rattle.wcv_state.specs.Promises.{MemoryOrCausedBy}
+use Rattle.wcv_spaces.specs.Contents.{Contents, SpaceLists, stack_of}
+use Rattle.wcv_spaces.specs.Looking.{core_item_in}
+use Rattle.wcv_spaces.specs.Promises.{MemoryOrCausedBy}
 
 -- ## What is looked up
 

@@ -16,13 +16,13 @@ ghost use Rattle.wcv_lower.specs.Checks.{IsFree, has_repeat, too_many};
 ghost use Rattle.wcv_lower.specs.Instances as rules;
 ghost use Rattle.wcv_lower.specs.Marks.{value_index};
 ghost use Rattle.wcv_lower.specs.Trees.{Tree_context};
-ghost use Rattle.wcv_state.specs.Bringing.{AreNewIn};
-ghost use Rattle.wcv_state.specs.Contents.{spent, with_uses, StateStands};
-ghost use Rattle.wcv_state.specs.Instantiations.{InstanceJoined};
-ghost use Rattle.wcv_state.specs.Looking.{item_id};
-ghost use Rattle.wcv_state.specs.Promises.{CausedBy, MemoryOrCausedBy, Grew, Keeps, Refuses};
+ghost use Rattle.wcv_spaces.specs.Bringing.{AreNewIn};
+ghost use Rattle.wcv_spaces.specs.Contents.{spent, with_uses, StateStands};
+ghost use Rattle.wcv_state.specs.Joining.{InstanceJoined};
+ghost use Rattle.wcv_spaces.specs.Looking.{item_id};
+ghost use Rattle.wcv_spaces.specs.Promises.{CausedBy, MemoryOrCausedBy, Grew, Keeps, Refuses};
 ghost use Rattle.wcv_state.specs.Stack.{IsOpen};
-ghost use Rattle.wcv_state.specs.Values.{uses_id_checks};
+ghost use Rattle.wcv_spaces.specs.Values.{uses_id_checks};
 ghost use Rattle.wcv_instances.specs.ComponentInstances.{arg_checks, as_entries, item_checks, lending_checks, list_checks, size_checks, CausedInstance, IsArg, IsListed, ItemMayInstantiate, MadeInstance};
 
 use crate::core_instances::{check_differ, check_room};
@@ -172,7 +172,7 @@ fn of_component(
 }
 
 /// Whether an instance may list the entity: no borrowed handle may stand in a value.
-#[tactic(auto, using(wcv_state::proofs::Lending::lends_value, wcv_state::proofs::Lending::lends_none))]
+#[tactic(auto, using(wcv_spaces::proofs::Lending::lends_value, wcv_spaces::proofs::Lending::lends_none))]
 fn check_lending(
     ty: &ComponentEntityType,
     types: &TypeAlloc,

@@ -4,7 +4,7 @@ ghost use Rattle.wcv_core.specs.Names.{Place};
 ghost use Rattle.wcv_syntax.specs.Model.{core_instance_item, instance_item};
 ghost use Rattle.wcv_syntax.specs.View.{core_instance_view, instance_view};
 ghost use Rattle.wcv_lower.specs.Trees.{Tree_context};
-ghost use Rattle.wcv_state.specs.Promises.{Keeps, Grew, Refuses};
+ghost use Rattle.wcv_spaces.specs.Promises.{Keeps, Grew, Refuses};
 ghost use Rattle.wcv_state.specs.Stack.{IsOpen};
 ghost use Rattle.wcv_instances.specs.ComponentInstances.{ItemMayInstantiate};
 
@@ -17,7 +17,7 @@ use wcv_types::TypeAlloc;
 
 /// A state to which instances are added.
 pub trait Instances: Sized {
-    ghost use Rattle.wcv_state.specs.Contents.{Contents};
+    ghost use Rattle.wcv_spaces.specs.Contents.{Contents};
 
     /// What the state holds.
     ghost contents: { Self → Contents };
@@ -62,7 +62,7 @@ pub trait Instances: Sized {
 }
 
 impl Instances for ComponentState {
-    ghost use Rattle.wcv_state.specs.Contents.{Contents};
+    ghost use Rattle.wcv_spaces.specs.Contents.{Contents};
 
     ghost contents = { λ s. s };
 

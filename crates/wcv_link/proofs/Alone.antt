@@ -18,10 +18,10 @@ use Rattle.wcv_lower.specs.Marks.{unused_checks}
 use Rattle.wcv_lower.specs.Owned.{IsCalm}
 use Rattle.wcv_lower.specs.Trees.{Tree_stack}
 use Rattle.wcv_lower.proofs.Calm.{calm_start}
-use Rattle.wcv_state.specs.Contents.{Contents, context_of, stack_of, empty_state, finished}
-use Rattle.wcv_state.specs.Promises.{MemoryOrCausedBy, numbers_of, Finished}
-use Rattle.wcv_state.specs.declared.kind.ComponentKind.TheVariants.{Component}
-use Rattle.wcv_state.proofs.Keeping.{empty_stands}
+use Rattle.wcv_spaces.specs.Contents.{Contents, context_of, stack_of, empty_state, finished}
+use Rattle.wcv_spaces.specs.Promises.{MemoryOrCausedBy, numbers_of, Finished}
+use Rattle.wcv_spaces.specs.declared.kind.ComponentKind.TheVariants.{Component}
+use Rattle.wcv_spaces.proofs.Keeping.{empty_stands}
 use Rattle.wcv_decls.specs.Declaring.{innermost, around, features_in, stack_in}
 use Rattle.wcv_decls.specs.Stack.{IsOpen, all_uncharged, stack_on}
 use Rattle.wcv_decls.proofs.InnermostStates.{parted, calm_all}

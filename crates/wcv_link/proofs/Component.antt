@@ -19,8 +19,8 @@ use Rattle.wcv_lower.specs.Ending.{component_end_checks, type_at_end}
 use Rattle.wcv_lower.specs.Given.{names_of}
 use Rattle.wcv_lower.specs.Items.{component_checks}
 use Rattle.wcv_lower.specs.Trees.{Tree_stack, node_tree}
-use Rattle.wcv_state.specs.Contents.{Contents}
-use Rattle.wcv_state.specs.Promises.{MemoryOrCausedBy, numbers_of, Finished}
+use Rattle.wcv_spaces.specs.Contents.{Contents}
+use Rattle.wcv_spaces.specs.Promises.{MemoryOrCausedBy, numbers_of, Finished}
 use Rattle.wcv_decls.specs.Declaring.{innermost, around, features_in, stack_in, top_in, Opened, Ends}
 use Rattle.wcv_decls.specs.Stack.{all_uncharged, KeepsOn}
 use Rattle.wcv_decls.proofs.Opening.{opened_stack}

@@ -7,8 +7,8 @@ use Rattle.wcv_types.specs.Arena.{Arena}
 use Rattle.wcv_lower.specs.Checks.{IsFree}
 use Rattle.wcv_lower.specs.Growth.{is_plain, left_checks}
 use Rattle.wcv_lower.specs.Trees.{Tree_context}
-use Rattle.wcv_state.specs.Contents.{Contents, context_of}
-use Rattle.wcv_state.specs.Promises.{Grew, Keeps}
+use Rattle.wcv_spaces.specs.Contents.{Contents, context_of}
+use Rattle.wcv_spaces.specs.Promises.{Grew, Keeps}
 use Rattle.wcv_link.specs.Reached.{IsReached}
 use Rattle.wcv_link.proofs.Reaching.{reached_behind}
 use Rattle.wcv_link.proofs.Steps.{OneStep, one_step, item_taken}

@@ -13,8 +13,8 @@ use Rattle.wcv_types.proofs.Grown.{extends_refl, extends_trans}
 use Rattle.wcv_lower.specs.Given.{names_of, Numbers, AtMost}
 use Rattle.wcv_lower.specs.Names.{Names}
 use Rattle.wcv_lower.specs.Trees.{Tree_stack}
-use Rattle.wcv_state.specs.Contents.{Contents}
-use Rattle.wcv_state.specs.Promises.{numbers_of}
+use Rattle.wcv_spaces.specs.Contents.{Contents}
+use Rattle.wcv_spaces.specs.Promises.{numbers_of}
 use Rattle.wcv_decls.specs.Declaring.{features_in, stack_in}
 use Rattle.wcv_decls.proofs.ReadingOn.{most_same, most_both, grown_numbers}
 use Rattle.wcv_growth.specs.Nested.{Nested_types, nested_in}

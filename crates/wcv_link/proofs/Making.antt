@@ -3,7 +3,7 @@ use Rattle.std.proofs.Common.{ℕ, List}
 use Rattle.wcv_syntax.specs.Model.{instantiate, bag}
 use Rattle.wcv_syntax.specs.declared.instance.ComponentInstantiationArg.{ComponentInstantiationArg}
 use Rattle.wcv_types.specs.Arena.{Arena}
-use Rattle.wcv_state.specs.Contents.{Contents}
+use Rattle.wcv_spaces.specs.Contents.{Contents}
 use Rattle.wcv_decls.specs.Declaring.{features_in, innermost, stack_in}
 use Rattle.wcv_link.specs.Reached.{IsReached}
 use Rattle.wcv_growth.proofs.AsFar.{reached-tidy}

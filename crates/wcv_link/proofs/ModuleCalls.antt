@@ -22,8 +22,8 @@ use Rattle.wcv_lower.specs.Context.{core_modules}
 use Rattle.wcv_lower.specs.CoreItems.{core_module_made}
 use Rattle.wcv_lower.specs.Trees.{Tree_context, Tree_stack}
 use Rattle.wcv_lower.proofs.ModulesMade.{made_same}
-use Rattle.wcv_state.specs.Contents.{Contents, StateStands}
-use Rattle.wcv_state.specs.Promises.{Grew}
+use Rattle.wcv_spaces.specs.Contents.{Contents, StateStands}
+use Rattle.wcv_spaces.specs.Promises.{Grew}
 use Rattle.wcv_decls.specs.CoreItems.{JoinedModule}
 use Rattle.wcv_decls.proofs.CoreModules.{core_module_grew}
 use Rattle.wcv_link.specs.Modules.{DeclaresEach}

@@ -11,7 +11,7 @@ use Rattle.wcv_types.proofs.Grown.{extends_push, is_last, tree_at_last}
 use Rattle.wcv_lower.specs.Mapped.{map_stack}
 use Rattle.wcv_lower.specs.Renamed.{renaming}
 use Rattle.wcv_lower.specs.Trees.{Tree_stack}
-use Rattle.wcv_state.specs.Contents.{Contents}
+use Rattle.wcv_spaces.specs.Contents.{Contents}
 use Rattle.wcv_decls.specs.Declaring.{innermost, features_in, stack_in, top_in, TypeKept}
 use Rattle.wcv_decls.proofs.Closing.{component_tree_same}
 use Rattle.wcv_decls.proofs.InnermostStates.{open_here}

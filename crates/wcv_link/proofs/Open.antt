@@ -21,8 +21,8 @@ use Rattle.wcv_lower.specs.Owned.{ItemRegular, IsCalm}
 use Rattle.wcv_lower.specs.Trees.{Tree_context, Tree_stack, tree_maker}
 use Rattle.wcv_lower.proofs.CalmGrowth.{calm_grows}
 use Rattle.wcv_state.specs.Aliasing.{AliasedOn}
-use Rattle.wcv_state.specs.Contents.{Contents, context_of, stack_of}
-use Rattle.wcv_state.specs.Promises.{MemoryOrCausedBy, numbers_of, Keeps}
+use Rattle.wcv_spaces.specs.Contents.{Contents, context_of, stack_of}
+use Rattle.wcv_spaces.specs.Promises.{MemoryOrCausedBy, numbers_of, Keeps}
 use Rattle.wcv_state.proofs.Stacks.{around_same}
 use Rattle.wcv_decls.specs.Declaring.{innermost, around, features_in, stack_in, AreReady}
 use Rattle.wcv_decls.specs.Stack.{IsOpen, AreCalm, ChangesLast, stay, all_uncharged, contexts_around, stack_on, GrewOn, RefusedOn, DeclaresOn, RefusesOn, KeepsOn}

@@ -19,10 +19,10 @@ use Rattle.wcv_lower.proofs.DeclaredGlued.{first_same, second_same}
 use Rattle.wcv_lower.proofs.Given.{gives_both, gives_wider}
 use Rattle.wcv_lower.proofs.ItemLaws.{read_item-agrees}
 use Rattle.wcv_lower.proofs.Naming.{to_places, renamed_places}
-use Rattle.wcv_state.specs.Contents.{names, Contents, stack_of, ids, core_ids, sides, id_tree, core_tree, empty_state}
-use Rattle.wcv_state.specs.Promises.{numbers_of}
-use Rattle.wcv_state.specs.declared.kind.ComponentKind.TheVariants.{Component}
-use Rattle.wcv_state.proofs.Sides.{each_space, each_core, each_side}
+use Rattle.wcv_spaces.specs.Contents.{names, Contents, stack_of, ids, core_ids, sides, id_tree, core_tree, empty_state}
+use Rattle.wcv_spaces.specs.Promises.{numbers_of}
+use Rattle.wcv_spaces.specs.declared.kind.ComponentKind.TheVariants.{Component}
+use Rattle.wcv_spaces.proofs.Sides.{each_space, each_core, each_side}
 use Rattle.wcv_decls.specs.Declaring.{features_in, stack_in, Opened}
 use Rattle.wcv_decls.proofs.Opening.{opened_stack}
 use Rattle.wcv_decls.proofs.ReadingOn.{grown_numbers}

@@ -11,7 +11,7 @@ use Rattle.wcv_matching.specs.Formed.{node_height}
 use Rattle.wcv_lower.specs.Even.{IsRegular}
 use Rattle.wcv_lower.specs.Owned.{AllEntries, AreRegular, ItemRegular}
 use Rattle.wcv_lower.proofs.EvenArena.{slots_regular}
-use Rattle.wcv_state.specs.Contents.{Contents, ids, core_ids, sides, id_slot, core_slot, id_tree, core_tree, context_of, IdStands, CoreStands, CoreIdStands, StateStands}
+use Rattle.wcv_spaces.specs.Contents.{Contents, ids, core_ids, sides, id_slot, core_slot, id_tree, core_tree, context_of, IdStands, CoreStands, CoreIdStands, StateStands}
 
 module _ (a : Arena) (s : Contents) (h : StateStands a s) where
   core_known : (x : Slot) → CoreStands a x → SlotStands a x

@@ -17,7 +17,7 @@ use Rattle.wcv_types.specs.declared.ids.Part.TheVariants as p
 use Rattle.wcv_types.specs.declared.ids.ResourceId.{ResourceId}
 use Rattle.wcv_types.specs.declared.item_map.ComponentItem.{ComponentItem}
 use Rattle.wcv_types.proofs.Grown.{node_stays, same_tree}
-use Rattle.wcv_state.proofs.Keeping.{same_mapped, same_slot, entity_more}
+use Rattle.wcv_spaces.proofs.Keeping.{same_mapped, same_slot, entity_more}
 use Rattle.wcv_growth.specs.Nested.{Nested_types}
 use Rattle.wcv_link.specs.Told.{IsKept, Told, Ended}
 use Rattle.wcv_link.specs.declared.nesting.Nested.{Nested}

@@ -14,9 +14,9 @@ use Rattle.wcv_lower.specs.Given.{GivenNames, names_of, GivesAt}
 use Rattle.wcv_lower.specs.Items.{read_item}
 use Rattle.wcv_lower.specs.Names.{Names, Under}
 use Rattle.wcv_lower.specs.Trees.{Tree_context, Tree_stack, tree_maker}
-use Rattle.wcv_state.specs.Contents.{Contents, stack_of}
-use Rattle.wcv_state.specs.Instances.{MayOpen, ItemMayOpen}
-use Rattle.wcv_state.specs.Promises.{numbers_of, Keeps}
+use Rattle.wcv_spaces.specs.Contents.{Contents, stack_of}
+use Rattle.wcv_instantiate.specs.Instances.{MayOpen, ItemMayOpen}
+use Rattle.wcv_spaces.specs.Promises.{numbers_of, Keeps}
 use Rattle.wcv_decls.specs.Declaring.{innermost, around, features_in, stack_in}
 use Rattle.wcv_decls.specs.Stack.{IsOpen, AreCalm, all_uncharged}
 use Rattle.wcv_growth.specs.Nested.{Nested_types}

@@ -3,8 +3,8 @@ use Rattle.std.specs.Prelude.{ℕ, List}
 use Rattle.wcv_core.specs.Names.{Place}
 use Rattle.wcv_types.specs.Arena.{Arena}
 use Rattle.wcv_lower.specs.Given.{GivenNames, names_of, no_numbers, GivesAt}
-use Rattle.wcv_state.specs.Contents.{Contents}
-use Rattle.wcv_state.specs.Promises.{numbers_of}
+use Rattle.wcv_spaces.specs.Contents.{Contents}
+use Rattle.wcv_spaces.specs.Promises.{numbers_of}
 use Rattle.wcv_decls.specs.Declaring.{features_in, stack_in}
 use Rattle.wcv_growth.specs.Reached.{Reached, Earlier}
 

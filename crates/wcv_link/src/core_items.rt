@@ -4,7 +4,7 @@ ghost use Rattle.wcv_core.specs.Limits.{max_list};
 ghost use Rattle.wcv_syntax.specs.Model.{core_type_item, core_module_item, core_instance_item, instance_item, start_item, canon_item, alias_item};
 ghost use Rattle.wcv_syntax.specs.View.{core_type_view, code_decl_view, core_instance_view, instance_view, canon_view};
 ghost use Rattle.wcv_lower.specs.Checks.{IsFree, too_many};
-ghost use Rattle.wcv_state.specs.Promises.{Keeps, MemoryOrCausedBy};
+ghost use Rattle.wcv_spaces.specs.Promises.{Keeps, MemoryOrCausedBy};
 ghost use Rattle.wcv_decls.specs.Stack.{IsOpen};
 ghost use Rattle.wcv_instances.specs.ComponentInstances.{AllMayInstantiate};
 ghost use Rattle.wcv_link.specs.Progress.{IsReady, TakesItem, LeavesItem, AcceptsItem, RefusesItem};

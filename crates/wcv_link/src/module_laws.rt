@@ -17,8 +17,8 @@ ghost use Rattle.wcv_lower.specs.Checks.{IsFree};
 ghost use Rattle.wcv_lower.specs.Context.{core_modules};
 ghost use Rattle.wcv_lower.specs.CoreItems.{core_module_made};
 ghost use Rattle.wcv_lower.specs.Trees.{Tree_context, Tree_stack};
-ghost use Rattle.wcv_state.specs.Contents.{Contents, StateStands};
-ghost use Rattle.wcv_state.specs.Promises.{Grew};
+ghost use Rattle.wcv_spaces.specs.Contents.{Contents, StateStands};
+ghost use Rattle.wcv_spaces.specs.Promises.{Grew};
 ghost use Rattle.wcv_decls.specs.CoreItems.{JoinedModule};
 ghost use Rattle.wcv_link.specs.Modules.{DeclaresEach};
 

@@ -4,7 +4,7 @@ use Rattle.wcv_types.specs.Arena.{Arena}
 use Rattle.wcv_types.specs.Unfold.{trees}
 use Rattle.wcv_types.proofs.Each.{length-mapped}
 use Rattle.wcv_lower.specs.Context.{Space, in_types, in_funcs, in_values, in_instances, in_components, Core_space, core_types, core_funcs, core_tags, core_modules, core_instances, core_memories, core_tables, core_globals, lengths}
-use Rattle.wcv_state.specs.Contents.{Contents, ids, core_ids, id_tree, core_tree, context_of}
+use Rattle.wcv_spaces.specs.Contents.{Contents, ids, core_ids, id_tree, core_tree, context_of}
 use Rattle.wcv_main.specs.Report.{space_lengths}
 
 pub counted : (a : Arena) (s : Contents) → lengths (context_of a s) ≡ space_lengths s.spaces

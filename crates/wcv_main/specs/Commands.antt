@@ -6,9 +6,8 @@ use Rattle.std.specs.List.{slice_split}
 use Rattle.std.specs.Str.{bytes_eq}
 use Rattle.std.specs.Fmt.{decimal}
 use Rattle.bitflags.specs.Sets.{known_bits}
-use Rattle.wcv_core.specs.Features.{default_features, feature_bits}
+use Rattle.wcv_core.specs.Features.{default_features, feature_bits, feature_names}
 use Rattle.wcv_core.specs.declared.features.WasmFeatures.{WasmFeatures}
-use Rattle.wcv_listing.specs.Features.{feature_names}
 use Rattle.wcv_listing.specs.Fields.{named}
 use Rattle.wcv_main.specs.declared.reading.Reading.{Reading}
 use Rattle.wcv_main.specs.declared.reading.Reading.TheVariants.{Listing, Binary, ToListing}

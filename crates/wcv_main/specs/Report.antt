@@ -1,7 +1,7 @@
 -- The first lines of the report on a valid root.
 use Rattle.std.specs.Prelude.{ℕ, List, [], ◌∷◌, ◌++◌, length, codes}
 use Rattle.std.specs.Fmt.{decimal}
-use Rattle.wcv_state.specs.Contents.{SpaceLists}
+use Rattle.wcv_spaces.specs.Contents.{SpaceLists}
 
 -- a text and the end of its line
 abbrev pub line : List ℕ → List ℕ

@@ -29,13 +29,13 @@ use Rattle.wcv_lower.proofs.NewNames.{trees_tell}
 use Rattle.wcv_lower.proofs.Causes.{cause_left, cause_right, cause_either, free_both, free_left, free_right}
 use Rattle.wcv_lower.proofs.Given.{given_weaker}
 use Rattle.wcv_lower.proofs.MarkLaws.{uses-applied, apply-append}
-use Rattle.wcv_state.specs.Contents.{Contents, with_uses, context_of, stack_of, StateStands}
-use Rattle.wcv_state.specs.Promises.{MemoryOrCausedBy, numbers_of, is_instance_entity, Grew, WrittenEntity, Exported, Entered, EntryCaused, ExportDeclared, ExportCaused}
-use Rattle.wcv_state.proofs.Brought.{as_it_is_at}
-use Rattle.wcv_state.proofs.Calls.{caused_more}
-use Rattle.wcv_state.proofs.Keeping.{same_context}
-use Rattle.wcv_state.proofs.UsedValues.{uses_context}
-use Rattle.wcv_state.proofs.Opened.{both_none}
+use Rattle.wcv_spaces.specs.Contents.{Contents, with_uses, context_of, stack_of, StateStands}
+use Rattle.wcv_spaces.specs.Promises.{MemoryOrCausedBy, numbers_of, is_instance_entity, Grew, WrittenEntity, Exported, Entered, EntryCaused, ExportDeclared, ExportCaused}
+use Rattle.wcv_spaces.proofs.Brought.{as_it_is_at}
+use Rattle.wcv_spaces.proofs.Calls.{caused_more}
+use Rattle.wcv_spaces.proofs.Keeping.{same_context}
+use Rattle.wcv_spaces.proofs.UsedValues.{uses_context}
+use Rattle.wcv_instantiate.proofs.Opened.{both_none}
 
 -- ## An entry that joins where it was looked up
 

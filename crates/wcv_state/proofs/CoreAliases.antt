@@ -25,13 +25,13 @@ use Rattle.wcv_lower.specs.CoreInstances.{is_of, sort_needs, no_item_room, core_
 use Rattle.wcv_lower.specs.Given.{none_given}
 use Rattle.wcv_lower.specs.Step.{Step, apply}
 use Rattle.wcv_lower.specs.Trees.{Tree_context, tree_reader}
-use Rattle.wcv_state.specs.Contents.{Contents, kind_of, core_tree, context_of, stack_of, with_core_item, StateStands}
-use Rattle.wcv_state.specs.Entering.{room_counts}
-use Rattle.wcv_state.specs.Looking.{AliasFinds}
-use Rattle.wcv_state.specs.Promises.{MemoryOrCausedBy, Grew}
-use Rattle.wcv_state.proofs.Calls.{caused_more}
-use Rattle.wcv_state.proofs.CoreItems.{item_room, item_live, item_context, missing_mapped}
-use Rattle.wcv_state.proofs.Found.{core_same, core_stands_at}
+use Rattle.wcv_spaces.specs.Contents.{Contents, kind_of, core_tree, context_of, stack_of, with_core_item, StateStands}
+use Rattle.wcv_spaces.specs.Entering.{room_counts}
+use Rattle.wcv_spaces.specs.Looking.{AliasFinds}
+use Rattle.wcv_spaces.specs.Promises.{MemoryOrCausedBy, Grew}
+use Rattle.wcv_spaces.proofs.Calls.{caused_more}
+use Rattle.wcv_spaces.proofs.CoreItems.{item_room, item_live, item_context, missing_mapped}
+use Rattle.wcv_spaces.proofs.Found.{core_same, core_stands_at}
 
 -- ## What is found
 

@@ -17,8 +17,8 @@ use Rattle.wcv_lower.specs.Checks.{Checks, IsFree, full, too_many, if_found}
 use Rattle.wcv_lower.specs.Context.{is_concrete}
 use Rattle.wcv_lower.proofs.Causes.{free_right}
 use Rattle.wcv_state.specs.Aliasing.{outer_id, outer_in, is_entity, aliased_tree, boundary_checks, after_target, outer_id_checks}
-use Rattle.wcv_state.specs.Contents.{Contents}
-use Rattle.wcv_state.specs.Entering.{room_counts}
+use Rattle.wcv_spaces.specs.Contents.{Contents}
+use Rattle.wcv_spaces.specs.Entering.{room_counts}
 use Rattle.wcv_state.specs.declared.outer_aliases.Aliased.{Aliased}
 use Rattle.wcv_state.specs.declared.outer_aliases.Aliased.TheVariants as aliased
 

@@ -18,9 +18,9 @@ use Rattle.wcv_lower.specs.Context.{core_types}
 use Rattle.wcv_lower.specs.CoreItems.{core_entries, types_join}
 use Rattle.wcv_lower.specs.Step.{apply}
 use Rattle.wcv_lower.specs.Trees.{Tree_context, Tree_stack, tree_reader, head_entry, core_entry}
-use Rattle.wcv_state.specs.Contents.{Contents, context_of, core_tree, core_type_part, CoreIdStands, StateStands, core_entry_of, core_entries_of, with_sub}
-use Rattle.wcv_state.specs.Promises.{Keeps}
-use Rattle.wcv_state.proofs.Keeping.{keeps_grown, keeps_trans, keeps_with_core, with_core_context}
+use Rattle.wcv_spaces.specs.Contents.{Contents, context_of, core_tree, core_type_part, CoreIdStands, StateStands, core_entry_of, core_entries_of, with_sub}
+use Rattle.wcv_spaces.specs.Promises.{Keeps}
+use Rattle.wcv_spaces.proofs.Keeping.{keeps_grown, keeps_trans, keeps_with_core, with_core_context}
 
 module _ (a : Arena) where
   entry_same : (x : ComponentCoreTypeId) → Stands a (core_type_part x) → core_entry (core_tree (trees a.nodes) core_types x) ≡ core_entry_of x

@@ -25,7 +25,7 @@ use Rattle.wcv_types.specs.declared.shapes.ComponentEntityType.{ComponentEntityT
 use Rattle.wcv_types.specs.declared.shapes.ComponentEntityType.TheVariants as entity
 use Rattle.wcv_types.proofs.EntryParts.{entry_parts, exports_in-exports}
 use Rattle.wcv_types.proofs.Lists.{some-inj}
-use Rattle.wcv_subtype.proofs.PassIds.{found_stands}
+use Rattle.wcv_atoms.proofs.PassIds.{found_stands}
 use Rattle.wcv_lower.specs.Aliases.{sort_named, is_admitted, instance_at, export_of, joining, export_alias_step, named_checks, export_alias_checks}
 use Rattle.wcv_lower.specs.Checks.{Checks, Counts, Cause, IsFree, full, if_found, missing, no_room, same_sort}
 use Rattle.wcv_lower.specs.Context.{in_types, in_funcs, in_values, in_instances, in_components, core_modules, is_concrete, counts}
@@ -35,15 +35,15 @@ use Rattle.wcv_lower.specs.Step.{Step, apply, joins}
 use Rattle.wcv_lower.specs.Trees.{Tree_context, tree_reader}
 use Rattle.wcv_lower.specs.Values.{kind_checks}
 use Rattle.wcv_state.specs.Aliasing.{with_entity, export_id, export_id_checks, ExportFinds}
-use Rattle.wcv_state.specs.Contents.{Contents, kind_of, id_tree, context_of, stack_of, StateStands}
-use Rattle.wcv_state.specs.Entering.{room_counts}
-use Rattle.wcv_state.specs.Promises.{MemoryOrCausedBy, Grew, Keeps}
-use Rattle.wcv_state.proofs.Brought.{entity_sorted}
-use Rattle.wcv_state.proofs.Calls.{caused_more}
-use Rattle.wcv_state.proofs.CoreItems.{missing_mapped}
-use Rattle.wcv_state.proofs.Found.{get_same, stands_at}
-use Rattle.wcv_state.proofs.JoinedSides.{counts_same, entered_context}
-use Rattle.wcv_state.proofs.Keeping.{keeps_with_id, keeps_with_core}
+use Rattle.wcv_spaces.specs.Contents.{Contents, kind_of, id_tree, context_of, stack_of, StateStands}
+use Rattle.wcv_spaces.specs.Entering.{room_counts}
+use Rattle.wcv_spaces.specs.Promises.{MemoryOrCausedBy, Grew, Keeps}
+use Rattle.wcv_spaces.proofs.Brought.{entity_sorted}
+use Rattle.wcv_spaces.proofs.Calls.{caused_more}
+use Rattle.wcv_spaces.proofs.CoreItems.{missing_mapped}
+use Rattle.wcv_spaces.proofs.Found.{get_same, stands_at}
+use Rattle.wcv_spaces.proofs.JoinedSides.{counts_same, entered_context}
+use Rattle.wcv_spaces.proofs.Keeping.{keeps_with_id, keeps_with_core}
 
 -- a count that ends at a greater number is as good
 pub instances_full : (n : ℕ) → full max_instances (min n 18446744073709551615) ≡ full max_instances n

@@ -17,11 +17,11 @@ use Rattle.wcv_lower.specs.Owned.{IsLed}
 use Rattle.wcv_lower.specs.Readers.{Maker}
 use Rattle.wcv_lower.specs.Step.{brought_at, apply, enters}
 use Rattle.wcv_lower.specs.Trees.{Tree_context, tree_reader, tree_maker}
-use Rattle.wcv_state.specs.Bringing.{EntityOpened, HasJoined}
-use Rattle.wcv_state.specs.Contents.{Contents, context_of, stack_of, StateStands}
-use Rattle.wcv_state.specs.Promises.{MemoryOrCausedBy, Entered, EntryCaused}
-use Rattle.wcv_state.specs.declared.bringing.NewEntity.{NewEntity}
-use Rattle.wcv_state.proofs.Keeping.{same_context}
+use Rattle.wcv_spaces.specs.Bringing.{EntityOpened, HasJoined}
+use Rattle.wcv_spaces.specs.Contents.{Contents, context_of, stack_of, StateStands}
+use Rattle.wcv_spaces.specs.Promises.{MemoryOrCausedBy, Entered, EntryCaused}
+use Rattle.wcv_spaces.specs.declared.new_entity.NewEntity.{NewEntity}
+use Rattle.wcv_spaces.proofs.Keeping.{same_context}
 
 -- out of memory
 pub entry_memory : {M : Type 0} (limited : Bool) (a b : Arena) (p : Place) (s : Contents) (n : ComponentExternName) (x : ComponentEntityType) (offset : ℕ) (e : Error M) → error_kind e ≡ kind.OutOfMemory → EntryCaused limited a b p s n x offset e

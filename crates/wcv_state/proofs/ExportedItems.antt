@@ -36,17 +36,17 @@ use Rattle.wcv_lower.specs.Step.{Brought, bare, brought_at}
 use Rattle.wcv_lower.specs.Trees.{Type_tree, type_entry, tree_reader, tree_maker}
 use Rattle.wcv_lower.specs.Values.{kind_checks}
 use Rattle.wcv_lower.proofs.Causes.{free_both}
-use Rattle.wcv_state.specs.Contents.{Contents, context_of, id_tree, StateStands}
-use Rattle.wcv_state.specs.Instances.{MayOpenItem, EntityMayOpen}
-use Rattle.wcv_state.specs.Looking.{item_id, introduced_id, introduced_in, created_reference, brings_own, ascribed_id_checks, CreatesAgain, GivesExported, GivesItem}
-use Rattle.wcv_state.specs.Promises.{is_instance_entity, EntityAlone}
-use Rattle.wcv_state.proofs.Brought.{as_it_is_at, instance_at, brought_same}
-use Rattle.wcv_state.proofs.Found.{Brings, Looked, LookedUp, also_free, found_same, found_instance, get_same, stands_at, written_checks_same, written_found}
-use Rattle.wcv_state.proofs.Found as found
+use Rattle.wcv_spaces.specs.Contents.{Contents, context_of, id_tree, StateStands}
+use Rattle.wcv_instantiate.specs.Instances.{MayOpenItem, EntityMayOpen}
+use Rattle.wcv_spaces.specs.Looking.{item_id, introduced_id, introduced_in, created_reference, brings_own, ascribed_id_checks, CreatesAgain, GivesExported, GivesItem}
+use Rattle.wcv_spaces.specs.Promises.{is_instance_entity, EntityAlone}
+use Rattle.wcv_spaces.proofs.Brought.{as_it_is_at, instance_at, brought_same}
+use Rattle.wcv_spaces.proofs.Found.{Brings, Looked, LookedUp, also_free, found_same, found_instance, get_same, stands_at, written_checks_same, written_found}
+use Rattle.wcv_spaces.proofs.Found as found
 use Rattle.wcv_state.proofs.ItemsAt.{read_as, item_there, item_stands}
-use Rattle.wcv_state.proofs.Keeping.{same_slot}
-use Rattle.wcv_state.proofs.MadeAlone.{stays_at}
-use Rattle.wcv_state.proofs.Opened.{alone_opens}
+use Rattle.wcv_spaces.proofs.Keeping.{same_slot}
+use Rattle.wcv_spaces.proofs.StaysAlone.{stays_at}
+use Rattle.wcv_instantiate.proofs.Opened.{alone_opens}
 
 -- ## What brings resources of its own
 

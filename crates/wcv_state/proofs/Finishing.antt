@@ -20,13 +20,13 @@ use Rattle.wcv_lower.specs.Context.{importing, exporting}
 use Rattle.wcv_lower.specs.Ending.{kept, component_of, end_checks}
 use Rattle.wcv_lower.specs.Trees.{Entries, Tree_context, tree_reader, node_tree}
 use Rattle.wcv_lower.proofs.Causes.{cause_left, cause_right}
-use Rattle.wcv_state.specs.Contents.{Contents, Listed, context_of, defined_resource, LeadsToImport, side_parts, StateStands}
+use Rattle.wcv_spaces.specs.Contents.{Contents, Listed, context_of, defined_resource, LeadsToImport, side_parts, StateStands}
 use Rattle.wcv_state.specs.Inside.{contents_of, AllNamesAgree}
 use Rattle.wcv_state.specs.declared.state.ComponentState.TheInside.{Inside}
-use Rattle.wcv_state.specs.Ending.{import_checks, kept_checks, Ended, IsTypeOf}
-use Rattle.wcv_state.specs.Promises.{MemoryOrCausedBy, Finished}
-use Rattle.wcv_state.proofs.Calls.{caused_more}
-use Rattle.wcv_state.proofs.KeptPaths.{Defined, Kept, paths_lead}
+use Rattle.wcv_resources.specs.Ending.{import_checks, kept_checks, Ended, IsTypeOf}
+use Rattle.wcv_spaces.specs.Promises.{MemoryOrCausedBy, Finished}
+use Rattle.wcv_spaces.proofs.Calls.{caused_more}
+use Rattle.wcv_resources.proofs.KeptPaths.{Defined, Kept, paths_lead}
 
 module _ (a : Arena) (s : Contents) where
   abbrev c : Tree_context

@@ -16,15 +16,15 @@ use Rattle.wcv_lower.specs.Context.{in_instances, unknown}
 use Rattle.wcv_lower.specs.Instances.{instance_joins}
 use Rattle.wcv_lower.specs.Step.{apply}
 use Rattle.wcv_lower.specs.Trees.{Tree_context}
-use Rattle.wcv_state.specs.Bringing.{Paths}
-use Rattle.wcv_state.specs.Contents.{Contents, SpaceLists, context_of, core_tree, names, push_id, stack_of, StateStands}
-use Rattle.wcv_state.specs.Instantiations.{brought_of}
-use Rattle.wcv_state.specs.Promises.{Keeps}
-use Rattle.wcv_state.specs.declared.instances.NewInstance.{NewInstance}
-use Rattle.wcv_state.proofs.BroughtPaths.{brought_defined}
-use Rattle.wcv_state.proofs.JoinedSides.{export_introduced}
-use Rattle.wcv_state.proofs.Keeping.{keeps_entry, no_more, push_trees, same_imported}
-use Rattle.wcv_state.proofs.Sides.{core_push, each_side}
+use Rattle.wcv_spaces.specs.Bringing.{Paths}
+use Rattle.wcv_spaces.specs.Contents.{Contents, SpaceLists, context_of, core_tree, names, push_id, stack_of, StateStands}
+use Rattle.wcv_instantiate.specs.Instantiations.{brought_of}
+use Rattle.wcv_spaces.specs.Promises.{Keeps}
+use Rattle.wcv_instantiate.specs.declared.instances.NewInstance.{NewInstance}
+use Rattle.wcv_spaces.proofs.BroughtPaths.{brought_defined}
+use Rattle.wcv_spaces.proofs.JoinedSides.{export_introduced}
+use Rattle.wcv_spaces.proofs.Keeping.{keeps_entry, no_more, push_trees, same_imported}
+use Rattle.wcv_spaces.proofs.Sides.{core_push, each_side}
 use Rattle.wcv_state.proofs.Sizes.{same_sized}
 
 abbrev pub Defined : Type 0

@@ -16,10 +16,10 @@ use Rattle.wcv_lower.specs.Checks.{missing}
 use Rattle.wcv_lower.specs.Context.{in_types, in_funcs, in_values, in_instances, in_components, core_modules}
 use Rattle.wcv_lower.specs.Entries.{items_of}
 use Rattle.wcv_lower.specs.Trees.{Type_tree}
-use Rattle.wcv_state.specs.Contents.{Contents, context_of, id_tree, core_tree, StateStands}
-use Rattle.wcv_state.specs.Looking.{item_id, item_id_checks}
-use Rattle.wcv_state.proofs.CoreItems.{missing_mapped}
-use Rattle.wcv_state.proofs.Found.{get_same, stands_at, core_same, core_stands_at}
+use Rattle.wcv_spaces.specs.Contents.{Contents, context_of, id_tree, core_tree, StateStands}
+use Rattle.wcv_spaces.specs.Looking.{item_id, item_id_checks}
+use Rattle.wcv_spaces.proofs.CoreItems.{missing_mapped}
+use Rattle.wcv_spaces.proofs.Found.{get_same, stands_at, core_same, core_stands_at}
 
 -- an entity that was read from a list has what each of the list gives
 pub read_as : {I : Type 0} (P : ComponentEntityType → Type 0) (to : I → ComponentEntityType) (o : Option I) (x : ComponentEntityType) → ((i : I) → o ≡ Some i → P (to i)) → option_map to o ≡ Some x → P x

@@ -15,13 +15,13 @@ use Rattle.wcv_lower.specs.EntryNames.{name_checks}
 use Rattle.wcv_lower.specs.Readers.{weight}
 use Rattle.wcv_lower.specs.Trees.{tree_reader}
 use Rattle.wcv_lower.proofs.Causes.{cause_left, cause_right, cause_either, free_both, free_left, free_right}
-use Rattle.wcv_state.specs.Bringing.{MayJoin, HasJoined}
-use Rattle.wcv_state.specs.Contents.{Contents, kind_of, sides, names, context_of}
-use Rattle.wcv_state.specs.Entering.{entry_checks}
-use Rattle.wcv_state.specs.Promises.{MemoryOrCausedBy}
-use Rattle.wcv_state.specs.declared.bringing.NewEntity.{NewEntity}
-use Rattle.wcv_state.proofs.Calls.{caused_more}
-use Rattle.wcv_state.proofs.JoinedSides.{Joined_state, joined_stack, entry_checks_same}
+use Rattle.wcv_spaces.specs.Bringing.{MayJoin, HasJoined}
+use Rattle.wcv_spaces.specs.Contents.{Contents, kind_of, sides, names, context_of}
+use Rattle.wcv_spaces.specs.Entering.{entry_checks}
+use Rattle.wcv_spaces.specs.Promises.{MemoryOrCausedBy}
+use Rattle.wcv_spaces.specs.declared.new_entity.NewEntity.{NewEntity}
+use Rattle.wcv_spaces.proofs.Calls.{caused_more}
+use Rattle.wcv_spaces.proofs.JoinedSides.{Joined_state, joined_stack, entry_checks_same}
 
 module _ (limited : Bool) (d : Side) (a : Arena) (s z : Contents) (n : ComponentExternName) (x : NewEntity) (ez : z ≡ s) where
   abbrev tree : Type_tree

@@ -25,14 +25,14 @@ use Rattle.wcv_lower.specs.Declared.{applied}
 use Rattle.wcv_lower.specs.Step.{Step, change_at, on_outer, charges, change, apply}
 use Rattle.wcv_lower.specs.Trees.{Tree_context, Tree_stack, tree_reader}
 use Rattle.wcv_state.specs.Aliasing.{outer_id, outer_in, aliased_tree, with_aliased, charge_of, boundary_checks, after_target, charge_in, outer_id_checks, OuterFinds, AliasedOn}
-use Rattle.wcv_state.specs.Contents.{Contents, kind_of, id_tree, core_tree, context_of, stack_of, with_charge}
-use Rattle.wcv_state.specs.Entering.{room_counts}
-use Rattle.wcv_state.specs.Promises.{Grew}
+use Rattle.wcv_spaces.specs.Contents.{Contents, kind_of, id_tree, core_tree, context_of, stack_of, with_charge}
+use Rattle.wcv_spaces.specs.Entering.{room_counts}
+use Rattle.wcv_spaces.specs.Promises.{Grew}
 use Rattle.wcv_state.specs.Stack.{stay, ChangesLast, uncharged, all_uncharged, contexts_around, stack_on}
 use Rattle.wcv_state.specs.declared.outer_aliases.Aliased.{Aliased}
 use Rattle.wcv_state.specs.declared.outer_aliases.Aliased.TheVariants as aliased
-use Rattle.wcv_state.proofs.JoinedSides.{counts_same}
-use Rattle.wcv_state.proofs.Keeping.{with_core_context, with_id_context}
+use Rattle.wcv_spaces.proofs.JoinedSides.{counts_same}
+use Rattle.wcv_spaces.proofs.Keeping.{with_core_context, with_id_context}
 use Rattle.wcv_state.proofs.Nearest.{changed_known, get_nearest, set_nearest, reverse-cons, reverse-last, map-reverse, map-change, map-same}
 
 -- no room for one more

@@ -26,16 +26,16 @@ use Rattle.wcv_lower.specs.Step.{change_at}
 use Rattle.wcv_lower.specs.Trees.{Tree_context, tree_maker}
 use Rattle.wcv_lower.proofs.Causes.{cause_left, cause_right, free_both}
 use Rattle.wcv_state.specs.Aliasing.{outer_id, outer_in, aliased_tree, with_aliased, AliasedStands, boundary_checks, after_target, outer_id_checks, OuterFinds, AliasedOn}
-use Rattle.wcv_state.specs.Contents.{Contents, kind_of, stack_of, with_charge, CoreIdStands, StateStands}
-use Rattle.wcv_state.specs.Entering.{room_counts}
-use Rattle.wcv_state.specs.Promises.{MemoryOrCausedBy, Keeps, Grew}
+use Rattle.wcv_spaces.specs.Contents.{Contents, kind_of, stack_of, with_charge, CoreIdStands, StateStands}
+use Rattle.wcv_spaces.specs.Entering.{room_counts}
+use Rattle.wcv_spaces.specs.Promises.{MemoryOrCausedBy, Keeps, Grew}
 use Rattle.wcv_state.specs.Stack.{IsOpen, KeepsOn, innermost, around, contexts_around, stack_on}
 use Rattle.wcv_state.specs.declared.outer_aliases.Aliased.{Aliased}
 use Rattle.wcv_state.specs.declared.outer_aliases.Aliased.TheVariants as aliased
-use Rattle.wcv_state.proofs.Calls.{caused_more}
+use Rattle.wcv_spaces.proofs.Calls.{caused_more}
 use Rattle.wcv_state.proofs.ExportAliases.{entity_keeps}
-use Rattle.wcv_state.proofs.Found.{stands_at}
-use Rattle.wcv_state.proofs.Keeping.{all_at, keeps_charged, keeps_with_core}
+use Rattle.wcv_spaces.proofs.Found.{stands_at}
+use Rattle.wcv_spaces.proofs.Keeping.{all_at, keeps_charged, keeps_with_core}
 use Rattle.wcv_state.proofs.Nearest.{get_nearest, reverse-last}
 use Rattle.wcv_state.proofs.OuterAliases.{charged_states, after_states, states_pushed, states_charged, checks_here, outer_aliased, inside_aliased}
 use Rattle.wcv_state.proofs.Stacks.{parted, indexed, kept_on, kept_both, kept_set}

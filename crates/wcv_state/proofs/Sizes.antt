@@ -9,8 +9,8 @@ use Rattle.wcv_types.specs.declared.item_map.ComponentItem.{ComponentItem}
 use Rattle.wcv_types.proofs.Each.{map-push}
 use Rattle.wcv_lower.specs.Context.{Side, importing, exporting, joined, same_side}
 use Rattle.wcv_lower.specs.Trees.{Type_tree}
-use Rattle.wcv_state.specs.Contents.{Contents, Listed, sides, side_parts, IsSized}
-use Rattle.wcv_state.specs.Looking.{with_entry}
+use Rattle.wcv_spaces.specs.Contents.{Contents, Listed, sides, side_parts, IsSized}
+use Rattle.wcv_spaces.specs.Looking.{with_entry}
 
 module _ (role : Extern_name → Role) where
   -- one more entry

@@ -22,7 +22,7 @@ use Rattle.wcv_lower.specs.Readers.{New_node, Brought}
 use Rattle.wcv_lower.specs.Slots.{slot_reader, to_trees, slot_maker, next_part, next_node, instance_by, instance_slot, last_instance, next_resources}
 use Rattle.wcv_lower.specs.Trees.{tree_maker, type_entry, node_tree}
 use Rattle.wcv_lower.specs.Uses.{uses_again, uses_new, uses_node, uses_instance}
-use Rattle.wcv_state.proofs.Given.{again_names, renewed_same, resource_names, resource_name, reference_same}
+use Rattle.wcv_spaces.proofs.Given.{again_names, renewed_same, resource_names, resource_name, reference_same}
 use Rattle.wcv_types.specs.declared.ids.ComponentInstanceTypeId.{ComponentInstanceTypeId}
 
 module _ (a b : Arena) (p : Place) where

@@ -22,9 +22,9 @@ use Rattle.wcv_lower.specs.Trees.{tree_reader}
 use Rattle.wcv_lower.specs.Uses.{uses}
 use Rattle.wcv_lower.proofs.GrowthLaws.{grow-mapped, checks-mapped}
 use Rattle.wcv_lower.proofs.Unfolded.{unfold_commutes}
-use Rattle.wcv_state.specs.Contents.{Contents, ids, core_ids, sides, names, id_slot, core_slot, context_of, stack_of, defined_resource, CoreStands, CoreIdStands, StateStands}
+use Rattle.wcv_spaces.specs.Contents.{Contents, ids, core_ids, sides, names, id_slot, core_slot, context_of, stack_of, defined_resource, CoreStands, CoreIdStands, StateStands}
 use Rattle.wcv_state.specs.Slots.{entry_slot, slots_of, slot_stack_of}
-use Rattle.wcv_state.proofs.Keeping.{all_at}
+use Rattle.wcv_spaces.proofs.Keeping.{all_at}
 
 module _ (a : Arena) where
   -- what a state holds stands for its context

@@ -13,10 +13,10 @@ use Rattle.wcv_lower.specs.Given.{names_of, none_given, GivesAt}
 use Rattle.wcv_lower.specs.Growth.{call_checks}
 use Rattle.wcv_lower.specs.Names.{Under}
 use Rattle.wcv_lower.specs.Trees.{tree_maker}
-use Rattle.wcv_state.specs.Contents.{Contents, spent, context_of, StateStands}
-use Rattle.wcv_state.specs.Promises.{numbers_of, MemoryOrCausedBy, Keeps, Grew}
+use Rattle.wcv_spaces.specs.Contents.{Contents, spent, context_of, StateStands}
+use Rattle.wcv_spaces.specs.Promises.{numbers_of, MemoryOrCausedBy, Keeps, Grew}
 use Rattle.wcv_state.specs.Stack.{IsOpen, stay, all_spent, ChangesLast, GrewOn, RefusedOn, KeepsOn, innermost, around, contexts_around, stack_on}
-use Rattle.wcv_state.proofs.Keeping.{same_mapped, same_context, keeps_grown, keeps_marked, keeps_trans}
+use Rattle.wcv_spaces.proofs.Keeping.{same_mapped, same_context, keeps_grown, keeps_marked, keeps_trans}
 
 -- ## The innermost and those around it
 

@@ -26,7 +26,7 @@ use Rattle.wcv_types.proofs.Unfolding.{sort_stands}
 use Rattle.wcv_matching.specs.Refusals.{MemoryOrMismatch}
 use Rattle.wcv_names.specs.FuncTrees.{IsFunction}
 use Rattle.wcv_names.specs.Shapes.{option_tree, OptionStands, FuncStands}
-use Rattle.wcv_subtype.proofs.Walking.{take_more}
+use Rattle.wcv_atoms.proofs.Walking.{take_more}
 use Rattle.wcv_lower.specs.Canons.{func_at}
 use Rattle.wcv_lower.specs.Checks.{Checks, Cause, IsFree, if_found, full, is_none, missing, same_sort}
 use Rattle.wcv_lower.specs.Context.{in_funcs, in_values}
@@ -37,19 +37,20 @@ use Rattle.wcv_lower.specs.Readers.{Maker}
 use Rattle.wcv_lower.specs.Start.{result_joins, start_joins, suits, all_suit, func_suits}
 use Rattle.wcv_lower.specs.Step.{Step, names_start, apply}
 use Rattle.wcv_lower.specs.Trees.{Tree_context, tree_reader, tree_maker, labelled, params, if_given, unlabelled, result}
-use Rattle.wcv_lower.specs.Values.{lacks, cm_values}
+use Rattle.wcv_core.specs.Features.{cm_values}
+use Rattle.wcv_lower.specs.Values.{lacks}
 use Rattle.wcv_lower.proofs.Causes.{cause_left, cause_right, cause_either, free_both, free_left, free_right}
 use Rattle.wcv_lower.proofs.MarkLaws.{apply-append}
-use Rattle.wcv_state.specs.Contents.{Contents, SpaceLists, with_id, with_start, with_uses, id_tree, context_of, stack_of, used_at, IdStands, StateStands}
-use Rattle.wcv_state.specs.Promises.{CausedBy, MemoryOrCausedBy, CausedAt, Grew, Keeps}
+use Rattle.wcv_spaces.specs.Contents.{Contents, SpaceLists, with_id, with_start, with_uses, id_tree, context_of, stack_of, used_at, IdStands, StateStands}
+use Rattle.wcv_spaces.specs.Promises.{CausedBy, MemoryOrCausedBy, CausedAt, Grew, Keeps}
 use Rattle.wcv_state.specs.Starting.{value_tree, Params, param_types, argument_types, begin_checks, count_checks, suit_checks, argument_checks, room_checks, func_checks, start_id_checks, with_given, IsStarted}
-use Rattle.wcv_state.specs.Values.{Values, use_id_checks, uses_id_checks, value_at_checks}
-use Rattle.wcv_state.proofs.Calls.{caused_more, caused_at}
-use Rattle.wcv_state.proofs.CoreItems.{missing_mapped}
-use Rattle.wcv_state.proofs.Keeping.{keeps_trans, keeps_marked, keeps_with_id, with_id_context}
-use Rattle.wcv_state.proofs.UsedValues.{same_values, used_stand, uses_stack, use_checks_same, uses_stand, keeps_uses, keeps_start}
-use Rattle.wcv_state.proofs.Uses.{used_at-append, uses_free, uses_first, uses_then, uses_length}
-use Rattle.wcv_state.proofs.Walks.{drop_found, drop_past}
+use Rattle.wcv_spaces.specs.Values.{Values, use_id_checks, uses_id_checks, value_at_checks}
+use Rattle.wcv_spaces.proofs.Calls.{caused_more, caused_at}
+use Rattle.wcv_spaces.proofs.CoreItems.{missing_mapped}
+use Rattle.wcv_spaces.proofs.Keeping.{keeps_trans, keeps_marked, keeps_with_id, with_id_context}
+use Rattle.wcv_spaces.proofs.UsedValues.{same_values, used_stand, uses_stack, use_checks_same, uses_stand, keeps_uses, keeps_start}
+use Rattle.wcv_spaces.proofs.Uses.{used_at-append, uses_free, uses_first, uses_then, uses_length}
+use Rattle.wcv_spaces.proofs.Walks.{drop_found, drop_past}
 
 -- ## The function
 

@@ -16,15 +16,15 @@ use Rattle.wcv_lower.specs.Marks.{value_index, use_checks}
 use Rattle.wcv_lower.specs.Readers.{Maker}
 use Rattle.wcv_lower.specs.Trees.{tree_reader, tree_maker}
 use Rattle.wcv_lower.proofs.Causes.{cause_either, free_both, free_right}
-use Rattle.wcv_state.specs.Bringing.{Found}
-use Rattle.wcv_state.specs.Contents.{Contents, SpaceLists, context_of, StateStands}
-use Rattle.wcv_state.specs.Looking.{item_id_checks}
-use Rattle.wcv_state.specs.Promises.{CausedBy, ItemCaused}
-use Rattle.wcv_state.specs.Values.{use_id_checks, uses_id_checks}
-use Rattle.wcv_state.specs.declared.bringing.NewEntity.{NewEntity}
-use Rattle.wcv_state.proofs.Found.{Brings}
+use Rattle.wcv_spaces.specs.Bringing.{Found}
+use Rattle.wcv_spaces.specs.Contents.{Contents, SpaceLists, context_of, StateStands}
+use Rattle.wcv_spaces.specs.Looking.{item_id_checks}
+use Rattle.wcv_spaces.specs.Promises.{CausedBy, ItemCaused}
+use Rattle.wcv_spaces.specs.Values.{use_id_checks, uses_id_checks}
+use Rattle.wcv_spaces.specs.declared.new_entity.NewEntity.{NewEntity}
+use Rattle.wcv_spaces.proofs.Found.{Brings}
 use Rattle.wcv_state.proofs.ItemCalls.{item_absent, item_used}
-use Rattle.wcv_state.proofs.UsedValues.{use_checks_same}
+use Rattle.wcv_spaces.proofs.UsedValues.{use_checks_same}
 
 -- the same refusal with another message
 pub same_cause : {M N : Type 0} (cs : Checks) (offset : ℕ) (e : Error M) (other : Error N) → error_kind other ≡ error_kind e → error_offset other ≡ error_offset e → CausedBy cs offset e → CausedBy cs offset other

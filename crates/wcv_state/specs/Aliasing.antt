@@ -24,9 +24,9 @@ use Rattle.wcv_lower.specs.Context.{core_types, is_concrete}
 use Rattle.wcv_lower.specs.CoreInstances.{test_found}
 use Rattle.wcv_lower.specs.Declared.{applied}
 use Rattle.wcv_lower.specs.Trees.{tree_reader}
-use Rattle.wcv_state.specs.Contents.{Contents, SpaceLists, CoreIdStands, core_tree, kind_of, with_core}
-use Rattle.wcv_state.specs.Looking.{entity_sort, entered}
-use Rattle.wcv_state.specs.Entering.{room_counts}
+use Rattle.wcv_spaces.specs.Contents.{Contents, SpaceLists, CoreIdStands, core_tree, kind_of, with_core}
+use Rattle.wcv_spaces.specs.Looking.{entity_sort, entered}
+use Rattle.wcv_spaces.specs.Entering.{room_counts}
 use Rattle.wcv_state.specs.Stack.{all_uncharged, stack_on}
 use Rattle.wcv_state.specs.declared.outer_aliases.Aliased.{Aliased}
 use Rattle.wcv_state.specs.declared.outer_aliases.Aliased.TheVariants as aliased

@@ -9,7 +9,7 @@ use Rattle.wcv_types.specs.Unfold.{Slot}
 use Rattle.wcv_types.specs.declared.item_map.ComponentItem.{ComponentItem}
 use Rattle.wcv_lower.specs.Context.{Context, Stack}
 use Rattle.wcv_lower.specs.Slots.{slot_reader}
-use Rattle.wcv_state.specs.Contents.{Contents, ids, core_ids, kind_of, sides, names, id_slot, core_slot, defined_resource}
+use Rattle.wcv_spaces.specs.Contents.{Contents, ids, core_ids, kind_of, sides, names, id_slot, core_slot, defined_resource}
 
 abbrev pub entry_slot : Text × ComponentItem → Extern_name × Slot
 entry_slot e = (entry_name e, entity_slot e.1.ty)

@@ -7,9 +7,9 @@ use Rattle.wcv_core.specs.declared.error.Error.{Error}
 use Rattle.wcv_syntax.specs.Model.{Form}
 use Rattle.wcv_types.specs.Arena.{Arena}
 use Rattle.wcv_lower.specs.Trees.{Tree_context, Tree_stack}
-use Rattle.wcv_state.specs.Contents.{Contents, empty_state, spent, context_of, stack_of, StateStands}
-use Rattle.wcv_state.specs.Promises.{Keeps, Grew, Refuses}
-use Rattle.wcv_state.specs.declared.kind.ComponentKind.TheVariants as state_kind
+use Rattle.wcv_spaces.specs.Contents.{Contents, empty_state, spent, context_of, stack_of, StateStands}
+use Rattle.wcv_spaces.specs.Promises.{Keeps, Grew, Refuses}
+use Rattle.wcv_spaces.specs.declared.kind.ComponentKind.TheVariants as state_kind
 
 -- the state may be used, and its ids stand in the arena
 pub record IsOpen (a : Arena) (s : Contents) : Type 0 where

@@ -15,9 +15,10 @@ use Rattle.wcv_lower.specs.Checks.{Checks, IsFree, if_found, full, missing}
 use Rattle.wcv_lower.specs.Context.{in_values}
 use Rattle.wcv_lower.specs.Start.{all_suit}
 use Rattle.wcv_lower.specs.Trees.{tree_reader, params, result}
-use Rattle.wcv_lower.specs.Values.{lacks, cm_values}
-use Rattle.wcv_state.specs.Contents.{SpaceLists, id_tree, used_at}
-use Rattle.wcv_state.specs.Values.{Values, uses_id_checks}
+use Rattle.wcv_core.specs.Features.{cm_values}
+use Rattle.wcv_lower.specs.Values.{lacks}
+use Rattle.wcv_spaces.specs.Contents.{SpaceLists, id_tree, used_at}
+use Rattle.wcv_spaces.specs.Values.{Values, uses_id_checks}
 
 abbrev pub value_tree : List Type_tree → ComponentValType → Type_tree
 value_tree ts t = slot_tree ts (value_slot t)

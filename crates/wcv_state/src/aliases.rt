@@ -18,18 +18,18 @@ ghost use Rattle.wcv_lower.specs.Growth.{call_checks};
 ghost use Rattle.wcv_lower.specs.Names.{Names};
 ghost use Rattle.wcv_lower.specs.Trees.{Tree_context, tree_maker};
 ghost use Rattle.wcv_state.specs.Aliasing.{is_outer, AliasedOn};
-ghost use Rattle.wcv_state.specs.Contents.{kind_of, context_of, stack_of, StateStands};
-ghost use Rattle.wcv_state.specs.Looking.{AliasFinds};
-ghost use Rattle.wcv_state.specs.Promises.{CausedBy, MemoryOrCausedBy, Keeps, Grew};
+ghost use Rattle.wcv_spaces.specs.Contents.{kind_of, context_of, stack_of, StateStands};
+ghost use Rattle.wcv_spaces.specs.Looking.{AliasFinds};
+ghost use Rattle.wcv_spaces.specs.Promises.{CausedBy, MemoryOrCausedBy, Keeps, Grew};
 ghost use Rattle.wcv_state.specs.Stack.{IsOpen, ChangesLast, RefusedOn, KeepsOn, around, innermost, stack_on, stay};
 
-use crate::core_items::{check_core_sort, check_item_room, is_of, sort_name};
-use crate::kind::ComponentKind;
 use crate::marks::mark_all_spent;
 use crate::outer_aliases::add_outer_alias;
 use crate::state::ComponentState;
 use wcv_core::{EntityType, Error, ErrorKind, Refusal, Text, Why};
 use wcv_matching::core_export_of;
+use wcv_spaces::core_sorts::{check_core_sort, check_item_room, is_of, sort_name};
+use wcv_spaces::kind::ComponentKind;
 use wcv_syntax::{ComponentAlias, ExternalKind};
 use wcv_types::{ComponentCoreInstanceTypeId, TypeAlloc};
 

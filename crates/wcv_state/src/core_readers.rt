@@ -1,11 +1,11 @@
 // What stands in the core spaces.
 ghost use Rattle.std.specs.Prelude.{◌≡◌, Some, slice_get, IfOk, IfErr};
 ghost use Rattle.wcv_lower.specs.Checks.{missing};
-ghost use Rattle.wcv_state.specs.Promises.{CausedBy};
+ghost use Rattle.wcv_spaces.specs.Promises.{CausedBy};
 
-use crate::indices::element_at;
 use crate::state::ComponentState;
 use wcv_core::{CoreTypeId, GlobalType, MemoryType, Refusal, TableType};
+use wcv_spaces::indices::element_at;
 use wcv_types::{ComponentCoreInstanceTypeId, ComponentCoreModuleTypeId, ComponentCoreTypeId};
 
 impl ComponentState {

@@ -1,15 +1,15 @@
 // The type of what was read.
 ghost use Rattle.std.specs.Prelude.{◌≡◌, false, OnOk, OnErr, IfOk, IfErr};
 ghost use Rattle.wcv_lower.specs.Ending.{end_checks};
-ghost use Rattle.wcv_state.specs.Contents.{spent, ended, finished, context_of, StateStands};
-ghost use Rattle.wcv_state.specs.Ending.{Ended, IsTypeOf};
-ghost use Rattle.wcv_state.specs.Promises.{MemoryOrCausedBy, RefusesBy, Finished};
+ghost use Rattle.wcv_spaces.specs.Contents.{spent, ended, finished, context_of, StateStands};
+ghost use Rattle.wcv_resources.specs.Ending.{Ended, IsTypeOf};
+ghost use Rattle.wcv_spaces.specs.Promises.{MemoryOrCausedBy, RefusesBy, Finished};
 
-use crate::kept::{check_imports, kept_paths};
 use crate::state::ComponentState;
 use std::alloc::Global;
 use std::mem::replace;
 use wcv_core::{Error, IndexMapAppendOnly, OutOfMemory};
+use wcv_resources::kept::{check_imports, kept_paths};
 use wcv_types::{ComponentType, ItemMap, Paths, TypeAlloc};
 
 impl ComponentState {

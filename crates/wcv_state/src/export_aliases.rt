@@ -19,20 +19,20 @@ ghost use Rattle.wcv_lower.specs.Trees.{Tree_context, tree_maker};
 ghost use Rattle.wcv_lower.specs.Values.{kind_checks};
 ghost use Rattle.wcv_state.specs.Aliasing as aliasing;
 ghost use Rattle.wcv_state.specs.Aliasing.{export_id, export_id_checks, ExportFinds};
-ghost use Rattle.wcv_state.specs.Contents.{kind_of, context_of, stack_of, StateStands};
-ghost use Rattle.wcv_state.specs.Entering.{room_counts};
-ghost use Rattle.wcv_state.specs.Inside.{lists};
-ghost use Rattle.wcv_state.specs.Promises.{CausedBy, MemoryOrCausedBy, Keeps, Grew};
+ghost use Rattle.wcv_spaces.specs.Contents.{kind_of, context_of, stack_of, StateStands};
+ghost use Rattle.wcv_spaces.specs.Entering.{room_counts};
+ghost use Rattle.wcv_spaces.specs.Parts.{lists};
+ghost use Rattle.wcv_spaces.specs.Promises.{CausedBy, MemoryOrCausedBy, Keeps, Grew};
 
-use crate::entries::check_count;
-use crate::features::check_kind;
-use crate::kind::ComponentKind;
-use crate::labels::are_alike;
-use crate::spaces::{Spaces, both};
 use crate::state::ComponentState;
 use std::fmt;
 use wcv_core::limits::{MAX_ENTRIES, MAX_INSTANCES};
 use wcv_core::{Error, ErrorKind, Excerpt, Refusal, Text, Why};
+use wcv_spaces::entries::check_count;
+use wcv_spaces::features::check_kind;
+use wcv_spaces::kind::ComponentKind;
+use wcv_spaces::labels::are_alike;
+use wcv_spaces::spaces::{Spaces, both};
 use wcv_syntax::{ComponentAlias, ComponentExternalKind};
 use wcv_types::{ComponentEntityType, ComponentInstanceTypeId, ItemMap, TypeAlloc};
 
@@ -93,7 +93,7 @@ fn check_sort(
 }
 
 /// Whether there is room for one more item of the sort.
-#[tactic(auto, using(crate::proofs::CoreItems::funcs_full, crate::proofs::ExportAliases::instances_full))]
+#[tactic(auto, using(wcv_spaces::proofs::CoreItems::funcs_full, crate::proofs::ExportAliases::instances_full))]
 pub fn check_sort_room(
     spaces: &Spaces,
     kind: ComponentExternalKind,

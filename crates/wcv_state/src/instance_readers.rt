@@ -1,13 +1,13 @@
 // What stands in the spaces of instances and of components, and items of any sort.
 ghost use Rattle.std.specs.Prelude.{◌≡◌, Some, slice_get, IfOk, IfErr};
 ghost use Rattle.wcv_lower.specs.Checks.{missing};
-ghost use Rattle.wcv_state.specs.Looking.{item_id, item_id_checks};
-ghost use Rattle.wcv_state.specs.Promises.{CausedBy};
+ghost use Rattle.wcv_spaces.specs.Looking.{item_id, item_id_checks};
+ghost use Rattle.wcv_spaces.specs.Promises.{CausedBy};
 
-use crate::forms::item_at;
-use crate::indices::element_at;
 use crate::state::ComponentState;
 use wcv_core::Refusal;
+use wcv_spaces::entities::item_at;
+use wcv_spaces::indices::element_at;
 use wcv_syntax::ComponentExternalKind;
 use wcv_types::{ComponentEntityType, ComponentInstanceTypeId, ComponentTypeId};
 

@@ -1,13 +1,13 @@
 // Core types that join their space.
-use crate::indices::sub_type_at;
 use crate::state::ComponentState;
 use std::mem::replace;
 use wcv_core::{CoreTypeId, InternRecGroup, OutOfMemory, Refusal, WasmFeatures};
+use wcv_spaces::indices::sub_type_at;
 use wcv_types::ComponentCoreTypeId;
 
 /// The space of core types is the one to which a group's types join.
 impl InternRecGroup for ComponentState {
-    ghost use Rattle.wcv_state.specs.Contents.{core_entries_of, with_sub, spent};
+    ghost use Rattle.wcv_spaces.specs.Contents.{core_entries_of, with_sub, spent};
 
     ghost entries = { core_entries_of };
 

@@ -8,18 +8,19 @@ ghost use Rattle.wcv_lower.specs.Entries as rules;
 ghost use Rattle.wcv_lower.specs.Entries.{written_checks, found_checks, exported_values};
 ghost use Rattle.wcv_lower.specs.Trees.{Tree_context};
 ghost use Rattle.wcv_lower.specs.Values.{kind_checks};
-ghost use Rattle.wcv_state.specs.Bringing.{Found};
-ghost use Rattle.wcv_state.specs.Contents.{with_uses, context_of, StateStands};
-ghost use Rattle.wcv_state.specs.Instances.{MayOpen, ItemMayOpen, EntityMayOpen};
-ghost use Rattle.wcv_state.specs.Looking.{GivesItem};
-ghost use Rattle.wcv_state.specs.Promises.{MemoryOrCausedBy, Keeps, Grew, Refuses, RefusesBy, WrittenEntity, Exported, ItemCaused, Entered, EntryCaused, is_instance_entity, MayJoinExports};
+ghost use Rattle.wcv_spaces.specs.Bringing.{Found};
+ghost use Rattle.wcv_spaces.specs.Contents.{with_uses, context_of, StateStands};
+ghost use Rattle.wcv_instantiate.specs.Instances.{MayOpen, ItemMayOpen, EntityMayOpen};
+ghost use Rattle.wcv_spaces.specs.Looking.{GivesItem};
+ghost use Rattle.wcv_spaces.specs.Promises.{MemoryOrCausedBy, Keeps, Grew, Refuses, RefusesBy, WrittenEntity, Exported, ItemCaused, Entered, EntryCaused, is_instance_entity, MayJoinExports};
 
-use crate::ascribing::check_ascribed;
-use crate::bringing::{NewEntity, open_entity};
-use crate::features::check_kind;
-use crate::forms::{exported, item_at, written};
 use crate::state::ComponentState;
 use wcv_core::Error;
+use wcv_instantiate::ascribing::check_ascribed;
+use wcv_instantiate::opening::open_entity;
+use wcv_spaces::entities::{exported, item_at, written};
+use wcv_spaces::features::check_kind;
+use wcv_spaces::new_entity::NewEntity;
 use wcv_syntax::{ComponentExport, ComponentExternName, ComponentImport, ComponentTypeRef};
 use wcv_types::{ComponentEntityType, TypeAlloc};
 

@@ -5,16 +5,16 @@ ghost use Rattle.wcv_types.specs.Unfold.{trees};
 ghost use Rattle.wcv_lower.specs.Context.{importing, exporting};
 ghost use Rattle.wcv_lower.specs.Entries.{extern_name, join_checks};
 ghost use Rattle.wcv_lower.specs.Owned.{IsLed};
-ghost use Rattle.wcv_state.specs.Bringing.{MayJoin, AreNewIn, HasJoined};
-ghost use Rattle.wcv_state.specs.Contents.{context_of, StateStands};
-ghost use Rattle.wcv_state.specs.Looking.{IsUnnamedIn};
-ghost use Rattle.wcv_state.specs.Promises.{MemoryOrCausedBy, Keeps};
+ghost use Rattle.wcv_spaces.specs.Bringing.{MayJoin, AreNewIn, HasJoined};
+ghost use Rattle.wcv_spaces.specs.Contents.{context_of, StateStands};
+ghost use Rattle.wcv_spaces.specs.Looking.{IsUnnamedIn};
+ghost use Rattle.wcv_spaces.specs.Promises.{MemoryOrCausedBy, Keeps};
 
-use crate::bringing::NewEntity;
-use crate::entries::enter;
-use crate::resources::{export_resources, import_resources};
 use crate::state::ComponentState;
 use wcv_core::{Error, ExternKind};
+use wcv_resources::resources::{export_resources, import_resources};
+use wcv_spaces::entries::enter;
+use wcv_spaces::new_entity::NewEntity;
 use wcv_syntax::ComponentExternName;
 use wcv_types::TypeAlloc;
 

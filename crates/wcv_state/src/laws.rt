@@ -29,8 +29,8 @@ ghost use Rattle.wcv_lower.specs.Slots.{slot_reader, to_trees, slot_maker, next_
 ghost use Rattle.wcv_lower.specs.Step.{apply, enters};
 ghost use Rattle.wcv_lower.specs.Trees.{Tree_context, tree_reader, tree_maker, node_tree};
 ghost use Rattle.wcv_lower.specs.Uses.{uses, uses_again, uses_new, uses_node, uses_instance};
-ghost use Rattle.wcv_state.specs.Contents.{Contents, with_uses, context_of, stack_of, StateStands};
-ghost use Rattle.wcv_state.specs.Promises.{numbers_of, Grew, WrittenEntity, Exported, Entered, ExportDeclared};
+ghost use Rattle.wcv_spaces.specs.Contents.{Contents, with_uses, context_of, stack_of, StateStands};
+ghost use Rattle.wcv_spaces.specs.Promises.{numbers_of, Grew, WrittenEntity, Exported, Entered, ExportDeclared};
 ghost use Rattle.wcv_state.specs.Slots.{slot_stack_of};
 
 /// What the rules make of the ids of open states is what they make of the trees that those stand for, and the

@@ -8,22 +8,23 @@ ghost use Rattle.wcv_lower.specs.Checks.{IsFree, if_found, missing};
 ghost use Rattle.wcv_lower.specs.Context.{is_concrete};
 ghost use Rattle.wcv_lower.specs.Trees.{tree_reader};
 ghost use Rattle.wcv_state.specs.Aliasing.{outer_id, with_aliased, is_entity, aliased_tree, AliasedStands, charge_of, crossing_checks, boundary_checks, after_target, charge_in, outer_id_checks, OuterFinds, AliasedOn};
-ghost use Rattle.wcv_state.specs.Contents.{kind_of, spent, with_charge};
-ghost use Rattle.wcv_state.specs.Entering.{room_counts};
-ghost use Rattle.wcv_state.specs.Inside.{lists};
-ghost use Rattle.wcv_state.specs.Promises.{CausedBy, MemoryOrCausedBy};
+ghost use Rattle.wcv_spaces.specs.Contents.{kind_of, spent, with_charge};
+ghost use Rattle.wcv_spaces.specs.Entering.{room_counts};
+ghost use Rattle.wcv_spaces.specs.Parts.{lists};
+ghost use Rattle.wcv_spaces.specs.Promises.{CausedBy, MemoryOrCausedBy};
 ghost use Rattle.wcv_state.specs.Stack.{IsOpen, ChangesLast, KeepsOn, innermost, stay};
 
-use crate::entries::check_count;
 use crate::export_aliases::check_sort_room;
-use crate::kind::ComponentKind;
-use crate::spaces::{Spaces, both};
 use crate::state::ComponentState;
 use wcv_core::limits::{MAX_ENTRIES, MAX_SIZE};
 use wcv_core::{Error, ErrorKind, OutOfMemory, Refusal, Why};
 use wcv_names::entity_info;
+use wcv_spaces::entries::check_count;
+use wcv_spaces::kind::ComponentKind;
+use wcv_spaces::spaces::{Spaces, both};
 use wcv_syntax::{ComponentAlias, ComponentExternalKind, ComponentOuterAliasKind};
 use wcv_types::{ComponentCoreTypeId, ComponentEntityType, ResourceSet, TypeAlloc};
+use wcv_walks::FreeVariables;
 
 /// What an outer alias brings, by its id: of a type both nodes are the one that stands there.
 #[derive(Clone, Copy)]
@@ -64,7 +65,7 @@ fn check_kind(
 }
 
 /// Whether there is room for one more item of the sort.
-#[tactic(auto, using(crate::proofs::CoreItems::funcs_full, crate::proofs::OuterAliases::one_more))]
+#[tactic(auto, using(wcv_spaces::proofs::CoreItems::funcs_full, crate::proofs::OuterAliases::one_more))]
 fn check_outer_room(
     spaces: &Spaces,
     kind: ComponentOuterAliasKind,
@@ -119,7 +120,7 @@ fn free_at_boundary(kind: ComponentOuterAliasKind, offset: u64) -> Refusal<'stat
 
 impl ComponentState {
     /// What stands in this state for an outer alias.
-    #[tactic(auto, using(crate::proofs::CoreItems::missing_mapped))]
+    #[tactic(auto, using(wcv_spaces::proofs::CoreItems::missing_mapped))]
     fn outer_item(
         &self,
         kind: ComponentOuterAliasKind,

@@ -6,13 +6,13 @@ ghost use Rattle.wcv_types.specs.declared.arena.Node.TheVariants as node;
 ghost use Rattle.wcv_types.specs.declared.ids.Part.TheVariants as part;
 ghost use Rattle.wcv_lower.specs.Context.{in_types, in_funcs, in_values, in_instances, in_components, core_types, core_funcs, core_tags, core_modules, core_instances, core_memories, core_tables, core_globals};
 ghost use Rattle.wcv_state.specs.Aliasing.{with_entity};
-ghost use Rattle.wcv_state.specs.Contents.{with_id, with_core, with_defined, spent};
-ghost use Rattle.wcv_state.specs.Looking.{has_resource};
-ghost use Rattle.wcv_state.specs.Promises.{AddsComponent};
+ghost use Rattle.wcv_spaces.specs.Contents.{with_id, with_core, with_defined, spent};
+ghost use Rattle.wcv_spaces.specs.Looking.{has_resource};
+ghost use Rattle.wcv_spaces.specs.Promises.{AddsComponent};
 
-use crate::spaces::append;
 use crate::state::ComponentState;
 use wcv_core::{CoreTypeId, GlobalType, MemoryType, OutOfMemory, TableType, ValType};
+use wcv_spaces::spaces::append;
 use wcv_types::{
     ComponentAnyTypeId, ComponentCoreInstanceTypeId, ComponentCoreModuleTypeId,
     ComponentCoreTypeId, ComponentEntityType, ComponentFuncTypeId, ComponentInstanceTypeId,

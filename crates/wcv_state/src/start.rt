@@ -15,22 +15,22 @@ ghost use Rattle.wcv_names.specs.Shapes.{FuncStands, ParamsStand};
 ghost use Rattle.wcv_lower.specs.Checks.{IsFree};
 ghost use Rattle.wcv_lower.specs.Context.{in_funcs, in_values};
 ghost use Rattle.wcv_lower.specs.Trees.{Tree_context, tree_reader};
-ghost use Rattle.wcv_state.specs.Contents.{IdStands, StateStands, used_at};
-ghost use Rattle.wcv_state.specs.Inside.{lists};
-ghost use Rattle.wcv_state.specs.Promises.{MemoryOrCausedBy, Keeps, Grew, Refuses};
+ghost use Rattle.wcv_spaces.specs.Contents.{IdStands, StateStands, used_at};
+ghost use Rattle.wcv_spaces.specs.Parts.{lists};
+ghost use Rattle.wcv_spaces.specs.Promises.{MemoryOrCausedBy, Keeps, Grew, Refuses};
 ghost use Rattle.wcv_state.specs.Starting.{value_tree, begin_checks, count_checks, argument_checks, room_checks, start_id_checks, with_given, IsStarted};
 
-use crate::entries::check_count;
-use crate::features::check_feature;
-use crate::indices::element_at;
-use crate::spaces::{Spaces, append};
 use crate::state::ComponentState;
-use crate::values::use_value;
 use bitflags::Flags;
 use std::marker::Brand;
 use std::sync::ledger::{Blank, Ledger};
 use wcv_core::limits::MAX_INSTANCES;
 use wcv_core::{Error, ErrorKind, Excerpt, Refusal, Text, WasmFeatures, Why};
+use wcv_spaces::entries::check_count;
+use wcv_spaces::features::check_feature;
+use wcv_spaces::indices::element_at;
+use wcv_spaces::spaces::{Spaces, append};
+use wcv_spaces::values::use_value;
 use wcv_subtype::component_val_type;
 use wcv_types::{ComponentFuncType, ComponentFuncTypeId, ComponentValType, Steps, TypeAlloc};
 
@@ -41,7 +41,7 @@ fn check_begin(features: &WasmFeatures, started: bool, offset: u64) -> Result<()
 {
     check_feature(
         features.contains(WasmFeatures::CM_VALUES),
-        "cm-values",
+        WasmFeatures::CM_VALUES,
         "a start item",
         offset,
     )?;

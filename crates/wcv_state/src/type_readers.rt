@@ -4,14 +4,14 @@ ghost use Rattle.std.specs.Option.{option_map};
 ghost use Rattle.wcv_types.specs.Tree.{is_func, is_resource, is_value};
 ghost use Rattle.wcv_types.specs.declared.ids.ComponentAnyTypeId.TheVariants as any;
 ghost use Rattle.wcv_lower.specs.Checks.{missing, missing_of};
-ghost use Rattle.wcv_state.specs.Looking as looking;
-ghost use Rattle.wcv_state.specs.Looking.{any_sort, local_rep_checks};
-ghost use Rattle.wcv_state.specs.Promises.{CausedBy};
+ghost use Rattle.wcv_spaces.specs.Looking as looking;
+ghost use Rattle.wcv_spaces.specs.Looking.{any_sort, local_rep_checks};
+ghost use Rattle.wcv_spaces.specs.Promises.{CausedBy};
 
-use crate::indices::{defined_type_at, element_at, func_type_at};
-use crate::resources::{local_rep, resource_at};
 use crate::state::ComponentState;
 use wcv_core::{Refusal, ValType};
+use wcv_resources::resources::{local_rep, resource_at};
+use wcv_spaces::indices::{defined_type_at, element_at, func_type_at};
 use wcv_types::{
     AliasableResourceId, ComponentAnyTypeId, ComponentDefinedTypeId, ComponentFuncTypeId,
     ResourceId,

@@ -1,6 +1,6 @@
 use Rattle.wcv_lower.specs.Context.{in_types}
 use Rattle.wcv_types.specs.declared.ids.ComponentAnyTypeId.TheVariants as any
-use Rattle.wcv_state.proofs.Found.{stands_at}
+use Rattle.wcv_spaces.proofs.Found.{stands_at}
 use Rattle.wcv_call_tests.proofs.joining.is_laid_out.Goals as goal
 
 pub abi_info-requires : goal.abi_info-requires

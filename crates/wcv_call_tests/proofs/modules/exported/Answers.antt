@@ -1,5 +1,5 @@
 use Rattle.std.proofs.Common.{ap, ◌∙◌}
-use Rattle.wcv_state.specs.Contents.{Contents}
+use Rattle.wcv_spaces.specs.Contents.{Contents}
 use Rattle.wcv_call_tests.proofs.modules.exported.Goals as goal
 
 pub returns-in-Ok : goal.returns-in-Ok

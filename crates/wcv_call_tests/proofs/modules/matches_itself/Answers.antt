@@ -1,5 +1,5 @@
 use Rattle.wcv_lower.specs.Context.{core_modules}
-use Rattle.wcv_state.proofs.Found.{core_stands_at}
+use Rattle.wcv_spaces.proofs.Found.{core_stands_at}
 use Rattle.wcv_call_tests.proofs.modules.matches_itself.Goals as goal
 
 pub module_type-requires-clause-a : goal.module_type-requires-clause-a

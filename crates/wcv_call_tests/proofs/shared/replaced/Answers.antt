@@ -2,7 +2,7 @@ use Rattle.std.proofs.Common.{◌≡◌, [], ◌∷◌, ◌++◌, ◌∙◌, ap,
 use Rattle.wcv_types.specs.Unfold.{tree_at}
 use Rattle.wcv_types.specs.declared.ids.Part.TheVariants as p
 use Rattle.wcv_types.specs.declared.shapes.ComponentEntityType.TheVariants as entity
-use Rattle.wcv_subtype.specs.Map.{Map, resource_to}
+use Rattle.wcv_remap.specs.Map.{Map, resource_to}
 use Rattle.wcv_call_tests.proofs.MadeOf.{later, no_type_given, one_given, reached_among}
 use Rattle.wcv_call_tests.proofs.shared.replaced.Goals as goal
 

@@ -1,5 +1,5 @@
 use Rattle.std.proofs.Common.{◌++◌, ◌∷◌, [], ◌∙◌}
-use Rattle.wcv_state.specs.declared.kind.ComponentKind.TheVariants as kind
+use Rattle.wcv_spaces.specs.declared.kind.ComponentKind.TheVariants as kind
 use Rattle.wcv_call_tests.proofs.Opened.{alone_ready}
 use Rattle.wcv_call_tests.proofs.states.alone.Goals as goal
 

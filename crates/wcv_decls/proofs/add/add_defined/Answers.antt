@@ -8,8 +8,8 @@ use Rattle.wcv_types.specs.declared.arena.Node.TheVariants as node
 use Rattle.wcv_lower.specs.Checks.{Checks, IsFree, if_found}
 use Rattle.wcv_lower.specs.Defined.{own_checks, made_checks, handle_index, written_parts, content_checks, size_checks, node_checks, defined_made}
 use Rattle.wcv_lower.specs.Trees.{Tree_context, tree_reader, tree_maker}
-use Rattle.wcv_state.specs.Contents.{context_of}
-use Rattle.wcv_state.specs.Promises.{MemoryOrCausedBy}
+use Rattle.wcv_spaces.specs.Contents.{context_of}
+use Rattle.wcv_spaces.specs.Promises.{MemoryOrCausedBy}
 use Rattle.wcv_core.proofs.Closing.{caused_same}
 use Rattle.wcv_decls.specs.Resolved.{resolve_checks}
 use Rattle.wcv_decls.proofs.Adding.{shape_fits, defined_added, all_free, sizes_same, own_caused, resolve_caused, size_caused}

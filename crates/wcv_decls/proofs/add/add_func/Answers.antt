@@ -10,8 +10,8 @@ use Rattle.wcv_lower.specs.Defined.{has_borrow, size_checks, node_checks}
 use Rattle.wcv_lower.specs.Trees.{Tree_context, tree_reader, tree_maker}
 use Rattle.wcv_lower.specs.Types.{func_own_checks, func_parts, func_made}
 use Rattle.wcv_lower.specs.Values.{option_entry, parts_checks}
-use Rattle.wcv_state.specs.Contents.{context_of}
-use Rattle.wcv_state.specs.Promises.{MemoryOrCausedBy}
+use Rattle.wcv_spaces.specs.Contents.{context_of}
+use Rattle.wcv_spaces.specs.Promises.{MemoryOrCausedBy}
 use Rattle.wcv_core.proofs.Closing.{caused_same}
 use Rattle.wcv_decls.specs.Resolved.{func_resolve_checks}
 use Rattle.wcv_decls.proofs.Adding.{func_added, all_free, func_sizes_same, func_own_caused, func_resolve_caused, func_size_caused}

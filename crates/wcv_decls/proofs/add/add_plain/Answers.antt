@@ -9,8 +9,8 @@ use Rattle.wcv_lower.specs.Checks.{IsFree}
 use Rattle.wcv_lower.specs.Names.{Names}
 use Rattle.wcv_lower.specs.Trees.{Tree_context, tree_maker}
 use Rattle.wcv_lower.specs.Types.{tree_checks}
-use Rattle.wcv_state.specs.Contents.{stack_of}
-use Rattle.wcv_state.specs.Promises.{MemoryOrCausedBy}
+use Rattle.wcv_spaces.specs.Contents.{stack_of}
+use Rattle.wcv_spaces.specs.Promises.{MemoryOrCausedBy}
 use Rattle.wcv_decls.specs.Items.{Declares}
 use Rattle.wcv_decls.proofs.Naming.{node_declares}
 use Rattle.wcv_decls.proofs.add.add_plain.Goals as goal

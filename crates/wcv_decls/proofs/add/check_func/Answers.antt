@@ -6,10 +6,11 @@ use Rattle.wcv_syntax.specs.declared.component_type.ComponentValType.{ComponentV
 use Rattle.wcv_types.specs.Tree.{Text}
 use Rattle.wcv_lower.specs.Checks.{IsFree, label_checks}
 use Rattle.wcv_lower.specs.Types.{func_own_checks, param_names}
-use Rattle.wcv_lower.specs.Values.{lacks, cm_async}
+use Rattle.wcv_core.specs.Features.{cm_async}
+use Rattle.wcv_lower.specs.Values.{lacks}
 use Rattle.wcv_lower.proofs.Causes.{cause_right, free_both}
-use Rattle.wcv_state.specs.Promises.{MemoryOrCausedBy}
-use Rattle.wcv_state.proofs.Calls.{caused_more}
+use Rattle.wcv_spaces.specs.Promises.{MemoryOrCausedBy}
+use Rattle.wcv_spaces.proofs.Calls.{caused_more}
 use Rattle.wcv_decls.proofs.add.check_func.Goals as goal
 
 pub returns-clause-ok : goal.returns-clause-ok

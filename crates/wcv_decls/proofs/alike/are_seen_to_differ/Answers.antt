@@ -1,5 +1,5 @@
 use Rattle.std.proofs.Common.{ap, subst, not}
-use Rattle.wcv_state.specs.NameLists.{list_names}
+use Rattle.wcv_spaces.specs.NameLists.{list_names}
 use Rattle.wcv_decls.specs.Numbers.{Ascend}
 use Rattle.wcv_decls.proofs.Ascending.{all_different}
 use Rattle.wcv_decls.proofs.alike.are_seen_to_differ.Goals as goal

@@ -1,5 +1,5 @@
 use Rattle.std.proofs.Common.{ap, ◌∙◌, ◌++◌, [], ◌∷◌}
-use Rattle.wcv_state.specs.NameLists.{list_names}
+use Rattle.wcv_spaces.specs.NameLists.{list_names}
 use Rattle.wcv_decls.specs.Numbers.{number_of}
 use Rattle.wcv_decls.proofs.Ascending.{numbers_next}
 use Rattle.wcv_decls.proofs.alike.numbers.Goals as goal

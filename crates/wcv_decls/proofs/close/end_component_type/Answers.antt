@@ -4,7 +4,7 @@ use Rattle.wcv_core.specs.Names.{number}
 use Rattle.wcv_types.specs.declared.arena.Node.TheVariants as n
 use Rattle.wcv_types.proofs.Grown.{extends_refl}
 use Rattle.wcv_lower.specs.Context.{declares_component}
-use Rattle.wcv_state.specs.Contents.{Contents, StateStands}
+use Rattle.wcv_spaces.specs.Contents.{Contents, StateStands}
 use Rattle.wcv_state.proofs.Stacks.{around_kept}
 use Rattle.wcv_decls.specs.Declaring.{innermost, around, SameAround, Ends}
 use Rattle.wcv_decls.specs.Stack.{IsOpen, all_spent, all_uncharged, stay, ChangesLast, KeepsOn}

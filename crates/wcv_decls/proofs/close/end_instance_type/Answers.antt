@@ -6,7 +6,7 @@ use Rattle.wcv_lower.specs.Defined.{is_empty}
 use Rattle.wcv_lower.specs.Ending.{instance_made}
 use Rattle.wcv_lower.specs.Context.{declares_instance}
 use Rattle.wcv_lower.specs.Trees.{Entries}
-use Rattle.wcv_state.specs.Contents.{Contents, context_of, StateStands}
+use Rattle.wcv_spaces.specs.Contents.{Contents, context_of, StateStands}
 use Rattle.wcv_state.proofs.Stacks.{around_kept}
 use Rattle.wcv_decls.specs.Declaring.{innermost, around, SameAround, Ends}
 use Rattle.wcv_decls.specs.Stack.{IsOpen, all_spent, all_uncharged, stay, ChangesLast, KeepsOn}

@@ -1,8 +1,8 @@
 use Rattle.std.proofs.Common.{◌≡◌, ap, sym, ◌∙◌, subst}
 use Rattle.std.specs.Prelude.{IfOk, IfErr}
 use Rattle.wcv_lower.specs.Ending.{end_checks}
-use Rattle.wcv_state.specs.Contents.{Contents, context_of, StateStands}
-use Rattle.wcv_state.specs.Promises.{MemoryOrCausedBy, Finished}
+use Rattle.wcv_spaces.specs.Contents.{Contents, context_of, StateStands}
+use Rattle.wcv_spaces.specs.Promises.{MemoryOrCausedBy, Finished}
 use Rattle.wcv_decls.specs.Declaring.{innermost}
 use Rattle.wcv_decls.proofs.InnermostStates.{innermost_at, around_at, open_here}
 use Rattle.wcv_decls.proofs.close.pop_type.Goals as goal

@@ -7,9 +7,9 @@ use Rattle.wcv_lower.specs.Checks.{Checks, IsFree, no_room, too_many}
 use Rattle.wcv_lower.specs.Context.{counts}
 use Rattle.wcv_lower.specs.Declared.{full_stack}
 use Rattle.wcv_lower.proofs.Causes.{cause_left, cause_right, free_both}
-use Rattle.wcv_state.specs.Contents.{Contents, context_of}
-use Rattle.wcv_state.specs.Promises.{MemoryOrCausedBy}
-use Rattle.wcv_state.proofs.Calls.{caused_more}
+use Rattle.wcv_spaces.specs.Contents.{Contents, context_of}
+use Rattle.wcv_spaces.specs.Promises.{MemoryOrCausedBy}
+use Rattle.wcv_spaces.proofs.Calls.{caused_more}
 use Rattle.wcv_decls.specs.Declaring.{innermost, around, stack_in, top_in}
 use Rattle.wcv_decls.proofs.InnermostStates.{parted}
 use Rattle.wcv_decls.proofs.Opening.{open_count}

@@ -1,5 +1,5 @@
 use Rattle.std.proofs.Common.{List, subst, sym, ◌∙◌}
-use Rattle.wcv_state.specs.Contents.{Contents}
+use Rattle.wcv_spaces.specs.Contents.{Contents}
 use Rattle.wcv_state.proofs.Stacks.{kept_marked}
 use Rattle.wcv_decls.specs.Declaring.{around}
 use Rattle.wcv_decls.specs.Stack.{KeepsOn}

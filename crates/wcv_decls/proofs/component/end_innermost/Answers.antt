@@ -7,7 +7,7 @@ use Rattle.wcv_lower.specs.Context.{concrete}
 use Rattle.wcv_lower.specs.Ending.{end_checks}
 use Rattle.wcv_lower.specs.Marks.{unused_checks}
 use Rattle.wcv_lower.proofs.Causes.{free_both}
-use Rattle.wcv_state.specs.Contents.{Contents, StateStands}
+use Rattle.wcv_spaces.specs.Contents.{Contents, StateStands}
 use Rattle.wcv_state.proofs.Stacks.{around_kept}
 use Rattle.wcv_decls.specs.Declaring.{innermost, around, top_in, Ends}
 use Rattle.wcv_decls.specs.Stack.{IsOpen, all_spent, stay, ChangesLast, KeepsOn}

@@ -2,9 +2,9 @@ use Rattle.std.proofs.Common.{◌≡◌, subst, sym, refl, true}
 use Rattle.std.proofs.lemmas.Result.{err_from_is_err_and}
 use Rattle.wcv_types.specs.declared.arena.Node.TheVariants as node
 use Rattle.wcv_lower.specs.Context.{in_components}
-use Rattle.wcv_state.specs.Contents.{Contents}
-use Rattle.wcv_state.specs.Promises.{Keeps}
-use Rattle.wcv_state.proofs.Keeping.{keeps_grown_marked}
+use Rattle.wcv_spaces.specs.Contents.{Contents}
+use Rattle.wcv_spaces.specs.Promises.{Keeps}
+use Rattle.wcv_spaces.proofs.Keeping.{keeps_grown_marked}
 use Rattle.wcv_decls.proofs.Storing.{stored_in}
 use Rattle.wcv_decls.proofs.component.join_component.Goals as goal
 

@@ -7,9 +7,9 @@ use Rattle.wcv_lower.specs.Ending.{end_checks, component_end_checks}
 use Rattle.wcv_lower.specs.Marks.{unused_checks}
 use Rattle.wcv_lower.specs.Trees.{Tree_context}
 use Rattle.wcv_lower.proofs.Causes.{cause_left, cause_right}
-use Rattle.wcv_state.specs.Contents.{Contents, context_of}
-use Rattle.wcv_state.specs.Promises.{MemoryOrCausedBy}
-use Rattle.wcv_state.proofs.Calls.{caused_more}
+use Rattle.wcv_spaces.specs.Contents.{Contents, context_of}
+use Rattle.wcv_spaces.specs.Promises.{MemoryOrCausedBy}
+use Rattle.wcv_spaces.proofs.Calls.{caused_more}
 use Rattle.wcv_decls.specs.Declaring.{innermost, around, top_in}
 use Rattle.wcv_decls.proofs.InnermostStates.{parted}
 use Rattle.wcv_decls.proofs.component.pop_component.Goals as goal

@@ -3,7 +3,7 @@ use Rattle.std.proofs.lemmas.Result.{err_from_is_err_and}
 use Rattle.wcv_syntax.specs.declared.core_section.InstantiationArg.{InstantiationArg}
 use Rattle.wcv_lower.specs.CoreInstances.{arg_names}
 use Rattle.wcv_lower.specs.Checks.{IsFree, too_long}
-use Rattle.wcv_state.specs.Promises.{MemoryOrCausedBy}
+use Rattle.wcv_spaces.specs.Promises.{MemoryOrCausedBy}
 use Rattle.wcv_decls.proofs.Texts.{named_at, texts_caused, texts_push}
 use Rattle.wcv_decls.proofs.core_limits.check_arg_names.Goals as goal
 

@@ -4,9 +4,9 @@ use Rattle.wcv_syntax.specs.View.{code_decl_view}
 use Rattle.wcv_lower.specs.Context.{core_modules}
 use Rattle.wcv_lower.specs.CoreItems.{module_made}
 use Rattle.wcv_lower.proofs.ModulesMade.{made_same}
-use Rattle.wcv_state.specs.Contents.{Contents}
-use Rattle.wcv_state.specs.Promises.{Keeps}
-use Rattle.wcv_state.proofs.Keeping.{state_stands, keeps_grown_marked}
+use Rattle.wcv_spaces.specs.Contents.{Contents}
+use Rattle.wcv_spaces.specs.Promises.{Keeps}
+use Rattle.wcv_spaces.proofs.Keeping.{state_stands, keeps_grown_marked}
 use Rattle.wcv_decls.proofs.CoreModules.{core_module_grew, core_module_refused, joins_made}
 use Rattle.wcv_decls.proofs.core_module.add_core_module_to.Goals as goal
 

@@ -1,8 +1,8 @@
 use Rattle.std.proofs.Common.{refl, subst, sym, true}
 use Rattle.std.proofs.lemmas.Result.{err_from_is_err_and}
-use Rattle.wcv_state.specs.Contents.{Contents}
-use Rattle.wcv_state.specs.Promises.{Keeps}
-use Rattle.wcv_state.proofs.Keeping.{keeps_marked_in, keeps_grown_marked}
+use Rattle.wcv_spaces.specs.Contents.{Contents}
+use Rattle.wcv_spaces.specs.Promises.{Keeps}
+use Rattle.wcv_spaces.proofs.Keeping.{keeps_marked_in, keeps_grown_marked}
 use Rattle.wcv_decls.specs.CoreItems.{JoinedModule, core_space}
 use Rattle.wcv_decls.proofs.CoreModules.{module_joined, module_joins_with}
 use Rattle.wcv_decls.proofs.core_module.join_module.Goals as goal

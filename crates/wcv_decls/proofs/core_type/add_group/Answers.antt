@@ -6,10 +6,10 @@ use Rattle.wcv_types.specs.Arena.{Arena}
 use Rattle.wcv_types.proofs.Grown.{extends_refl}
 use Rattle.wcv_lower.specs.Checks.{IsFree, no_core_type_room}
 use Rattle.wcv_lower.specs.Context.{counts}
-use Rattle.wcv_state.specs.Contents.{Contents, context_of, core_entries_of}
-use Rattle.wcv_state.specs.Promises.{MemoryOrCausedBy}
+use Rattle.wcv_spaces.specs.Contents.{Contents, context_of, core_entries_of}
+use Rattle.wcv_spaces.specs.Promises.{MemoryOrCausedBy}
 use Rattle.wcv_state.proofs.CoreTypes.{entries_known}
-use Rattle.wcv_state.proofs.Keeping.{keeps_grown}
+use Rattle.wcv_spaces.proofs.Keeping.{keeps_grown}
 use Rattle.wcv_core.proofs.Closing.{caused_same}
 use Rattle.wcv_decls.proofs.CoreGroups.{group_caused, room_caused, group_grew, group_left, group_keeps}
 use Rattle.wcv_decls.proofs.core_type.add_group.Goals as goal

@@ -2,7 +2,7 @@ use Rattle.std.proofs.Common.{◌≡◌, ℕ, ◌-◌, List, length, refl, sym, 
 use Rattle.wcv_syntax.specs.Model.{Form, core_type_item, core_rec}
 use Rattle.wcv_core.specs.CoreForm.{group_form}
 use Rattle.wcv_lower.specs.Given.{names_of, none_given}
-use Rattle.wcv_state.specs.Contents.{Contents}
+use Rattle.wcv_spaces.specs.Contents.{Contents}
 use Rattle.wcv_state.specs.Stack.{innermost}
 use Rattle.wcv_lower.specs.Context.{core_types}
 use Rattle.wcv_decls.proofs.CoreModules.{joins_none}

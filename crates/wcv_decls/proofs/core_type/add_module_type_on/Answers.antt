@@ -3,10 +3,10 @@ use Rattle.wcv_syntax.specs.Model.{Form, core_type_item, core_module_type}
 use Rattle.wcv_syntax.specs.View.{module_decl_view}
 use Rattle.wcv_types.proofs.Grown.{extends_trans}
 use Rattle.wcv_lower.specs.Context.{core_types}
-use Rattle.wcv_state.specs.Contents.{Contents, StateStands}
-use Rattle.wcv_state.specs.Promises.{Keeps}
+use Rattle.wcv_spaces.specs.Contents.{Contents, StateStands}
+use Rattle.wcv_spaces.specs.Promises.{Keeps}
 use Rattle.wcv_state.specs.Stack.{innermost}
-use Rattle.wcv_state.proofs.Keeping.{state_stands, keeps_grown, keeps_trans}
+use Rattle.wcv_spaces.proofs.Keeping.{state_stands, keeps_grown, keeps_trans}
 use Rattle.wcv_state.proofs.Stacks.{indexed, last_stands, grew_on, refused_on, kept_on, kept_marked, around_kept}
 use Rattle.wcv_decls.specs.Stack.{RefusedOn, KeepsOn}
 use Rattle.wcv_decls.proofs.CoreModules.{module_type_grew, module_keeps, type_joins_made, module_type_counted}

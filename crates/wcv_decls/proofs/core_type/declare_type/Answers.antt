@@ -7,7 +7,7 @@ use Rattle.wcv_decls.proofs.CoreEntries.{around_known}
 use Rattle.wcv_decls.proofs.CoreModules.{made_in, free_in, declared_caused, room_caused}
 use Rattle.wcv_lower.specs.Checks.{no_type_room}
 use Rattle.wcv_lower.specs.Context.{counts}
-use Rattle.wcv_state.specs.Contents.{context_of}
+use Rattle.wcv_spaces.specs.Contents.{context_of}
 use Rattle.wcv_decls.proofs.core_type.declare_type.Goals as goal
 
 pub returns-in_err-check_types-clause-err : goal.returns-in_err-check_types-clause-err

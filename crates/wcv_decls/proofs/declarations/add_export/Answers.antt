@@ -2,9 +2,9 @@ use Rattle.std.proofs.Common.{◌≡◌, [], ap, subst, sym, ◌∙◌, true}
 use Rattle.std.proofs.lemmas.Result.{err_from_is_err_and, on_ok_weaker, IfErr-weaker}
 use Rattle.wcv_lower.specs.Owned.{IsLed}
 use Rattle.wcv_lower.specs.Trees.{Tree_context}
-use Rattle.wcv_state.specs.Contents.{Contents, context_of}
-use Rattle.wcv_state.specs.Promises.{Entered, EntryCaused}
-use Rattle.wcv_state.proofs.Keeping.{keeps_trans, same_context}
+use Rattle.wcv_spaces.specs.Contents.{Contents, context_of}
+use Rattle.wcv_spaces.specs.Promises.{Entered, EntryCaused}
+use Rattle.wcv_spaces.proofs.Keeping.{keeps_trans, same_context}
 use Rattle.wcv_state.proofs.BothCalls.{written_by_both, export_written_caused, export_entry_caused}
 use Rattle.wcv_decls.proofs.declarations.add_export.Goals as goal
 

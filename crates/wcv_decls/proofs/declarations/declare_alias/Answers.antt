@@ -4,7 +4,7 @@ use Rattle.std.proofs.lemmas.Result.{on_ok_weaker, IfErr-weaker}
 use Rattle.wcv_core.specs.Names.{Place}
 use Rattle.wcv_syntax.specs.Model.{alias_item, alias_decl}
 use Rattle.wcv_state.specs.Aliasing.{AliasedOn}
-use Rattle.wcv_state.specs.Contents.{Contents}
+use Rattle.wcv_spaces.specs.Contents.{Contents}
 use Rattle.wcv_decls.specs.Declaring.{StayReady, DeclaresInstance, SameAround, ReadsDecl}
 use Rattle.wcv_decls.specs.Stack.{IsOpen, RefusedOn, KeepsOn}
 use Rattle.wcv_decls.proofs.Outcomes.{marks_where}

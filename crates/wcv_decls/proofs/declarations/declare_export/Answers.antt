@@ -1,7 +1,7 @@
 use Rattle.std.proofs.Common.{◌≡◌, ℕ, ◌-◌, ◌∙◌, List, [], length, ap, sym, subst, slice_set}
 use Rattle.std.proofs.lemmas.Result.{on_ok_weaker, IfErr-weaker}
 use Rattle.wcv_lower.specs.Trees.{Tree_context}
-use Rattle.wcv_state.specs.Contents.{Contents, StateStands}
+use Rattle.wcv_spaces.specs.Contents.{Contents, StateStands}
 use Rattle.wcv_decls.specs.Declaring.{innermost, around, SameAround}
 use Rattle.wcv_decls.specs.Stack.{stay, ChangesLast, contexts_around}
 use Rattle.wcv_decls.proofs.InnermostStates.{indexed, last_changed, open_here, kept, marks_same}

@@ -7,8 +7,8 @@ use Rattle.wcv_lower.specs.Context.{counts}
 use Rattle.wcv_lower.specs.Trees.{tree_maker}
 use Rattle.wcv_lower.specs.Types.{tree_checks}
 use Rattle.wcv_lower.proofs.Causes.{cause_left, cause_right, free_both}
-use Rattle.wcv_state.specs.Contents.{context_of, stack_of}
-use Rattle.wcv_state.proofs.Calls.{caused_more}
+use Rattle.wcv_spaces.specs.Contents.{context_of, stack_of}
+use Rattle.wcv_spaces.proofs.Calls.{caused_more}
 use Rattle.wcv_core.proofs.Closing.{caused_same}
 use Rattle.wcv_decls.proofs.declare.declare.Goals as goal
 

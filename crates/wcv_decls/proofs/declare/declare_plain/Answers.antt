@@ -1,8 +1,8 @@
 use Rattle.std.proofs.Common.{◌≡◌, ℕ, ◌-◌, ◌∙◌, List, length, ap, sym, subst, slice_set}
 use Rattle.std.proofs.lemmas.Result.{on_ok_weaker, IfErr-weaker}
 use Rattle.wcv_syntax.specs.View.{type_view}
-use Rattle.wcv_state.specs.Contents.{Contents, StateStands}
-use Rattle.wcv_state.specs.Promises.{Keeps}
+use Rattle.wcv_spaces.specs.Contents.{Contents, StateStands}
+use Rattle.wcv_spaces.specs.Promises.{Keeps}
 use Rattle.wcv_decls.specs.Declaring.{innermost, SameAround}
 use Rattle.wcv_decls.specs.Stack.{stay, ChangesLast}
 use Rattle.wcv_decls.proofs.InnermostStates.{indexed, last_changed, open_here, kept, marks_same}

@@ -10,7 +10,7 @@ use Rattle.wcv_syntax.specs.declared.component_type.InstanceTypeDeclaration.{Ins
 use Rattle.wcv_syntax.proofs.Views.{type_view-Component, type_view-Instance, component_of_core_type, component_of_type, component_of_alias, component_of_export, component_of_import, instance_of_core_type, instance_of_type, instance_of_alias, instance_of_export}
 use Rattle.wcv_types.proofs.Grown.{extends_refl}
 use Rattle.wcv_lower.specs.Context.{declares_instance, declares_component}
-use Rattle.wcv_state.specs.Contents.{Contents}
+use Rattle.wcv_spaces.specs.Contents.{Contents}
 use Rattle.wcv_state.proofs.Stacks.{around_kept}
 use Rattle.wcv_decls.specs.Declaring.{around, SameAround, MemoryOr, ReadsType, ReadsDecl, RefusesType, RefusesDecl, RefusesDecls}
 use Rattle.wcv_decls.specs.Stack.{all_spent, all_uncharged, KeepsOn}

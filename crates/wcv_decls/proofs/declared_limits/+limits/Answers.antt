@@ -8,7 +8,7 @@ use Rattle.wcv_syntax.specs.declared.component_type.InstanceTypeDeclaration.{Ins
 use Rattle.wcv_syntax.specs.View.{type_view, component_decl_view, instance_decl_view}
 use Rattle.wcv_lower.specs.Checks.{Checks, IsFree}
 use Rattle.wcv_lower.specs.Declared.{declared_left}
-use Rattle.wcv_state.specs.Promises.{MemoryOrCausedBy}
+use Rattle.wcv_spaces.specs.Promises.{MemoryOrCausedBy}
 use Rattle.wcv_decls.proofs.DeclaredLeft.{list_left, component_left, instance_left, left_caused, left_free}
 use Rattle.wcv_decls.proofs.declared_limits.+limits.Goals as goal
 

@@ -4,8 +4,8 @@ use Rattle.wcv_syntax.specs.View.{defined_view}
 use Rattle.wcv_syntax.specs.declared.component_type.ComponentDefinedType.{ComponentDefinedType}
 use Rattle.wcv_types.specs.declared.shapes.ComponentDefinedType.TheVariants as d
 use Rattle.wcv_lower.specs.Checks.{IsFree}
-use Rattle.wcv_state.specs.Contents.{context_of}
-use Rattle.wcv_state.specs.Promises.{MemoryOrCausedBy}
+use Rattle.wcv_spaces.specs.Contents.{context_of}
+use Rattle.wcv_spaces.specs.Promises.{MemoryOrCausedBy}
 use Rattle.wcv_decls.specs.Resolved.{IsShape, resolve_checks}
 use Rattle.wcv_decls.proofs.Handles.{own_shape, borrow_shape, resource_looked_free, resource_caused}
 use Rattle.wcv_decls.proofs.defined.resolve_defined.Goals as goal

@@ -9,7 +9,7 @@ use Rattle.wcv_lower.specs.Trees.{Tree_context, tree_reader}
 use Rattle.wcv_lower.specs.Defined.{bad_key, bad_map_value}
 use Rattle.wcv_lower.specs.Values.{value_entry, parts_checks}
 use Rattle.wcv_lower.proofs.Causes.{free_both}
-use Rattle.wcv_state.specs.Contents.{context_of}
+use Rattle.wcv_spaces.specs.Contents.{context_of}
 use Rattle.wcv_decls.proofs.Shapes.{two_free, second_caused, looked_up, found_free}
 use Rattle.wcv_decls.proofs.defined.resolve_map.Goals as goal
 

@@ -16,7 +16,7 @@ use Rattle.wcv_lower.specs.Defined.{has_borrow}
 use Rattle.wcv_lower.specs.Types.{func_parts}
 use Rattle.wcv_lower.specs.Values.{option_entry, parts_checks}
 use Rattle.wcv_lower.proofs.Causes.{free_both}
-use Rattle.wcv_state.specs.Contents.{context_of}
+use Rattle.wcv_spaces.specs.Contents.{context_of}
 use Rattle.wcv_decls.specs.Resolved.{AreSlots}
 use Rattle.wcv_decls.proofs.Functions.{func_slots, func_free, params_caused, gives_caused, behind_caused}
 use Rattle.wcv_decls.proofs.Shapes.{found_free, found_caused}

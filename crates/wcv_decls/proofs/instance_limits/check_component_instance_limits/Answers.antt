@@ -10,8 +10,8 @@ use Rattle.wcv_syntax.specs.declared.name.ComponentExport.{ComponentExport}
 use Rattle.wcv_lower.specs.Checks.{IsFree, each_too_long, texts_of}
 use Rattle.wcv_lower.specs.Entries.{extern_name}
 use Rattle.wcv_lower.specs.Instances.{instance_left}
-use Rattle.wcv_state.specs.Promises.{MemoryOrCausedBy}
-use Rattle.wcv_state.proofs.Calls.{caused_more}
+use Rattle.wcv_spaces.specs.Promises.{MemoryOrCausedBy}
+use Rattle.wcv_spaces.proofs.Calls.{caused_more}
 use Rattle.wcv_decls.proofs.instance_limits.check_component_instance_limits.Goals as goal
 
 abbrev long : ComponentExport → Checks

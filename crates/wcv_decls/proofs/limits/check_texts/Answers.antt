@@ -1,5 +1,5 @@
 use Rattle.std.proofs.lemmas.Result.{err_from_is_err_and}
-use Rattle.wcv_state.specs.NameLists.{list_names}
+use Rattle.wcv_spaces.specs.NameLists.{list_names}
 use Rattle.wcv_decls.proofs.Texts.{texts_caused, texts_push}
 use Rattle.wcv_decls.proofs.limits.check_texts.Goals as goal
 

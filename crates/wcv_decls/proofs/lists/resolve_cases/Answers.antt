@@ -1,7 +1,7 @@
 use Rattle.std.proofs.Common.{length, refl, sym, ap, subst, arith}
 use Rattle.std.specs.Vec.Iter.{into_iter_items}
 use Rattle.std.proofs.lemmas.Result.{err_from_is_err_and}
-use Rattle.wcv_state.specs.Contents.{context_of}
+use Rattle.wcv_spaces.specs.Contents.{context_of}
 use Rattle.wcv_decls.specs.Resolved.{written_case, case_part}
 use Rattle.wcv_decls.proofs.Looking.{Looked, looked_next, looked_caused}
 use Rattle.wcv_decls.proofs.lists.resolve_cases.Goals as goal

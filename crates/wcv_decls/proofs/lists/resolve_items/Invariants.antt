@@ -1,6 +1,6 @@
 use Rattle.std.proofs.Common.{◌≡◌, length}
 use Rattle.std.specs.Vec.Iter.{into_iter_items, into_iter_len}
-use Rattle.wcv_state.specs.Contents.{context_of}
+use Rattle.wcv_spaces.specs.Contents.{context_of}
 use Rattle.wcv_decls.specs.Resolved.{written_item, item_part}
 use Rattle.wcv_decls.proofs.Looking.{Looked}
 use Rattle.wcv_decls.proofs.lists.resolve_items.Given as goal

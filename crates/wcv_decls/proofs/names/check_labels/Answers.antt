@@ -1,7 +1,7 @@
 use Rattle.std.proofs.Common.{map, take}
 use Rattle.std.proofs.lemmas.Result.{err_from_is_err_and}
 use Rattle.wcv_core.specs.Label.{lower_case}
-use Rattle.wcv_state.specs.NameLists.{list_names}
+use Rattle.wcv_spaces.specs.NameLists.{list_names}
 use Rattle.wcv_decls.proofs.Repeats.{names_caused, names_push, keys_push}
 use Rattle.wcv_decls.proofs.names.check_labels.Goals as goal
 

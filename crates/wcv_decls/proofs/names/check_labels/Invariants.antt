@@ -1,8 +1,8 @@
 use Rattle.std.proofs.Common.{take, map}
 use Rattle.wcv_core.specs.Label.{lower_case}
 use Rattle.wcv_lower.specs.Checks.{IsFree, label_checks}
-use Rattle.wcv_state.specs.Inside.{AreKeys}
-use Rattle.wcv_state.specs.NameLists.{list_names}
+use Rattle.wcv_spaces.specs.Parts.{AreKeys}
+use Rattle.wcv_spaces.specs.NameLists.{list_names}
 use Rattle.wcv_decls.proofs.names.check_labels.Given as goal
 
 abbrev pub invariant-loop-k : goal.invariant-loop-k

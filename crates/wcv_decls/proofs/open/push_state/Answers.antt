@@ -1,5 +1,5 @@
 use Rattle.std.proofs.Common.{◌≡◌, ◌++◌, ◌∙◌, List, [], ◌∷◌, ap, sym, subst}
-use Rattle.wcv_state.specs.Contents.{Contents, kind_of, empty_state}
+use Rattle.wcv_spaces.specs.Contents.{Contents, kind_of, empty_state}
 use Rattle.wcv_decls.specs.Declaring.{innermost, around, features_in, AreReady, Opened}
 use Rattle.wcv_decls.proofs.InnermostStates.{parted}
 use Rattle.wcv_decls.proofs.Opening.{opened, is_opened, opened_ready}

@@ -10,9 +10,9 @@ use Rattle.wcv_lower.specs.Context.{in_types, is_concrete}
 use Rattle.wcv_lower.specs.Trees.{tree_reader}
 use Rattle.wcv_lower.proofs.TypeLaws.{dtor_there}
 use Rattle.wcv_lower.proofs.ValueLaws.{not-false}
-use Rattle.wcv_state.specs.declared.kind.ComponentKind.{ComponentKind}
-use Rattle.wcv_state.specs.Contents.{Contents, kind_of, stack_of, with_id, with_defined, spent}
-use Rattle.wcv_state.specs.Promises.{MemoryOrCausedBy, Keeps}
+use Rattle.wcv_spaces.specs.declared.kind.ComponentKind.{ComponentKind}
+use Rattle.wcv_spaces.specs.Contents.{Contents, kind_of, stack_of, with_id, with_defined, spent}
+use Rattle.wcv_spaces.specs.Promises.{MemoryOrCausedBy, Keeps}
 use Rattle.wcv_decls.proofs.Destructors.{resource_free, scope_caused, rep_caused, dtor_caused}
 use Rattle.wcv_decls.proofs.Defining.{rep_is_number, is_new_import, is_new_definition, made_keeps, defined_keeps, spent_keeps, resource_declares}
 use Rattle.wcv_decls.proofs.resource.add_resource.Goals as goal

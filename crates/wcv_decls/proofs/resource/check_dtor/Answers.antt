@@ -7,10 +7,10 @@ use Rattle.wcv_core.proofs.Closing.{caused_same}
 use Rattle.std.specs.Prelude.{Option, slice_get}
 use Rattle.wcv_lower.specs.Checks.{IsFree, missing}
 use Rattle.wcv_lower.specs.Types.{takes_and_gives, dtor_checks}
-use Rattle.wcv_state.specs.Contents.{stack_of}
-use Rattle.wcv_state.specs.Promises.{MemoryOrCausedBy}
+use Rattle.wcv_spaces.specs.Contents.{stack_of}
+use Rattle.wcv_spaces.specs.Promises.{MemoryOrCausedBy}
 use Rattle.wcv_lower.specs.Context.{core_funcs}
-use Rattle.wcv_state.proofs.Found.{core_stands_at}
+use Rattle.wcv_spaces.proofs.Found.{core_stands_at}
 use Rattle.wcv_decls.proofs.Destructors.{dtor_free, dtor_missing, dtor_other}
 use Rattle.wcv_decls.proofs.resource.check_dtor.Goals as goal
 

@@ -4,8 +4,8 @@ use Rattle.wcv_syntax.specs.declared.component_type.ComponentValType.{ComponentV
 use Rattle.wcv_types.specs.declared.shapes.ComponentValType.TheVariants as v
 use Rattle.wcv_lower.specs.Checks.{IsFree}
 use Rattle.wcv_lower.specs.Values.{option_checks}
-use Rattle.wcv_state.specs.Contents.{context_of}
-use Rattle.wcv_state.specs.Promises.{MemoryOrCausedBy}
+use Rattle.wcv_spaces.specs.Contents.{context_of}
+use Rattle.wcv_spaces.specs.Promises.{MemoryOrCausedBy}
 use Rattle.wcv_decls.specs.Resolved.{IsOption}
 use Rattle.wcv_decls.proofs.LookedUp.{index_is, index_free, index_caused}
 use Rattle.wcv_decls.proofs.values.resolve.Goals as goal

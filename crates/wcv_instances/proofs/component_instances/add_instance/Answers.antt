@@ -2,11 +2,11 @@ use Rattle.std.proofs.Common.{◌≡◌, ◌∙◌, ap, refl, List, ℕ, subst, 
 use Rattle.wcv_lower.specs.Checks.{IsFree}
 use Rattle.wcv_syntax.specs.View.{instance_view}
 use Rattle.wcv_lower.specs.Instances.{instance_values}
-use Rattle.wcv_state.specs.Contents.{Contents, with_uses}
-use Rattle.wcv_state.specs.Instantiations.{InstanceJoined}
-use Rattle.wcv_state.specs.Promises.{Keeps, MemoryOrCausedBy}
-use Rattle.wcv_state.specs.Values.{uses_id_checks}
-use Rattle.wcv_state.proofs.Keeping.{keeps_grown_marked}
+use Rattle.wcv_spaces.specs.Contents.{Contents, with_uses}
+use Rattle.wcv_state.specs.Joining.{InstanceJoined}
+use Rattle.wcv_spaces.specs.Promises.{Keeps, MemoryOrCausedBy}
+use Rattle.wcv_spaces.specs.Values.{uses_id_checks}
+use Rattle.wcv_spaces.proofs.Keeping.{keeps_grown_marked}
 use Rattle.wcv_decls.proofs.Outcomes.{both_ok}
 use Rattle.wcv_instances.proofs.InstanceGrown.{err_and, instance_grew, instance_refused, kept_so, new_there, still_stands, uses_refused}
 use Rattle.wcv_instances.proofs.component_instances.add_instance.Goals as goal

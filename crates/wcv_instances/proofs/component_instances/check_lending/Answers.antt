@@ -5,8 +5,8 @@ use Rattle.wcv_types.specs.declared.shapes.ComponentEntityType.{ComponentEntityT
 use Rattle.wcv_types.specs.declared.shapes.ComponentEntityType.TheVariants as entity
 use Rattle.wcv_lower.specs.Entries.{lends}
 use Rattle.wcv_lower.specs.Trees.{tree_reader}
-use Rattle.wcv_state.specs.Promises.{MemoryOrCausedBy}
-use Rattle.wcv_state.proofs.Lending.{lends_value}
+use Rattle.wcv_spaces.specs.Promises.{MemoryOrCausedBy}
+use Rattle.wcv_spaces.proofs.Lending.{lends_value}
 use Rattle.wcv_instances.specs.ComponentInstances.{lending_checks}
 use Rattle.wcv_instances.proofs.component_instances.check_lending.Goals as goal
 

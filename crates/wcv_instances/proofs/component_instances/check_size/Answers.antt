@@ -3,7 +3,7 @@ use Rattle.std.proofs.lemmas.Result.{on_ok_weaker, IfErr-weaker}
 use Rattle.wcv_types.specs.Unfold.{tree_at}
 use Rattle.wcv_types.specs.declared.ids.Part.TheVariants as p
 use Rattle.wcv_lower.specs.Checks.{Checks, IsFree}
-use Rattle.wcv_state.specs.Promises.{MemoryOrCausedBy}
+use Rattle.wcv_spaces.specs.Promises.{MemoryOrCausedBy}
 use Rattle.wcv_instances.proofs.InstanceSizes.{same_checks}
 use Rattle.wcv_instances.proofs.component_instances.check_size.Goals as goal
 

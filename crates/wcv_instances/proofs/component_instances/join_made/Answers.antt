@@ -1,11 +1,11 @@
 use Rattle.std.proofs.Common.{◌∙◌, ap, inl, inr, subst, sym}
 use Rattle.std.proofs.lemmas.Result.{err_from_is_err_and}
 use Rattle.wcv_core.proofs.Closing.{caused_same}
-use Rattle.wcv_state.specs.Bringing.{AreNewIn}
-use Rattle.wcv_state.specs.Contents.{Contents, StateStands}
-use Rattle.wcv_state.specs.Instantiations.{InstanceJoined}
-use Rattle.wcv_state.specs.Values.{uses_id_checks}
-use Rattle.wcv_state.proofs.UsedValues.{uses_stand}
+use Rattle.wcv_spaces.specs.Bringing.{AreNewIn}
+use Rattle.wcv_spaces.specs.Contents.{Contents, StateStands}
+use Rattle.wcv_state.specs.Joining.{InstanceJoined}
+use Rattle.wcv_spaces.specs.Values.{uses_id_checks}
+use Rattle.wcv_spaces.proofs.UsedValues.{uses_stand}
 use Rattle.wcv_instances.proofs.InstanceGrown.{spent_kept, then_kept}
 use Rattle.wcv_instances.proofs.component_instances.join_made.Goals as goal
 

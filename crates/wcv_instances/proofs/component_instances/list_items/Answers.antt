@@ -9,7 +9,7 @@ use Rattle.wcv_types.specs.Unfold.{trees}
 use Rattle.wcv_names.specs.Externs.{extern_checks, with_entry}
 use Rattle.wcv_names.specs.ResourceNames.{Named_ids, names_of}
 use Rattle.wcv_lower.specs.Entries.{extern_name}
-use Rattle.wcv_state.specs.Promises.{MemoryOrCausedBy}
+use Rattle.wcv_spaces.specs.Promises.{MemoryOrCausedBy}
 use Rattle.wcv_instances.proofs.Listing.{listed_stand, listing_caused, listing_next}
 use Rattle.wcv_instances.proofs.component_instances.list_items.Goals as goal
 

@@ -19,9 +19,9 @@ use Rattle.wcv_matching.specs.Refusals.{MemoryOrMismatch}
 use Rattle.wcv_matching.specs.TableMatching.{Opens}
 use Rattle.wcv_lower.specs.Checks.{IsFree, missing, has_repeat, no_room}
 use Rattle.wcv_lower.specs.Context.{counts}
-use Rattle.wcv_state.specs.Contents.{context_of}
-use Rattle.wcv_state.specs.Instantiations.{ComponentInstanceMade, MayInstantiate}
-use Rattle.wcv_state.specs.Promises.{MemoryOrCausedBy}
+use Rattle.wcv_spaces.specs.Contents.{context_of}
+use Rattle.wcv_instantiate.specs.Instantiations.{ComponentInstanceMade, MayInstantiate}
+use Rattle.wcv_spaces.specs.Promises.{MemoryOrCausedBy}
 use Rattle.wcv_instances.specs.ComponentInstances.{size_checks}
 use Rattle.wcv_instances.proofs.FromComponent.{arg_twice, args_stand, component_instance, component_stands, full_here, may_be_made, no_arg, no_component, not_opened, too_large}
 use Rattle.wcv_instances.proofs.InstanceGrown.{memory_caused}

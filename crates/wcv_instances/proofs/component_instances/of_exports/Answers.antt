@@ -13,10 +13,10 @@ use Rattle.wcv_types.specs.Unfold.{trees}
 use Rattle.wcv_types.specs.declared.item_map.ComponentItem.{ComponentItem}
 use Rattle.wcv_lower.specs.Checks.{IsFree, no_room}
 use Rattle.wcv_lower.specs.Context.{counts}
-use Rattle.wcv_state.specs.Contents.{context_of}
-use Rattle.wcv_state.specs.Opening.{InstancePushed}
-use Rattle.wcv_state.specs.Promises.{MemoryOrCausedBy}
-use Rattle.wcv_state.proofs.NewResources.{same_grown}
+use Rattle.wcv_spaces.specs.Contents.{context_of}
+use Rattle.wcv_instantiate.specs.Opening.{InstancePushed}
+use Rattle.wcv_spaces.specs.Promises.{MemoryOrCausedBy}
+use Rattle.wcv_instantiate.proofs.NewResources.{same_grown}
 use Rattle.wcv_instances.specs.ComponentInstances.{as_entries, list_checks}
 use Rattle.wcv_instances.proofs.FromItems.{Found, entries_stand, item_refused, items_stand, list_refused, listed_instance, room_refused}
 use Rattle.wcv_instances.proofs.InstanceGrown.{memory_caused}

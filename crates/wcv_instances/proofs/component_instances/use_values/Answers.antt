@@ -1,6 +1,6 @@
 use Rattle.std.proofs.Common.{take, ◌∙◌, ap}
 use Rattle.std.proofs.lemmas.Result.{err_from_is_err_and}
-use Rattle.wcv_state.specs.Contents.{Contents, spent}
+use Rattle.wcv_spaces.specs.Contents.{Contents, spent}
 use Rattle.wcv_instances.proofs.UsedEach.{none_used, use_next, next_caused, all_used}
 use Rattle.wcv_instances.proofs.component_instances.use_values.Goals as goal
 

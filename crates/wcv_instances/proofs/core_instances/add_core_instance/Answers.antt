@@ -1,8 +1,8 @@
 use Rattle.std.proofs.Common.{ap, refl, subst, sym, true}
 use Rattle.wcv_syntax.specs.View.{core_instance_view}
-use Rattle.wcv_state.specs.Contents.{Contents}
-use Rattle.wcv_state.specs.Promises.{Keeps}
-use Rattle.wcv_state.proofs.Keeping.{keeps_marked}
+use Rattle.wcv_spaces.specs.Contents.{Contents}
+use Rattle.wcv_spaces.specs.Promises.{Keeps}
+use Rattle.wcv_spaces.proofs.Keeping.{keeps_marked}
 use Rattle.wcv_instances.proofs.CoreInstances.{instance_grew, instance_refused, memory_caused}
 use Rattle.wcv_instances.proofs.core_instances.add_core_instance.Goals as goal
 

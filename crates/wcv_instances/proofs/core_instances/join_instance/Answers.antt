@@ -4,9 +4,9 @@ use Rattle.wcv_types.specs.declared.arena.Node.TheVariants as n
 use Rattle.wcv_types.proofs.Grown.{extends_push}
 use Rattle.wcv_types.specs.Standing.{Extends}
 use Rattle.wcv_lower.specs.Context.{core_instances}
-use Rattle.wcv_state.specs.Contents.{Contents}
-use Rattle.wcv_state.specs.Promises.{Keeps}
-use Rattle.wcv_state.proofs.Keeping.{keeps_marked_in, keeps_grown_marked}
+use Rattle.wcv_spaces.specs.Contents.{Contents}
+use Rattle.wcv_spaces.specs.Promises.{Keeps}
+use Rattle.wcv_spaces.proofs.Keeping.{keeps_marked_in, keeps_grown_marked}
 use Rattle.wcv_decls.specs.CoreItems.{JoinedCore}
 use Rattle.wcv_instances.proofs.CoreInstances.{instance_joined}
 use Rattle.wcv_instances.proofs.core_instances.join_instance.Goals as goal

@@ -12,8 +12,8 @@ use Rattle.wcv_types.specs.Standing.{entity_sizes}
 use Rattle.wcv_types.specs.Tree.{Text, is_instance}
 use Rattle.wcv_lower.specs.Checks.{IsFree, has_repeat, no_room, too_many}
 use Rattle.wcv_lower.specs.Context.{counts}
-use Rattle.wcv_state.specs.Contents.{context_of}
-use Rattle.wcv_state.specs.Promises.{MemoryOrCausedBy}
+use Rattle.wcv_spaces.specs.Contents.{context_of}
+use Rattle.wcv_spaces.specs.Promises.{MemoryOrCausedBy}
 use Rattle.wcv_instances.specs.CoreInstances.{items_of}
 use Rattle.wcv_instances.proofs.CoreInstances.{items_within, of_exports_made, of_exports_free, item_missing, list_too_large, name_repeated, list_no_room}
 use Rattle.wcv_instances.proofs.core_instances.of_exports.Goals as goal

@@ -10,8 +10,8 @@ use Rattle.wcv_types.specs.declared.ids.ComponentCoreInstanceTypeId.{ComponentCo
 use Rattle.wcv_types.specs.declared.ids.Part.TheVariants as p
 use Rattle.wcv_lower.specs.Checks.{IsFree, missing, has_repeat, no_room}
 use Rattle.wcv_lower.specs.Context.{counts}
-use Rattle.wcv_state.specs.Contents.{context_of}
-use Rattle.wcv_state.specs.Promises.{MemoryOrCausedBy}
+use Rattle.wcv_spaces.specs.Contents.{context_of}
+use Rattle.wcv_spaces.specs.Promises.{MemoryOrCausedBy}
 use Rattle.wcv_instances.specs.CoreInstances.{served_checks}
 use Rattle.wcv_instances.proofs.CoreInstances.{args_stand, module_stands, of_module_made, of_module_free, module_missing, arg_missing, module_unserved, arg_repeated, no_room_here}
 use Rattle.wcv_instances.proofs.core_instances.of_module.Goals as goal

@@ -5,7 +5,7 @@ use Rattle.wcv_core.proofs.Closing.{caused_same}
 use Rattle.wcv_syntax.specs.Model.{Form, alias_item}
 use Rattle.wcv_lower.specs.Aliases.{alias_left}
 use Rattle.wcv_state.specs.Aliasing.{AliasedOn}
-use Rattle.wcv_state.specs.Contents.{Contents}
+use Rattle.wcv_spaces.specs.Contents.{Contents}
 use Rattle.wcv_state.specs.Stack.{IsOpen, RefusedOn, KeepsOn}
 use Rattle.wcv_decls.proofs.Stacks.{kept_back}
 use Rattle.wcv_link.specs.Progress.{AcceptsItem}

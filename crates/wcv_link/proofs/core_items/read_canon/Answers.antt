@@ -5,7 +5,7 @@ use Rattle.wcv_syntax.specs.Model.{Form, canon_item}
 use Rattle.wcv_syntax.specs.View.{canon_view}
 use Rattle.wcv_types.proofs.Grown.{extends_refl}
 use Rattle.wcv_lower.specs.Canons.{canon_left}
-use Rattle.wcv_state.proofs.Keeping.{keeps_grown}
+use Rattle.wcv_spaces.proofs.Keeping.{keeps_grown}
 use Rattle.wcv_link.proofs.Steps.{one_step, item_taken, item_refused, bare_refused}
 use Rattle.wcv_link.proofs.core_items.read_canon.Goals as goal
 

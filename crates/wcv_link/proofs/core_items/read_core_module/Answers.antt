@@ -7,9 +7,9 @@ use Rattle.wcv_syntax.specs.declared.core_section.ModuleDecl.{ModuleDecl}
 use Rattle.wcv_types.proofs.Grown.{extends_refl}
 use Rattle.wcv_lower.specs.Checks.{IsFree}
 use Rattle.wcv_lower.specs.CoreItems.{core_module_left}
-use Rattle.wcv_state.specs.Contents.{context_of}
-use Rattle.wcv_state.specs.Promises.{MemoryOrCausedBy}
-use Rattle.wcv_state.proofs.Keeping.{keeps_grown}
+use Rattle.wcv_spaces.specs.Contents.{context_of}
+use Rattle.wcv_spaces.specs.Promises.{MemoryOrCausedBy}
+use Rattle.wcv_spaces.proofs.Keeping.{keeps_grown}
 use Rattle.wcv_link.proofs.Steps.{one_step, item_taken, item_refused, bare_refused}
 use Rattle.wcv_link.proofs.core_items.read_core_module.Goals as goal
 

@@ -6,7 +6,7 @@ use Rattle.wcv_syntax.specs.Model.{Core_type_form, Form, core_type_item}
 use Rattle.wcv_syntax.specs.View.{core_type_view}
 use Rattle.wcv_types.proofs.Lists.{map-id}
 use Rattle.wcv_lower.specs.CoreItems.{core_type_left}
-use Rattle.wcv_state.specs.Contents.{Contents}
+use Rattle.wcv_spaces.specs.Contents.{Contents}
 use Rattle.wcv_decls.specs.Stack.{IsOpen, GrewOn, RefusedOn, KeepsOn}
 use Rattle.wcv_decls.proofs.Stacks.{unmapped, kept_back}
 use Rattle.wcv_link.specs.Progress.{AcceptsItem}

@@ -5,7 +5,7 @@ use Rattle.wcv_syntax.specs.Model.{Form, instance_item}
 use Rattle.wcv_syntax.specs.View.{instance_view}
 use Rattle.wcv_types.proofs.Grown.{extends_refl}
 use Rattle.wcv_lower.specs.Instances.{instance_left}
-use Rattle.wcv_state.proofs.Keeping.{keeps_grown}
+use Rattle.wcv_spaces.proofs.Keeping.{keeps_grown}
 use Rattle.wcv_link.proofs.Steps.{one_step, item_taken, item_refused, bare_refused}
 use Rattle.wcv_link.proofs.core_items.read_instance.Goals as goal
 

@@ -8,8 +8,8 @@ use Rattle.wcv_core.specs.Names.{Place}
 use Rattle.wcv_lower.specs.Checks.{IsFree, too_many}
 use Rattle.wcv_lower.specs.Start.{start_left}
 use Rattle.wcv_lower.specs.Trees.{Tree_context}
-use Rattle.wcv_state.specs.Promises.{MemoryOrCausedBy, Grew, CausedAt}
-use Rattle.wcv_state.proofs.Keeping.{keeps_grown}
+use Rattle.wcv_spaces.specs.Promises.{MemoryOrCausedBy, Grew, CausedAt}
+use Rattle.wcv_spaces.proofs.Keeping.{keeps_grown}
 use Rattle.wcv_link.proofs.Steps.{one_step, item_taken, item_refused, bare_refused}
 use Rattle.wcv_link.proofs.core_items.read_start.Goals as goal
 

@@ -8,8 +8,8 @@ use Rattle.wcv_lower.specs.Checks.{IsFree}
 use Rattle.wcv_lower.specs.Ending.{component_end_checks, end_checks}
 use Rattle.wcv_lower.specs.Marks.{unused_checks}
 use Rattle.wcv_lower.specs.Trees.{Tree_context}
-use Rattle.wcv_state.specs.Contents.{Contents, context_of}
-use Rattle.wcv_state.proofs.Calls.{caused_more}
+use Rattle.wcv_spaces.specs.Contents.{Contents, context_of}
+use Rattle.wcv_spaces.proofs.Calls.{caused_more}
 use Rattle.wcv_link.proofs.Alone.{begins, stops, alone_open, stops_at_end, looked_up, ends, still_one, ok_and}
 use Rattle.wcv_link.proofs.Reaching.{reached_start}
 use Rattle.wcv_link.proofs.driver.read_root.Goals as goal

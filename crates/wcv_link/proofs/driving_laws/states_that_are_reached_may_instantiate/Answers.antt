@@ -1,9 +1,9 @@
 use Rattle.std.proofs.Common.{◌∷◌, [], refl}
 use Rattle.std.proofs.lemmas.List.Elements.{All-head}
 use Rattle.wcv_core.specs.Names.{deeper}
-use Rattle.wcv_state.specs.Contents.{empty_state}
+use Rattle.wcv_spaces.specs.Contents.{empty_state}
 use Rattle.wcv_state.specs.Stack.{IsOpen}
-use Rattle.wcv_state.specs.declared.kind.ComponentKind.TheVariants.{Component}
+use Rattle.wcv_spaces.specs.declared.kind.ComponentKind.TheVariants.{Component}
 use Rattle.wcv_link.proofs.Alone.{begins}
 use Rattle.wcv_link.proofs.Driving.{reached_grown}
 use Rattle.wcv_link.proofs.Making.{last_may}

@@ -11,8 +11,8 @@ use Rattle.wcv_core.specs.Names.{Place, deeper}
 use Rattle.wcv_types.specs.ComponentTrees.{root_tree}
 use Rattle.wcv_lower.specs.Checks.{IsFree}
 use Rattle.wcv_lower.specs.Items.{item_count, component_checks}
-use Rattle.wcv_state.specs.Contents.{Contents}
-use Rattle.wcv_state.specs.Promises.{MemoryOrCausedBy}
+use Rattle.wcv_spaces.specs.Contents.{Contents}
+use Rattle.wcv_spaces.specs.Promises.{MemoryOrCausedBy}
 use Rattle.wcv_decls.specs.Declaring.{stack_in, component_room}
 use Rattle.wcv_link.specs.Progress.{TellsItem}
 use Rattle.wcv_link.specs.Told.{Ended}

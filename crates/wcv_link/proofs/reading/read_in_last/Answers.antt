@@ -2,7 +2,7 @@ use Rattle.std.proofs.Common.{◌≡◌, ℕ, ◌-◌, ◌∙◌, List, length, 
 use Rattle.std.proofs.lemmas.Result.{on_ok_weaker, IfErr-weaker}
 use Rattle.wcv_syntax.specs.Model.{Form}
 use Rattle.wcv_syntax.specs.View.{section_view}
-use Rattle.wcv_state.specs.Contents.{Contents}
+use Rattle.wcv_spaces.specs.Contents.{Contents}
 use Rattle.wcv_link.proofs.Open.{last_open, last_may_open, last_may_instantiate, accepts_last, refuses_last}
 use Rattle.wcv_link.proofs.Steps.{other, one_step}
 use Rattle.wcv_link.proofs.reading.read_in_last.Goals as goal

@@ -6,7 +6,7 @@ use Rattle.wcv_syntax.specs.Model.{Type_form}
 use Rattle.wcv_syntax.specs.View.{type_view}
 use Rattle.wcv_types.proofs.Lists.{map-id}
 use Rattle.wcv_lower.specs.Declared.{declared_left}
-use Rattle.wcv_state.specs.Contents.{Contents}
+use Rattle.wcv_spaces.specs.Contents.{Contents}
 use Rattle.wcv_decls.specs.Stack.{IsOpen, AreCalm, DeclaresOn, RefusesOn, KeepsOn}
 use Rattle.wcv_decls.proofs.Outcomes.{both_ok}
 use Rattle.wcv_decls.proofs.Stacks.{unmapped}

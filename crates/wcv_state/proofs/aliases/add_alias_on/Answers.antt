@@ -1,6 +1,6 @@
 use Rattle.std.proofs.Common.{◌≡◌, ℕ, ◌-◌, length, slice_index_or, refl}
 use Rattle.std.proofs.lemmas.Result.{on_ok_weaker, IfErr-weaker}
-use Rattle.wcv_state.specs.Contents.{Contents}
+use Rattle.wcv_spaces.specs.Contents.{Contents}
 use Rattle.wcv_state.proofs.OuterCalls.{inside_aliases, inside_refused, outer_refused}
 use Rattle.wcv_state.proofs.Stacks.{last_becomes, kept_on}
 use Rattle.wcv_state.proofs.aliases.add_alias_on.Goals as goal

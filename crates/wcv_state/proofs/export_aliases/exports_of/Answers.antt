@@ -4,7 +4,7 @@ use Rattle.std.specs.Option.{option_map_or}
 use Rattle.wcv_types.specs.Entities.{entry_trees, EntryStands}
 use Rattle.wcv_types.specs.Exported.{items_of}
 use Rattle.wcv_types.specs.Tree.{Text, export, exports}
-use Rattle.wcv_types.proofs.FreeBelow.{entries_ready}
+use Rattle.wcv_walks.proofs.FreeBelow.{entries_ready}
 use Rattle.wcv_types.specs.Unfold.{Type_tree, trees}
 use Rattle.wcv_types.specs.declared.arena.Node.{Node}
 use Rattle.wcv_types.specs.declared.item_map.ComponentItem.{ComponentItem}

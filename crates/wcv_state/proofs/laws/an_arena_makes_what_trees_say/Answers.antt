@@ -1,4 +1,4 @@
-use Rattle.wcv_state.proofs.Given.{again_names, again_given, resource_names, resource_given, node_names, node_given, node_name}
+use Rattle.wcv_spaces.proofs.Given.{again_names, again_given, resource_names, resource_given, node_names, node_given, node_name}
 use Rattle.wcv_state.proofs.SlotMakers.{makes_again, makes_resource, makes_instance, makes_node}
 use Rattle.wcv_lower.specs.Given.{names_of}
 use Rattle.wcv_state.proofs.laws.an_arena_makes_what_trees_say.Goals as goal

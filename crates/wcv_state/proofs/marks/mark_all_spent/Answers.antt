@@ -1,5 +1,5 @@
 use Rattle.std.proofs.Common.{◌≡◌, ℕ, ◌+◌, zero, suc, ◌<◌, length, List, [], ◌∷◌, ◌++◌, map, take, drop, slice_index_or, slice_set, ap, sym, ◌∙◌, arith}
-use Rattle.wcv_state.specs.Contents.{spent}
+use Rattle.wcv_spaces.specs.Contents.{spent}
 use Rattle.wcv_state.proofs.marks.mark_all_spent.Goals as goal
 
 -- one more element that was mapped

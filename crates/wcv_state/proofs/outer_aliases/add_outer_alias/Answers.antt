@@ -1,11 +1,11 @@
 use Rattle.std.proofs.Common.{◌≡◌, ℕ, suc, ◌+◌, ◌-◌, ◌<◌, ◌^◌, length, slice_index_or, slice_set, refl, true, sym, subst, arith}
 use Rattle.std.proofs.lemmas.Result.{err_from_is_err_and}
 use Rattle.wcv_types.proofs.Grown.{extends_refl}
-use Rattle.wcv_state.specs.Contents.{Contents}
-use Rattle.wcv_state.specs.Promises.{Keeps}
+use Rattle.wcv_spaces.specs.Contents.{Contents}
+use Rattle.wcv_spaces.specs.Promises.{Keeps}
 use Rattle.wcv_state.specs.Stack.{IsOpen, innermost}
 use Rattle.wcv_state.proofs.CoreRoom.{outer_counted}
-use Rattle.wcv_state.proofs.Keeping.{keeps_marked}
+use Rattle.wcv_spaces.proofs.Keeping.{keeps_marked}
 use Rattle.wcv_state.proofs.OuterCalls.{push_keeps, push_aliases, charge_fits, charge_keeps, charge_aliases}
 use Rattle.wcv_state.proofs.Stacks.{indexed, around_kept, last_becomes, kept_on}
 use Rattle.wcv_state.proofs.outer_aliases.add_outer_alias.Goals as goal

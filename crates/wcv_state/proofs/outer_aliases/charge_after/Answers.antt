@@ -2,8 +2,8 @@ use Rattle.std.proofs.Common.{sym, subst, arith}
 use Rattle.std.specs.Prelude.{Option, IfErr}
 use Rattle.wcv_lower.specs.Checks.{if_found}
 use Rattle.wcv_state.specs.Aliasing.{aliased_tree, boundary_checks}
-use Rattle.wcv_state.specs.Contents.{Contents}
-use Rattle.wcv_state.specs.Promises.{MemoryOrCausedBy}
+use Rattle.wcv_spaces.specs.Contents.{Contents}
+use Rattle.wcv_spaces.specs.Promises.{MemoryOrCausedBy}
 use Rattle.wcv_state.proofs.OuterCalls.{after_there}
 use Rattle.wcv_state.proofs.outer_aliases.charge_after.Goals as goal
 

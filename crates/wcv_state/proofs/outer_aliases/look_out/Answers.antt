@@ -6,9 +6,9 @@ use Rattle.wcv_lower.specs.Aliases.{outer_admitted, outer_room}
 use Rattle.wcv_lower.specs.Checks.{IsFree, missing}
 use Rattle.wcv_lower.specs.Context.{is_concrete}
 use Rattle.wcv_state.specs.Aliasing.{outer_in, outer_id}
-use Rattle.wcv_state.specs.Contents.{Contents, kind_of, StateStands}
-use Rattle.wcv_state.specs.Entering.{room_counts}
-use Rattle.wcv_state.specs.Promises.{CausedBy, MemoryOrCausedBy}
+use Rattle.wcv_spaces.specs.Contents.{Contents, kind_of, StateStands}
+use Rattle.wcv_spaces.specs.Entering.{room_counts}
+use Rattle.wcv_spaces.specs.Promises.{CausedBy, MemoryOrCausedBy}
 use Rattle.wcv_state.specs.Stack.{innermost}
 use Rattle.wcv_state.specs.declared.outer_aliases.Aliased.{Aliased}
 use Rattle.wcv_state.proofs.OuterCalls.{outer_stands, found_there, beyond, out_free, scope_caused, none_caused, crossing_caused, room_caused}

@@ -1,7 +1,7 @@
 use Rattle.std.proofs.Common.{◌∙◌, refl, subst}
 use Rattle.wcv_types.specs.declared.shapes.ComponentEntityType.TheVariants as entity
 use Rattle.wcv_closed.specs.ClosedTable.{IsTable}
-use Rattle.wcv_state.proofs.Ascribed.{test_decides}
+use Rattle.wcv_instantiate.proofs.Ascribed.{test_decides}
 use Rattle.wcv_state.proofs.Starts.{unsuited_caused}
 use Rattle.wcv_state.proofs.start.check_argument.Goals as goal
 

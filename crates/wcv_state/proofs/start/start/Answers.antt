@@ -5,13 +5,13 @@ use Rattle.wcv_core.proofs.Closing.{caused_same}
 use Rattle.wcv_types.specs.declared.ids.ComponentFuncTypeId.{ComponentFuncTypeId}
 use Rattle.wcv_lower.specs.Checks.{IsFree}
 use Rattle.wcv_lower.specs.Context.{in_funcs}
-use Rattle.wcv_state.specs.Contents.{IdStands, used_at}
-use Rattle.wcv_state.specs.Inside.{lists}
-use Rattle.wcv_state.specs.Promises.{MemoryOrCausedBy}
+use Rattle.wcv_spaces.specs.Contents.{IdStands, used_at}
+use Rattle.wcv_spaces.specs.Parts.{lists}
+use Rattle.wcv_spaces.specs.Promises.{MemoryOrCausedBy}
 use Rattle.wcv_state.specs.Starting.{Params, count_checks, argument_checks, room_checks, with_given}
-use Rattle.wcv_state.specs.Values.{Values}
-use Rattle.wcv_state.proofs.BroughtPaths.{all_taken}
-use Rattle.wcv_state.proofs.Keeping.{all_at}
+use Rattle.wcv_spaces.specs.Values.{Values}
+use Rattle.wcv_spaces.proofs.BroughtPaths.{all_taken}
+use Rattle.wcv_spaces.proofs.Keeping.{all_at}
 use Rattle.wcv_state.proofs.Starts.{written_back, counts_caused, arguments_caused, room_caused, is_started}
 use Rattle.wcv_state.proofs.start.start.Goals as goal
 

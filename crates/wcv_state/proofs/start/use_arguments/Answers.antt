@@ -3,9 +3,9 @@ use Rattle.std.specs.Prelude.{slice_get}
 use Rattle.std.proofs.lemmas.Option.{slice_get-get_or, slice_get_read}
 use Rattle.std.proofs.lemmas.Result.{err_from_is_err_and}
 use Rattle.wcv_lower.specs.Context.{in_values}
-use Rattle.wcv_state.specs.Contents.{IdStands}
-use Rattle.wcv_state.specs.Values.{value_at_checks}
-use Rattle.wcv_state.proofs.Keeping.{all_at}
+use Rattle.wcv_spaces.specs.Contents.{IdStands}
+use Rattle.wcv_spaces.specs.Values.{value_at_checks}
+use Rattle.wcv_spaces.proofs.Keeping.{all_at}
 use Rattle.wcv_state.proofs.Starts.{used_stands, used_next, next_unused, next_unsuited, arguments_next, arguments_free}
 use Rattle.wcv_state.proofs.UsedItems.{same_cause}
 use Rattle.wcv_state.proofs.start.use_arguments.Goals as goal

@@ -1,7 +1,7 @@
 use Rattle.std.proofs.Common.{refl, subst, sym, true}
-use Rattle.wcv_state.specs.Contents.{Contents}
-use Rattle.wcv_state.specs.Promises.{Keeps}
-use Rattle.wcv_state.proofs.Keeping.{keeps_marked}
+use Rattle.wcv_spaces.specs.Contents.{Contents}
+use Rattle.wcv_spaces.specs.Promises.{Keeps}
+use Rattle.wcv_spaces.proofs.Keeping.{keeps_marked}
 use Rattle.wcv_decls.proofs.stack.ComponentStateDeclare.add_core_module.Goals as goal
 
 pub returns-in-Err-clause-keeps : goal.returns-in-Err-clause-keeps

@@ -1,7 +1,7 @@
 use Rattle.std.proofs.Common.{List, sym, subst}
 use Rattle.wcv_syntax.specs.View.{type_view}
 use Rattle.wcv_types.proofs.Lists.{map-id}
-use Rattle.wcv_state.specs.Contents.{Contents}
+use Rattle.wcv_spaces.specs.Contents.{Contents}
 use Rattle.wcv_state.proofs.Stacks.{kept_marked}
 use Rattle.wcv_decls.specs.Declaring.{AreReady}
 use Rattle.wcv_decls.specs.Stack.{AreCalm, DeclaresOn, RefusesOn, KeepsOn}

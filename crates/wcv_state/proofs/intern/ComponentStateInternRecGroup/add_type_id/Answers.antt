@@ -1,6 +1,6 @@
 use Rattle.std.proofs.Common.{◌≡◌, ℕ, ap, length, arith}
 use Rattle.std.proofs.lemmas.List.{length-map}
-use Rattle.wcv_state.specs.Contents.{Contents, core_entry_of}
+use Rattle.wcv_spaces.specs.Contents.{Contents, core_entry_of}
 use Rattle.wcv_state.proofs.intern.ComponentStateInternRecGroup.add_type_id.Goals as goal
 
 pub push-requires : goal.push-requires

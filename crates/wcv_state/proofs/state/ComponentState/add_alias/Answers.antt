@@ -1,7 +1,7 @@
 use Rattle.std.proofs.Common.{List, subst, sym}
 use Rattle.wcv_syntax.specs.Model.{alias_item}
 use Rattle.wcv_lower.specs.Given.{names_of, none_given}
-use Rattle.wcv_state.specs.Contents.{Contents}
+use Rattle.wcv_spaces.specs.Contents.{Contents}
 use Rattle.wcv_state.specs.Stack.{RefusedOn, KeepsOn}
 use Rattle.wcv_state.proofs.Stacks.{kept_marked, refused_alone}
 use Rattle.wcv_state.proofs.state.ComponentState.add_alias.Goals as goal

@@ -6,8 +6,8 @@ use Rattle.wcv_syntax.specs.declared.instance.ComponentAlias.{ComponentAlias}
 use Rattle.wcv_lower.specs.Growth.{call_checks}
 use Rattle.wcv_lower.specs.Names.{Names}
 use Rattle.wcv_lower.specs.Trees.{Tree_context, tree_maker}
-use Rattle.wcv_state.specs.Contents.{stack_of}
-use Rattle.wcv_state.specs.Promises.{MemoryOrCausedBy}
+use Rattle.wcv_spaces.specs.Contents.{stack_of}
+use Rattle.wcv_spaces.specs.Promises.{MemoryOrCausedBy}
 use Rattle.wcv_state.proofs.state.ComponentState.add_alias_here.Goals as goal
 
 pub returns-in-InstanceExport-clause-err : goal.returns-in-InstanceExport-clause-err

@@ -1,9 +1,9 @@
 use Rattle.std.proofs.Common.{refl, subst, sym, true}
 use Rattle.wcv_types.proofs.Grown.{extends_refl}
-use Rattle.wcv_state.specs.Promises.{Keeps}
+use Rattle.wcv_spaces.specs.Promises.{Keeps}
 use Rattle.wcv_state.proofs.CoreAliases.{alias_grew}
-use Rattle.wcv_state.proofs.CoreItems.{item_keeps}
-use Rattle.wcv_state.proofs.Keeping.{keeps_grown, keeps_marked}
+use Rattle.wcv_spaces.proofs.CoreItems.{item_keeps}
+use Rattle.wcv_spaces.proofs.Keeping.{keeps_grown, keeps_marked}
 use Rattle.wcv_state.proofs.state.ComponentState.add_core_alias.Goals as goal
 
 pub returns-in_err-item-clause-keeps : goal.returns-in_err-item-clause-keeps

@@ -4,11 +4,12 @@ use Rattle.std.proofs.lemmas.Result.{err_from_is_err_and}
 use Rattle.wcv_core.proofs.Closing.{caused_same}
 use Rattle.wcv_lower.specs.Checks.{IsFree}
 use Rattle.wcv_lower.specs.Context.{in_funcs, in_values}
-use Rattle.wcv_state.specs.Contents.{Contents, SpaceLists, IdStands}
-use Rattle.wcv_state.specs.Inside.{lists, contents_of}
-use Rattle.wcv_state.specs.Promises.{MemoryOrCausedBy}
+use Rattle.wcv_spaces.specs.Contents.{Contents, SpaceLists, IdStands}
+use Rattle.wcv_spaces.specs.Parts.{lists}
+use Rattle.wcv_state.specs.Inside.{contents_of}
+use Rattle.wcv_spaces.specs.Promises.{MemoryOrCausedBy}
 use Rattle.wcv_state.specs.Starting.{begin_checks, start_id_checks, IsStarted}
-use Rattle.wcv_state.proofs.Keeping.{keeps_marked}
+use Rattle.wcv_spaces.proofs.Keeping.{keeps_marked}
 use Rattle.wcv_state.proofs.Starts.{begin_caused, start_caused, start_grew, start_keeps, start_left}
 use Rattle.wcv_state.proofs.state.ComponentState.add_start.Goals as goal
 

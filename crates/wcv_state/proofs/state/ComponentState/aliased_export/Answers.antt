@@ -12,9 +12,9 @@ use Rattle.wcv_lower.specs.Aliases.{is_admitted, sort_named}
 use Rattle.wcv_lower.specs.Checks.{IsFree, missing, no_room}
 use Rattle.wcv_lower.specs.Context.{is_concrete}
 use Rattle.wcv_lower.specs.Values.{kind_checks}
-use Rattle.wcv_state.specs.Contents.{Contents, kind_of}
-use Rattle.wcv_state.specs.Entering.{room_counts}
-use Rattle.wcv_state.specs.Promises.{CausedBy, MemoryOrCausedBy}
+use Rattle.wcv_spaces.specs.Contents.{Contents, kind_of}
+use Rattle.wcv_spaces.specs.Entering.{room_counts}
+use Rattle.wcv_spaces.specs.Promises.{CausedBy, MemoryOrCausedBy}
 use Rattle.wcv_state.proofs.ExportAliases.{instance_stands, export_same, export_stands, export_free, feature_caused, scope_caused, index_caused, name_caused, room_caused}
 use Rattle.wcv_state.proofs.state.ComponentState.aliased_export.Goals as goal
 

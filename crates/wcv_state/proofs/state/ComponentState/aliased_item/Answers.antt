@@ -5,9 +5,9 @@ use Rattle.wcv_core.proofs.Closing.{caused_same}
 use Rattle.wcv_lower.specs.Checks.{IsFree}
 use Rattle.wcv_lower.specs.Context.{is_concrete}
 use Rattle.wcv_lower.specs.CoreInstances.{sort_needs, no_item_room}
-use Rattle.wcv_state.specs.Contents.{Contents, kind_of}
-use Rattle.wcv_state.specs.Entering.{room_counts}
-use Rattle.wcv_state.specs.Promises.{MemoryOrCausedBy}
+use Rattle.wcv_spaces.specs.Contents.{Contents, kind_of}
+use Rattle.wcv_spaces.specs.Entering.{room_counts}
+use Rattle.wcv_spaces.specs.Promises.{MemoryOrCausedBy}
 use Rattle.wcv_state.proofs.CoreAliases.{instance_stands, alias_free, export_caused, room_caused}
 use Rattle.wcv_state.proofs.state.ComponentState.aliased_item.Goals as goal
 

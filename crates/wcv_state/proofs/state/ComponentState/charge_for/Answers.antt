@@ -4,7 +4,7 @@ use Rattle.wcv_lower.specs.Aliases.{is_charged}
 use Rattle.wcv_lower.specs.Checks.{IsFree}
 use Rattle.wcv_lower.specs.Context.{is_concrete}
 use Rattle.wcv_state.specs.Aliasing.{aliased_tree, crossing_checks}
-use Rattle.wcv_state.specs.Contents.{Contents, kind_of}
+use Rattle.wcv_spaces.specs.Contents.{Contents, kind_of}
 use Rattle.wcv_state.specs.declared.outer_aliases.Aliased.{Aliased}
 use Rattle.wcv_state.proofs.OuterAliases.{crosses}
 use Rattle.wcv_state.proofs.state.ComponentState.charge_for.Goals as goal

@@ -1,7 +1,7 @@
 use Rattle.std.proofs.Common.{◌≡◌, subst, sym, false}
-use Rattle.wcv_state.specs.Contents.{Contents}
-use Rattle.wcv_state.specs.Looking.{has_resource}
-use Rattle.wcv_state.proofs.Listed.{has_no_value}
+use Rattle.wcv_spaces.specs.Contents.{Contents}
+use Rattle.wcv_spaces.specs.Looking.{has_resource}
+use Rattle.wcv_spaces.proofs.Listed.{has_no_value}
 use Rattle.wcv_state.proofs.state.ComponentState.define_resource.Goals as goal
 
 pub insert-requires : goal.insert-requires

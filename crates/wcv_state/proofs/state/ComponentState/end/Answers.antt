@@ -6,8 +6,8 @@ use Rattle.wcv_types.specs.ComponentTrees.{ResourceStands}
 use Rattle.wcv_types.specs.Entities.{EntryStands}
 use Rattle.wcv_types.specs.declared.ids.ResourceId.{ResourceId}
 use Rattle.wcv_lower.specs.Context.{importing, exporting}
-use Rattle.wcv_state.specs.Contents.{Contents}
-use Rattle.wcv_state.specs.Ending.{Ended}
+use Rattle.wcv_spaces.specs.Contents.{Contents}
+use Rattle.wcv_resources.specs.Ending.{Ended}
 use Rattle.wcv_state.proofs.Finishing.{import_caused, export_caused}
 use Rattle.wcv_state.proofs.state.ComponentState.end.Goals as goal
 

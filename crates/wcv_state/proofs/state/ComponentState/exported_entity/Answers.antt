@@ -6,14 +6,14 @@ use Rattle.wcv_types.specs.Standing.{Extends}
 use Rattle.wcv_types.proofs.Grown.{extends_refl}
 use Rattle.wcv_lower.specs.Context.{in_types}
 use Rattle.wcv_lower.specs.Values.{kind_checks}
-use Rattle.wcv_state.specs.Contents.{Contents, IdStands}
+use Rattle.wcv_spaces.specs.Contents.{Contents, IdStands}
 use Rattle.wcv_state.specs.Inside.{contents_of}
-use Rattle.wcv_state.specs.Looking.{item_id, item_id_checks, written_id_checks, GivesExported}
-use Rattle.wcv_state.specs.Promises.{CausedBy, MemoryOrCausedBy}
+use Rattle.wcv_spaces.specs.Looking.{item_id, item_id_checks, written_id_checks, GivesExported}
+use Rattle.wcv_spaces.specs.Promises.{CausedBy, MemoryOrCausedBy}
 use Rattle.wcv_state.proofs.ExportedItems.{item_found}
 use Rattle.wcv_state.proofs.ItemCalls.{ref_looked_in, item_lacks, item_absent, item_unwritten, item_unmatched}
 use Rattle.wcv_state.proofs.ItemsAt.{item_stands}
-use Rattle.wcv_state.proofs.Keeping.{entity_more}
+use Rattle.wcv_spaces.proofs.Keeping.{entity_more}
 use Rattle.wcv_state.proofs.state.ComponentState.exported_entity.Goals as goal
 
 pub returns-in_err-check_kind-clause-grown : goal.returns-in_err-check_kind-clause-grown

@@ -1,6 +1,6 @@
 use Rattle.std.proofs.Common.{ap, inl, refl}
 use Rattle.std.proofs.lemmas.Result.{err_from_is_err_and}
-use Rattle.wcv_state.specs.Contents.{Contents, spent}
+use Rattle.wcv_spaces.specs.Contents.{Contents, spent}
 use Rattle.wcv_state.proofs.Finishing.{finish_is, names_apart}
 use Rattle.wcv_state.proofs.state.ComponentState.finish.Goals as goal
 

@@ -5,15 +5,15 @@ use Rattle.wcv_types.specs.Entities.{EntryStands}
 use Rattle.wcv_types.specs.Sets.{AllStand}
 use Rattle.wcv_types.specs.Unfold.{trees}
 use Rattle.wcv_lower.specs.Context.{importing, placed}
-use Rattle.wcv_state.specs.Bringing.{Paths, AreNewIn}
-use Rattle.wcv_state.specs.Contents.{Contents, names}
+use Rattle.wcv_spaces.specs.Bringing.{Paths, AreNewIn}
+use Rattle.wcv_spaces.specs.Contents.{Contents, names}
 use Rattle.wcv_state.specs.Inside.{contents_of}
-use Rattle.wcv_state.specs.Looking.{entry_of, IsUnnamedIn}
-use Rattle.wcv_state.proofs.BroughtPaths.{brought_imported, all_taken}
+use Rattle.wcv_spaces.specs.Looking.{entry_of, IsUnnamedIn}
+use Rattle.wcv_spaces.proofs.BroughtPaths.{brought_imported, all_taken}
 use Rattle.wcv_state.proofs.JoinCalls.{has_joined, join_caused, join_unnamed}
-use Rattle.wcv_state.proofs.JoinedSides.{import_introduced}
-use Rattle.wcv_state.proofs.Keeping.{keeps_entry, same_imported, same_defined}
-use Rattle.wcv_state.proofs.Sides.{each_side}
+use Rattle.wcv_spaces.proofs.JoinedSides.{import_introduced}
+use Rattle.wcv_spaces.proofs.Keeping.{keeps_entry, same_imported, same_defined}
+use Rattle.wcv_spaces.proofs.Sides.{each_side}
 use Rattle.wcv_state.proofs.Sizes.{same_sized, joined_sized}
 use Rattle.wcv_state.proofs.state.ComponentState.join_imports.Goals as goal
 

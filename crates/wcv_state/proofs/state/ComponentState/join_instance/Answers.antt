@@ -3,10 +3,11 @@ use Rattle.std.proofs.lemmas.List.{append-nil}
 use Rattle.wcv_types.specs.declared.ids.ComponentInstanceTypeId.{ComponentInstanceTypeId}
 use Rattle.std.specs.Prelude.{List}
 use Rattle.wcv_lower.specs.Context.{unknown}
-use Rattle.wcv_state.specs.Bringing.{Paths, AreNewIn}
-use Rattle.wcv_state.specs.Contents.{Contents}
-use Rattle.wcv_state.specs.Inside.{contents_of, lists}
-use Rattle.wcv_state.proofs.BroughtPaths.{all_taken}
+use Rattle.wcv_spaces.specs.Bringing.{Paths, AreNewIn}
+use Rattle.wcv_spaces.specs.Contents.{Contents}
+use Rattle.wcv_state.specs.Inside.{contents_of}
+use Rattle.wcv_spaces.specs.Parts.{lists}
+use Rattle.wcv_spaces.proofs.BroughtPaths.{all_taken}
 use Rattle.wcv_state.proofs.InstanceJoins.{instance_joined, instance_keeps}
 use Rattle.wcv_state.proofs.state.ComponentState.join_instance.Goals as goal
 

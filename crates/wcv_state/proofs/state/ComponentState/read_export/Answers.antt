@@ -2,7 +2,7 @@ use Rattle.std.proofs.lemmas.Result.{err_from_is_err_and}
 use Rattle.wcv_types.proofs.Grown.{extends_trans}
 use Rattle.wcv_state.proofs.ExportedItems.{exported_found, item_opens}
 use Rattle.wcv_state.proofs.ItemCalls.{item_memory}
-use Rattle.wcv_state.proofs.Opened.{opened_found}
+use Rattle.wcv_instantiate.proofs.Opened.{opened_found}
 use Rattle.wcv_state.proofs.state.ComponentState.read_export.Goals as goal
 
 pub open_entity-requires-clause-stands : goal.open_entity-requires-clause-stands

@@ -5,12 +5,12 @@ use Rattle.wcv_core.proofs.Closing.{caused_same}
 use Rattle.wcv_types.specs.Standing.{Extends}
 use Rattle.wcv_types.proofs.Grown.{extends_refl, extends_trans}
 use Rattle.wcv_lower.specs.Context.{in_types}
-use Rattle.wcv_state.specs.Contents.{Contents, IdStands}
+use Rattle.wcv_spaces.specs.Contents.{Contents, IdStands}
 use Rattle.wcv_state.specs.Inside.{contents_of}
-use Rattle.wcv_state.specs.Looking.{written_id_checks, GivesWritten}
-use Rattle.wcv_state.specs.Promises.{MemoryOrCausedBy}
+use Rattle.wcv_spaces.specs.Looking.{written_id_checks, GivesWritten}
+use Rattle.wcv_spaces.specs.Promises.{MemoryOrCausedBy}
 use Rattle.wcv_state.proofs.ItemCalls.{ref_looked_in, ref_caused, written_opens}
-use Rattle.wcv_state.proofs.Opened.{opened_found}
+use Rattle.wcv_instantiate.proofs.Opened.{opened_found}
 use Rattle.wcv_state.proofs.state.ComponentState.read_import.Goals as goal
 
 pub written-requires : goal.written-requires

@@ -1,5 +1,5 @@
 use Rattle.std.proofs.Common.{ap, refl}
-use Rattle.wcv_state.specs.Contents.{spent}
+use Rattle.wcv_spaces.specs.Contents.{spent}
 use Rattle.wcv_state.proofs.Finishing.{finish_is, names_apart}
 use Rattle.wcv_state.proofs.state.ComponentState.take_type.Goals as goal
 

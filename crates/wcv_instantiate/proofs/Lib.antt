@@ -1,0 +1,11 @@
+pub mod Ascribed
+pub mod Opened
+pub mod NewResources
+pub mod NewNames
+pub mod Mentioning
+pub mod ExportsAnew
+pub mod MadeAnew
+pub mod MadeAlone
+pub mod OpenedType
+pub mod Exporter
+pub mod Instantiated

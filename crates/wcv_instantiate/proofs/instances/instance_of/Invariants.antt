@@ -1,0 +1,4 @@
+use Rattle.wcv_instantiate.proofs.instances.instance_of.Given as goal
+
+abbrev pub ghosts-made_by : goal.ghosts-made_by
+ghosts-made_by a = record { name = a.blank.name; parts = a.blank.parts }

@@ -1,0 +1,4 @@
+pub mod ExplicitPaths
+pub mod FreeAmong
+pub mod KeptPaths
+pub mod Recorded

@@ -1,0 +1,5 @@
+use Rattle.wcv_spaces.proofs.Listed.{has_no_value}
+use Rattle.wcv_resources.proofs.resources.import_one.Goals as goal
+
+pub insert-requires : goal.insert-requires
+insert-requires c = has_no_value c.args.resource c.args.resources.now c.requires

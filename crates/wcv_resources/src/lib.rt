@@ -1,0 +1,5 @@
+//! The resources that a component imports, defines and keeps.
+#![tactic(auto)]
+
+pub mod kept;
+pub mod resources;

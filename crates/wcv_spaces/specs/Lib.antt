@@ -1,0 +1,10 @@
+pub mod Contents
+pub mod Looking
+pub mod Promises
+pub mod Parts
+pub mod Lengths
+pub mod NameLists
+pub mod Naming
+pub mod Entering
+pub mod Values
+pub mod Bringing

@@ -1,6 +1,0 @@
-use Rattle.std.proofs.Common.{take}
-use Rattle.wcv_state.specs.Opening.{TypesRemapped}
-use Rattle.wcv_state.proofs.instances.remapped_types.Given as goal
-
-abbrev pub invariant-loop-k : goal.invariant-loop-k
-invariant-loop-k g l = TypesRemapped l.initial.types l.types l.initial.map l.map (take l.k l.exports) l.tys.items

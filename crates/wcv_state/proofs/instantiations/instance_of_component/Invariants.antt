@@ -1,4 +1,0 @@
-use Rattle.wcv_state.proofs.instantiations.instance_of_component.Given as goal
-
-abbrev pub ghosts-made_by : goal.ghosts-made_by
-ghosts-made_by a = record { name = a.blank.name; parts = a.blank.parts }

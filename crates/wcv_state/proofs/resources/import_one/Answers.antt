@@ -1,5 +1,0 @@
-use Rattle.wcv_state.proofs.Listed.{has_no_value}
-use Rattle.wcv_state.proofs.resources.import_one.Goals as goal
-
-pub insert-requires : goal.insert-requires
-insert-requires c = has_no_value c.args.resource c.args.resources.now c.requires
