@@ -3,9 +3,9 @@ use crate::answer::answer_with;
 use crate::question::Question;
 use bitflags::Flags;
 use std::alloc::{AllocError, Global};
-use wcv_core::WasmFeatures;
+use wcv_core::{FEATURE_NAMES, WasmFeatures};
 use wcv_encode::write_binary;
-use wcv_listing::{FEATURE_NAMES, Listing, read_listing};
+use wcv_listing::{Listing, read_listing};
 
 /// The words that ask whether a binary is valid with these features.
 fn words_with(alloc: Global, features: WasmFeatures) -> Result<String, AllocError> {
@@ -33,6 +33,11 @@ fn without_offset(alloc: Global, answer: &str) -> Result<String, AllocError> {
     format!(in alloc; "{kind}\n{rest}")
 }
 
+/// Whether an answer says that there is more to read, or to keep, than there may be.
+fn is_too_long(answer: &str) -> bool {
+    answer.strip_prefix("7\n").is_some()
+}
+
 /// What a binary of these items is answered, where they have bytes.
 fn answer_as_binary(
     alloc: Global,
@@ -47,7 +52,8 @@ fn answer_as_binary(
 }
 
 /// What a binary of the listing's items is answered otherwise than the listing was, but for offsets. A text that is
-/// no listing, or whose items have no bytes, has no binary.
+/// no listing, or whose items have no bytes, has no binary, and one with more bytes than a binary may keep is not
+/// compared.
 pub fn other_as_binary(
     alloc: Global,
     question: &Question<'_>,
@@ -59,10 +65,12 @@ pub fn other_as_binary(
     };
     let other = answer_as_binary(alloc, question, &listing)?;
     drop(listing);
-    match other {
-        Some(other) if without_offset(alloc, other.as_str())? != without_offset(alloc, answer)? => {
-            Ok(Some(other))
-        }
-        _ => Ok(None),
+    let other = match other {
+        Some(other) if !is_too_long(other.as_str()) => other,
+        _ => return Ok(None),
+    };
+    if without_offset(alloc, other.as_str())? != without_offset(alloc, answer)? {
+        return Ok(Some(other));
     }
+    Ok(None)
 }
