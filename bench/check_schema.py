@@ -14,6 +14,7 @@ What must hold of each text:
 - Where it is no JSON, or is JSON that the schema refuses, the status is 3, with 0 where it refuses the root,
   and else with the position of the first item of the root in which something is refused.
 - Else the listing is accepted, or refused with one of the kinds that are known.
+- tools/explain.py says the same: no JSON, the same position, or that each item has a form.
 
 Of numbers the schema says less than the format: see docs/LISTING.md. Here a number with a point, an exponent
 or the sign of `-0` counts as one that is not whole.
@@ -33,10 +34,14 @@ import sys
 from jsonschema import Draft202012Validator
 
 ROOT = os.path.dirname(os.path.dirname(os.path.abspath(__file__)))
+sys.path.insert(0, f"{ROOT}/tools")
+import explain
+
 SCHEMA = json.load(open(f"{ROOT}/docs/listing.schema.json", encoding="utf-8"))
 PARTS = SCHEMA["$defs"]
 FORMS = [key for key in PARTS["item"]["properties"] if key != "at"]
 WHOLE = Draft202012Validator(SCHEMA)
+FORMS_TOLD = explain.Schema(SCHEMA)
 LONGEST = 8_000  # bytes of a listing of a folder that is changed
 DEEPEST = 127  # levels of nesting that are JSON
 KINDS = (
@@ -167,6 +172,12 @@ def wanted(program, text):
     return "good shape", "accepted, or refused with a kind", lambda status, line: (
         (status, line) == (0, "accepted") or status == 1 and line.startswith(REFUSALS)
     )
+
+
+def is_explained(text, status, line):
+    """Whether tools/explain.py says of a text what the program's status and first line say of its form."""
+    told, end = explain.explain(FORMS_TOLD, text.encode("utf-8"))
+    return told.startswith(f"{line}:") if status == 3 else end == 0
 
 
 # Listings that are changed.
@@ -411,7 +422,8 @@ def main():
 
     def check(text):
         kind, words, is_right = wanted(program, text)
-        return text, kind, words, program.answer(text), is_right(*program.answer(text))
+        answer = program.answer(text)
+        return text, kind, words, answer, is_right(*answer) and is_explained(text, *answer)
 
     with concurrent.futures.ThreadPoolExecutor(2) as pool:
         for text, kind, words, answer, is_right in pool.map(check, texts):
