@@ -74,9 +74,6 @@ pub record SameLists {X : Reader} (d c : Context X) : Type 0 where
   pub imported : d.imported ≡ c.imported
   pub defined : d.defined ≡ c.defined
 
-pub same-lists : {X : Reader} (c : Context X) → SameLists c c
-same-lists c = record { space = λ k. refl; core = λ k. refl; imported = refl; defined = refl }
-
 module _ (gs : List Group) (ts : Tokens) (g : Name → Name) where
   pub left-same : (v w : Value_context) (c : Tree_context) → SameLists w v → AgreeContexts gs ts g v c → AgreeContexts gs ts g w c
   left-same v w c h a = record {

@@ -1,6 +1,6 @@
 -- Steps that change no list of names and of resources, and no table: they leave both sides of the context on top, what it defines and the
 -- groups as they are.
-use Rattle.std.proofs.Common.{◌≡◌, ◌∙◌, ℕ, zero, suc, List, [], ◌∷◌, ◌++◌, Bool, true, false, cond, refl}
+use Rattle.std.proofs.Common.{◌≡◌, ◌∙◌, ℕ, zero, suc, List, [], ◌∷◌, ◌++◌, Bool, refl}
 use Rattle.wcv_types.specs.Tree.{Sort, is_nothing, is_value, is_resource, is_func, is_instance, is_component, is_type, is_module, is_core_instance, is_core_type, is_core_item}
 use Rattle.wcv_lower.specs.Context.{Stack, Side}
 use Rattle.wcv_lower.specs.Marks.{uses_each}
@@ -52,10 +52,6 @@ module _ {X : Reader} where
   pub quiet-both : (p q : Step X) → AllQuiet p → AllQuiet q → AllQuiet (p ++ q)
   quiet-both [] q w z = z
   quiet-both (x ∷ xs) q w z = (w.0, quiet-both xs q w.1 z)
-
-  pub quiet-if : (b : Bool) (x : Change X) → Quiet x → AllQuiet (cond b (x ∷ []) [])
-  quiet-if true x q = (q, tt)
-  quiet-if false x q = tt
 
 module _ (X : Reader) where
   pub quiet-uses : (ks : List ℕ) → AllQuiet {X = X} (uses_each ks)
